@@ -1,0 +1,11 @@
+-- `base::quotient` meets its contract. Assumes nothing.
+use borrow.Author.Needs.{needs}
+use native.Mathlib.Nat.{div-zero}
+use Rattle.base.proofs.quotient.Statement.{statement}
+use Rattle.base.proofs.quotient.Tie as tie
+
+returns : tie.Need-returns
+returns c = rw (c .if1 .taken, div-zero)
+
+pub quotient-spec : {M : Type 1} → statement M
+quotient-spec = tie.close (tie.spec (λ c. search needs) returns (λ c. search needs))

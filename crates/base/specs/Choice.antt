@@ -1,0 +1,14 @@
+-- Choices and tests that the definitions of every crate are written with.
+-- Assumes nothing.
+use Prim.Native.Nat.{ℕ}
+use mathlib.Core.Bool.{Bool, true, false, _&&_}
+use lib.Dec.{leb}
+
+-- a where the test holds, else b
+abbrev pub pick {ℓ} : {A : Type ℓ} → Bool → A → A → A
+pick true a b = a
+pick false a b = b
+
+-- low ≤ x ≤ high
+abbrev pub inRange : ℕ → ℕ → ℕ → Bool
+inRange low high x = leb low x && leb x high
