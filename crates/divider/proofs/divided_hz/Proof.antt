@@ -1,0 +1,14 @@
+-- `divider::divided_hz` meets its contract. Assumes nothing.
+use borrow.Author.Needs.{needs}
+use Rattle.divider.specs.Clock.{dividedHz}
+use Rattle.divider.proofs.divided_hz.Statement.{statement}
+use Rattle.divider.proofs.divided_hz.Tie as tie
+
+returns : tie.Need-returns
+unfolding dividedHz
+returns c = c .quotient .ensures
+
+pub divided-hz-spec : {M : Type 1} → statement M
+divided-hz-spec =
+    tie.close
+    (tie.spec (λ c. search needs) (λ c. search needs) (λ c. search needs) (λ c κs. search needs) returns)

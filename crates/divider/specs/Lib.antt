@@ -1,0 +1,5 @@
+pub mod Clock
+pub mod Delay
+pub mod Gpout
+pub mod Pio
+pub mod Answers

@@ -1,0 +1,12 @@
+-- The clock divider of a PIO state machine, `calculate_pio_clock_divider_value`.
+-- Assumes nothing.
+use Prim.Native.Nat.{ℕ, _*_, _/_}
+use lib.Dec.{eqb}
+use Rattle.base.specs.Choice.{pick, inRange}
+use Rattle.base.specs.Answer.{Answer, value, refusal}
+
+-- system × 256 / target rounded down, 256 to 16777215; refusal 17: target 0 or divider out of range
+unfoldable pub pioOf : ℕ → ℕ → Answer ℕ
+pioOf system target =
+    pick (eqb target 0) (refusal 17)
+    (pick (inRange 256 16777215 (system * 256 / target)) (value (system * 256 / target)) (refusal 17))

@@ -1,0 +1,11 @@
+-- What each case of the enum of answers stands for.
+-- Assumes nothing.
+use Rattle.base.specs.Answer.{Answer, value, refusal}
+use Rattle.voltage.specs.declared.CoreVoltage.{CoreVoltage}
+use Rattle.voltage.specs.declared.VoltageRead.{VoltageRead}
+use Rattle.voltage.specs.declared.VoltageRead.the-variants.{Voltage, Refused}
+
+-- the voltage read, or the refusal's number
+abbrev pub voltageReadIs : VoltageRead → Answer CoreVoltage
+voltageReadIs (Voltage v) = value v
+voltageReadIs (Refused n) = refusal n
