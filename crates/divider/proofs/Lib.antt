@@ -1,3 +1,2 @@
 pub mod Bounds
 pub mod Limits
-pub mod Rows

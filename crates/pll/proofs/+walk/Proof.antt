@@ -1,0 +1,50 @@
+-- The proof of the cycle of calls {walk}. The measure is the feedback divider.
+-- Assumes nothing.
+use native.Mathlib.Omega.{arith}
+use Prim.Native.Nat.{ℕ, _<_}
+use borrow.Author.Needs.{needs}
+use borrow.Fn.Kinds.{In}
+use borrow.Fn.PlainCycle.{Measures, is, falls, and}
+use Rattle.pll.proofs.Steps.{stop-exact, stop-last, walk-on}
+use Rattle.pll.proofs.walk.Reads as walk
+use Rattle.pll.proofs.walk.Kinds as walk-kinds
+use Rattle.pll.proofs.+walk.Lts-walk as walk-lts
+use Rattle.pll.proofs.best_feedback.Reads as best
+use Rattle.pll.proofs.lower.Reads as lower
+use Rattle.pll.proofs.+walk.{statement}
+use Rattle.pll.proofs.+walk.Tie.{close}
+
+abbrev μ-walk : Measures 0 walk-kinds.ps ℕ
+μ-walk κs a = a .1 .1 .0
+
+abbrev walk-at : ℕ → In 0 walk-kinds.ps
+walk-at t = and 0 walk-kinds.ps (is 0 walk-kinds.ps μ-walk t) walk.Pre
+
+abbrev walk-below : ℕ → In 0 walk-kinds.ps
+walk-below t = and 0 walk-kinds.ps (falls 0 walk-kinds.ps _<_ μ-walk t) walk.Pre
+
+-- what each callee asks and gives
+abbrev claims : ℕ → walk-lts.Claims
+claims t = (best.Asked, best.Learnt, lower.Asked, lower.Learnt, walk-below t, walk.Post)
+
+walk-returns : (t : ℕ) → walk-lts.Need-returns (claims t) (walk-at t) walk.Post
+walk-returns t c =
+    let l = c .before in
+    rw (l .lower .ensures)
+    (stop-exact _ _ _ _ _ (l .before .best-feedback .ensures) (omega arith) (omega arith) (omega arith))
+
+walk-returns-2 : (t : ℕ) → walk-lts.Need-returns-2 (claims t) (walk-at t) walk.Post
+walk-returns-2 t c =
+    let l = c .before .before in
+    rw (l .lower .ensures)
+    (stop-last _ _ _ _ _ (l .before .best-feedback .ensures) (omega arith) (omega arith) (omega arith))
+
+walk-returns-3 : (t : ℕ) → walk-lts.Need-returns-3 (claims t) (walk-at t) walk.Post
+walk-returns-3 t c =
+    let l = c .before .before .before in
+    walk-on _ _ _ _ _ (l .before .best-feedback .ensures) (omega arith) _ (rw (l .lower .ensures) at (c .walk .ensures))
+
+pub +walk-spec : {M : Type 1} → statement M
++walk-spec = close μ-walk λ t. walk-lts.spec (claims t) (walk-at t) walk.Post
+    (λ c κs. search needs) (λ c κs. search needs) (walk-returns t) (walk-returns-2 t)
+    (λ c. search needs) (λ c κs. search needs) (walk-returns-3 t)

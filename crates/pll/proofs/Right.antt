@@ -1,0 +1,113 @@
+-- The search's answer has the lowest rank, and so it is right: what `specs/Law.antt` says holds of it.
+-- Assumes nothing.
+use mathlib.Core.Path.{_≡_, refl}
+use mathlib.Core.Logic.{⊎-elim}
+use mathlib.Core.List.{List, [], _∷_}
+use mathlib.Core.Bool.{Bool, true, false}
+use Prim.Native.Nat.{ℕ, _+_, _-_, _*_, _≤_, _<_}
+use native.Mathlib.Omega.{arith}
+use native.Mathlib.Nat.{le-trans}
+use lib.Dec.{leb}
+use borrow.Author.Tests.{leb-true, leb-false, eqb-true, eq-eqb}
+use Rattle.base.specs.Choice.{pick}
+use Rattle.base.specs.Answer.{Answer, value, refusal}
+use Rattle.pll.specs.Setting.{vcoOf, postsOf}
+use Rattle.pll.specs.Search.{setting, distance, exact, keep, unlessNearer, nearest, firstOr}
+use Rattle.pll.specs.Search.{candidates, searchOf}
+use Rattle.pll.specs.Law.{Candidate, RightAnswer}
+use Rattle.pll.specs.Walk.{key, rankOf}
+use Rattle.pll.specs.declared.PllConfig.{PllConfig}
+use Rattle.pll.proofs.Order.{Kind, Lists, lists-keep}
+use Rattle.pll.proofs.Candidates.{lists-candidates, a-candidate}
+use Rattle.pll.proofs.Scores.{score-cases, score-exact, score-other, rank-is, Lowest, lowest-chosen}
+
+module _ (input target : ℕ) where
+  -- the distance, and of equal distances the order, as one number
+  abbrev place : PllConfig → ℕ
+  place c = distance input target c * 65536 + (65535 - key c)
+
+  -- what holds of the nearest setting of C
+  abbrev NearestOf : Kind → Answer PllConfig → Type 0
+  NearestOf C (value c) = C c × ((d : PllConfig) → C d → place c ≤ place d)
+  NearestOf C (refusal n) = (n ≡ 15) × ((d : PllConfig) → C d → ⊥)
+
+  nearest-right : (cs : List PllConfig) (C : Kind) → Lists C cs → NearestOf C (nearest input target cs)
+  unfolding Lists nearest
+  nearest-right [] C l = (refl, l)
+  nearest-right (c ∷ cs) C l = step (nearest input target cs) (nearest-right cs After (l .2))
+    where
+      After : Kind
+      After d = C d × (key d < key c)
+
+      step : (a : Answer PllConfig) → NearestOf After a → NearestOf C (unlessNearer input target c a)
+      step (refusal n) h = (l .0, λ d m. ⊎-elim (λ e. rw e (omega arith)) (λ k. absurd (h .1 d (m, k))) (l .1 d m))
+      step (value w) h = go (leb (distance input target c) (distance input target w)) refl
+        where
+          go : (b : Bool) → leb (distance input target c) (distance input target w) ≡ b
+              → NearestOf C (value (pick b c w))
+          go true e =
+              let near = leb-true (distance input target c) (distance input target w) e in
+              let first : place c ≤ place w = omega (arith, h .0 .1) in
+              (l .0, λ d m. ⊎-elim (λ f. rw f (omega arith)) (λ k. le-trans first (h .1 d (m, k))) (l .1 d m))
+          go false e =
+              let far = leb-false (distance input target c) (distance input target w) e in
+              (h .0 .0, λ d m. ⊎-elim (λ f. rw f (omega arith)) (λ k. h .1 d (m, k)) (l .1 d m))
+
+  -- the answer has the lowest rank of the candidates; it is 15 where there are none
+  abbrev pub LowestOf : Answer PllConfig → Type 0
+  LowestOf (value c) = Lowest input target c
+  LowestOf (refusal n) = (n ≡ 15) × ((d : PllConfig) → Candidate input d → ⊥)
+
+  pub search-lowest : LowestOf (searchOf input target)
+  unfolding searchOf Lists
+  search-lowest =
+      hits (keep (exact input target) (candidates input))
+      (lists-keep (exact input target) (candidates input) (Candidate input) (lists-candidates input))
+    where
+      Hit : Kind
+      Hit c = Candidate input c × (exact input target c ≡ true)
+
+      hit : (d : PllConfig) → Candidate input d → target * postsOf d ≡ vcoOf d input → Hit d
+      hit d m e = (m, eq-eqb (target * postsOf d) (vcoOf d input) e)
+
+      other : ((c : PllConfig) → Hit c → ⊥) → (d : PllConfig) → Candidate input d
+          → rankOf input target d ≡ (distance input target d + 1) * 65536 + (65535 - key d)
+      other none d m =
+          let s = score-other (vcoOf d input) target (postsOf d) (λ e. none d (hit d m e)) in
+          omega (arith, rank-is input target d)
+
+      no-hit : ((c : PllConfig) → Hit c → ⊥) → (a : Answer PllConfig) → NearestOf (Candidate input) a → LowestOf a
+      no-hit none (value c) h =
+          record {
+            candidate = h .0;
+            least = λ d m. omega (arith, h .1 d m, other none c (h .0), other none d m);
+          }
+      no-hit none (refusal n) h = h
+
+      hits : (cs : List PllConfig) → Lists Hit cs → LowestOf (firstOr (nearest input target (candidates input)) cs)
+      hits [] l =
+          no-hit l (nearest input target (candidates input))
+          (nearest-right (candidates input) (Candidate input) (lists-candidates input))
+      hits (c ∷ cs) l =
+          let e = eqb-true (target * postsOf c) (vcoOf c input) (l .0 .1) in
+          let s = score-exact (vcoOf c input) target (postsOf c) e in
+          let r = rank-is input target c in
+          record {
+            candidate = l .0 .0;
+            least = λ d m.
+                let q = rank-is input target d in
+                ⊎-elim (λ f. ⊎-elim (λ k. rw k (omega arith)) (λ k. omega arith) (l .1 d (hit d m (f .0))))
+                (λ f. omega (arith, f .1))
+                (score-cases (vcoOf d input) target (postsOf d));
+          }
+
+  pub search-right : RightAnswer input target (searchOf input target)
+  search-right = go (searchOf input target) search-lowest
+    where
+      go : (a : Answer PllConfig) → LowestOf a → RightAnswer input target a
+      go (value c) l = lowest-chosen input target c l
+      go (refusal n) h = (
+        h .0,
+        λ fb lo hi v. h .1 (setting fb 1 1)
+            (a-candidate input fb 1 1 lo hi v (omega arith) (omega arith) (omega arith)),
+      )

@@ -1,0 +1,69 @@
+-- The steps of the walk down the feedback dividers.
+-- Assumes nothing.
+use mathlib.Core.Path.{_≡_, refl, _∙_}
+use mathlib.Core.Logic.{_⊎_, inl, inr, ⊎-elim}
+use Prim.Native.Nat.{ℕ, min, _-_, _*_, _≤_, _<_}
+use native.Mathlib.Omega.{arith, min-cases}
+use native.Mathlib.Nat.{eq-or-lt-of-le}
+use Rattle.pll.specs.Law.{InVco}
+use Rattle.pll.specs.Walk.{rankOf, LowestRank, CandidatesAt, CandidatesTo}
+use Rattle.pll.specs.declared.PllConfig.{PllConfig}
+use Rattle.pll.proofs.Candidates.{vco-is}
+use Rattle.pll.proofs.Scores.{rank-is}
+
+module _ (input target fb : ℕ) where
+  -- a feedback divider with its VCO out of range has no candidate
+  pub none-here : (InVco (input * fb) → ⊥)
+      → LowestRank input target (CandidatesAt input fb) 9223372036854775808 9223372036854775808
+  none-here n =
+      record {
+        most = omega arith;
+        one = inl refl;
+        least = λ c m. absurd (n (rw (vco-is input c (m .0 .reference), m .1) at (m .0 .vco)));
+      }
+
+  module _ (best here : ℕ) (found : LowestRank input target (CandidatesAt input fb) 9223372036854775808 here)
+      (top : best ≤ 9223372036854775808) where
+    abbrev now : ℕ
+    now = min best here
+
+    now-one : (now ≡ best) ⊎ ((c : PllConfig) × CandidatesAt input fb c × (now ≡ rankOf input target c))
+    now-one =
+        min-cases best here _ (λ l e. inl e)
+        (λ l e. ⊎-elim (λ n. inl (omega arith)) (λ f. inr (f .0, f .1, e ∙ f .2)) (found .one))
+
+    -- from the lowest rank below a feedback divider to that with it
+    pub walk-on : (r : ℕ) → LowestRank input target (CandidatesTo input (fb - 1)) now r
+        → LowestRank input target (CandidatesTo input fb) best r
+    walk-on r w =
+        record {
+          most = omega (arith, w .most);
+          one = ⊎-elim
+              (λ e. ⊎-elim (λ f. inl (e ∙ f))
+              (λ f. inr (f .0, (f .1 .0, omega (arith, f .1 .1)), e ∙ f .2)) now-one)
+              (λ f. inr (f .0, (f .1 .0, omega (arith, f .1 .1)), f .2))
+              (w .one);
+          least = λ c m. ⊎-elim
+              (λ e. omega (arith, w .most, found .least c (m .0, e)))
+              (λ s. w .least c (m .0, omega arith))
+              (eq-or-lt-of-le (m .1));
+        }
+
+    -- the walk may stop where nothing below has a lower rank
+    stop : ((c : PllConfig) → CandidatesTo input (fb - 1) c → now ≤ rankOf input target c)
+        → LowestRank input target (CandidatesTo input fb) best now
+    stop h = walk-on now (record { most = omega arith; one = inl refl; least = h })
+
+    -- as at a rank without a remainder
+    pub stop-exact : now < 65536 → 65536 ≤ best → LowestRank input target (CandidatesTo input fb) best now
+    stop-exact n b =
+        stop (λ c m. ⊎-elim (λ e. absurd (omega arith))
+        (λ f.
+        let r = rank-is input target (f .0) in
+        let s = rank-is input target c in
+        omega (arith, f .2, f .1 .1, f .1 .0 .feedback-low, m .1, m .0 .post1-high, m .0 .post2-high))
+        now-one)
+
+    -- and at 16
+    pub stop-last : fb ≤ 16 → 0 < fb → LowestRank input target (CandidatesTo input fb) best now
+    stop-last h s = stop (λ c m. absurd (omega (arith, m .0 .feedback-low, m .1)))

@@ -1,0 +1,21 @@
+-- `pll::best_posts` meets its contract.
+-- Assumes nothing.
+use native.Mathlib.Omega.{arith}
+use borrow.Author.Needs.{needs}
+use Rattle.pll.proofs.Nearest.{nearest-lowest}
+use Rattle.pll.proofs.best_posts.Statement.{statement}
+use Rattle.pll.proofs.best_posts.Tie as tie
+
+returns : tie.Need-returns
+returns c =
+    let n = c .before .before .before in
+    let p = n .before .before .pre in
+    rw (c .lower .ensures, c .before .rank2 .ensures, c .before .before .rank .ensures)
+    (nearest-lowest _ _ _ (p .0) (p .1) (p .2) _ _ (n .before .wanted-product .ensures) (n .posts-near .ensures)
+    (omega arith))
+
+pub best-posts-spec : {M : Type 1} → statement M
+best-posts-spec =
+    tie.close
+    (tie.spec (λ c. search needs) (λ c κs. search needs) (λ c κs. search needs) (λ c. search needs)
+    (λ c κs. search needs) (λ c κs. search needs) (λ c κs. search needs) returns)

@@ -1,0 +1,57 @@
+-- What the search answers, said without its order of work; proved of `searchOf` in `proofs/Right.antt`.
+-- Assumes nothing.
+use mathlib.Core.Path.{_≡_}
+use mathlib.Core.Logic.{_⊎_}
+use Prim.Native.Nat.{ℕ, _*_, _≤_, _<_}
+use Rattle.base.specs.Answer.{Answer, value, refusal}
+use Rattle.pll.specs.Setting.{vcoOf, postsOf}
+use Rattle.pll.specs.Search.{distance}
+use Rattle.pll.specs.declared.PllConfig.{PllConfig}
+
+-- a VCO frequency of 750 to 1600 MHz
+pub record InVco (vco : ℕ) : Type 0 where
+  pub low : 750000000 ≤ vco
+  pub high : vco ≤ 1600000000
+
+-- what the search chooses from
+pub record Candidate (input : ℕ) (c : PllConfig) : Type 0 where
+  pub reference : c .refdiv ≡ 1
+  pub feedback-low : 16 ≤ c .fbdiv
+  pub feedback-high : c .fbdiv ≤ 320
+  pub vco : InVco (vcoOf c input)
+  pub post1-high : c .«post_div1» ≤ 7
+  pub post2-low : 1 ≤ c .«post_div2»
+  pub post2-high : c .«post_div2» ≤ c .«post_div1»
+
+-- c gives the target with no remainder
+abbrev pub Exact : ℕ → ℕ → PllConfig → Type 0
+Exact input target c = target * postsOf c ≡ vcoOf c input
+
+-- no candidate does
+abbrev pub NoneExact : ℕ → ℕ → Type 0
+NoneExact input target = (d : PllConfig) → Candidate input d → Exact input target d → ⊥
+
+-- c stands before d in the order: feedback divider, post 1, post 2, the greater first
+abbrev pub Before : PllConfig → PllConfig → Type 0
+Before c d =
+    (d .fbdiv < c .fbdiv)
+    ⊎ ((d .fbdiv ≡ c .fbdiv)
+    × ((d .«post_div1» < c .«post_div1») ⊎ ((d .«post_div1» ≡ c .«post_div1») × (d .«post_div2» < c .«post_div2»))))
+
+-- c is the setting that the search has to answer
+pub record Chosen (input target : ℕ) (c : PllConfig) : Type 0 where
+  -- it is one of the candidates
+  pub candidate : Candidate input c
+  -- where one has no remainder, it has none, and no such one stands before it
+  pub exact : (d : PllConfig) → Candidate input d → Exact input target d → Exact input target c
+  pub exact-first : (d : PllConfig) → Candidate input d → Exact input target d → Before d c → ⊥
+  -- where each has a remainder, none is nearer, and none as near stands before it
+  pub nearest : NoneExact input target → (d : PllConfig) → Candidate input d
+      → distance input target c ≤ distance input target d
+  pub nearest-first : NoneExact input target → (d : PllConfig) → Candidate input d
+      → distance input target d ≡ distance input target c → Before d c → ⊥
+
+-- an answer is right: a setting is the one to answer; a refusal is 15, and no feedback divider has its VCO in range
+abbrev pub RightAnswer : ℕ → ℕ → Answer PllConfig → Type 0
+RightAnswer input target (value c) = Chosen input target c
+RightAnswer input target (refusal n) = (n ≡ 15) × ((fb : ℕ) → 16 ≤ fb → fb ≤ 320 → InVco (input * fb) → ⊥)

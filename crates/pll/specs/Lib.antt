@@ -1,0 +1,6 @@
+-- The definitions that the contracts cite.
+-- Assumes nothing.
+pub mod Setting
+pub mod Search
+pub mod Law
+pub mod Walk

@@ -1,0 +1,277 @@
+// The PLL: whether a setting is valid, what it gives, and the search for one.
+ghost use mathlib.Core.Path.{_≡_};
+ghost use Prim.Native.Nat.{_*_, _≤_, _<_, min};
+ghost use Rattle.pll.specs.Setting.{postsOf, vcoOf, outputHz, dividersOf, validOf, outputOf, outputIs};
+ghost use Rattle.pll.specs.Search.{searchOf, foundIs};
+ghost use Rattle.pll.specs.Law.{InVco};
+ghost use Rattle.pll.specs.Walk.{PostCode, WantedProduct, NearestPosts, scoreOf, codeRankOf, settingOf};
+ghost use Rattle.pll.specs.Walk.{LowestRank, CandidatesAt, CandidatesTo};
+
+const VCO_MIN: u64 = 750000000;
+
+const VCO_MAX: u64 = 1600000000;
+
+// The four dividers of a PLL.
+pub struct PllConfig {
+    pub refdiv: u8,
+    pub fbdiv: u16,
+    pub post_div1: u8,
+    pub post_div2: u8,
+}
+
+// A frequency, or the number of a refusal.
+pub enum Output {
+    Hz(u32),
+    Refused(u8),
+}
+
+// A setting, or the number of a refusal.
+pub enum Found {
+    Params(PllConfig),
+    Refused(u8),
+}
+
+impl PllConfig {
+    // Whether each divider is in its range.
+    fn dividers_valid(self) -> bool
+        ensures { λ r. ⌜ r ≡ dividersOf self ⌝ }
+    {
+        base::in_range(1, 63, self.refdiv as u64)
+            & base::in_range(16, 320, self.fbdiv as u64)
+            & base::in_range(1, 7, self.post_div1 as u64)
+            & base::in_range(1, 7, self.post_div2 as u64)
+            & (self.post_div2 <= self.post_div1)
+    }
+
+    // The VCO frequency, exact: it may need more than 32 bits.
+    fn vco(self, input_hz: u32) -> u64
+        ensures { λ r. ⌜ r ≡ vcoOf self «input_hz» ⌝ }
+    {
+        let reference = base::quotient32(input_hz, self.refdiv as u32);
+        (reference as u64) * (self.fbdiv as u64)
+    }
+
+    // The product of the post dividers.
+    fn posts(self) -> u64
+        ensures { λ r. ⌜ r ≡ postsOf self ⌝ }
+    {
+        (self.post_div1 as u64) * (self.post_div2 as u64)
+    }
+
+    // Whether the setting is valid for an input frequency.
+    pub fn is_valid(self, input_hz: u32) -> bool
+        ensures { λ r. ⌜ r ≡ validOf self «input_hz» ⌝ }
+    {
+        let reference = base::quotient32(input_hz, self.refdiv as u32);
+        self.dividers_valid()
+            & base::in_range(5000000, 800000000, reference as u64)
+            & base::in_range(VCO_MIN, VCO_MAX, self.vco(input_hz))
+    }
+
+    // The output frequency as a plain number: both divisions rounded down, and 0 for a zero divisor.
+    pub fn output_hz(self, input_hz: u32) -> u64
+        ensures { λ r. ⌜ r ≡ outputHz self «input_hz» ⌝ }
+    {
+        base::quotient(self.vco(input_hz), self.posts())
+    }
+
+    // The output frequency, with no test of validity.
+    pub fn output_frequency(self, input_hz: u32) -> Output
+        ensures { λ r. ⌜ outputIs r ≡ outputOf self «input_hz» ⌝ }
+    {
+        let fits = (1 <= self.refdiv)
+            & base::in_range(1, 255, self.posts())
+            & (self.vco(input_hz) <= 4294967295);
+        if fits {
+            Output::Hz(self.output_hz(input_hz) as u32)
+        } else {
+            Output::Refused(16)
+        }
+    }
+}
+
+// For 0, 1, .., 49 the post dividers with the greatest product up to it, and those with the least above it: at 11
+// stands 0o5262, for 5 and 2, and 6 and 2. Of equal products it has the one with the greater post 1. No product is
+// up to 0 and none above 49: 0o11 and 0o77 stand there.
+const NEAREST_POSTS: [u16; 50] = [
+    0o1111,
+    0o1121,
+    0o2131,
+    0o3141,
+    0o4151,
+    0o5161,
+    0o6171,
+    0o7142,
+    0o4233,
+    0o3352,
+    0o5262,
+    0o5262,
+    0o6272,
+    0o6272,
+    0o7253,
+    0o5344,
+    0o4463,
+    0o4463,
+    0o6354,
+    0o6354,
+    0o5473,
+    0o7364,
+    0o7364,
+    0o7364,
+    0o6455,
+    0o5574,
+    0o5574,
+    0o5574,
+    0o7465,
+    0o7465,
+    0o6575,
+    0o6575,
+    0o6575,
+    0o6575,
+    0o6575,
+    0o7566,
+    0o6676,
+    0o6676,
+    0o6676,
+    0o6676,
+    0o6676,
+    0o6676,
+    0o7677,
+    0o7677,
+    0o7677,
+    0o7677,
+    0o7677,
+    0o7677,
+    0o7677,
+    0o7777,
+];
+
+// A rank below this one is of a setting that meets the target with no remainder.
+const INEXACT: u64 = 65536;
+
+// Above every rank.
+const NO_RANK: u64 = 1 << 63;
+
+// 0 where the target is met with no remainder, else one more than the distance in whole hertz.
+fn score(vco: u32, target: u32, product: u32) -> u32
+    requires { ⌜ (49 ≤ vco) × (vco ≤ 1600000000) × (0 < product) × (product ≤ 49) ⌝ }
+    ensures { λ r. ⌜ r ≡ scoreOf vco target product ⌝ }
+{
+    if (target as u64) * (product as u64) == vco as u64 {
+        return 0;
+    }
+    let out = vco / product;
+    if out < target {
+        target - out + 1
+    } else {
+        out - target + 1
+    }
+}
+
+// The rank of a setting, the lower the better: by the score, and of equals the one that stands first, with the
+// higher dividers. `posts` holds the two post dividers, three bits each.
+fn rank(vco: u32, target: u32, fbdiv: u32, posts: u32) -> u64
+    requires { ⌜ (49 ≤ vco) × (vco ≤ 1600000000) × (fbdiv ≤ 320) × PostCode posts ⌝ }
+    ensures { λ r. ⌜ r ≡ codeRankOf vco target fbdiv posts ⌝ }
+{
+    let key = fbdiv * 64 + posts;
+    let s = score(vco, target, posts / 8 * (posts % 8));
+    (s as u64) * 65536 + ((65535 - key) as u64)
+}
+
+// The lower of two ranks.
+fn lower(a: u64, b: u64) -> u64
+    ensures { λ r. ⌜ r ≡ min a b ⌝ }
+{
+    if a <= b { a } else { b }
+}
+
+// How often the target goes into the VCO frequency, up to 49.
+fn wanted_product(vco: u32, target: u32) -> usize
+    ensures { λ r. ⌜ WantedProduct vco target r ⌝ }
+{
+    if target == 0 {
+        return 49;
+    }
+    let q = vco / target;
+    if q < 49 { q as usize } else { 49 }
+}
+
+// The entry of the table: two pairs of post dividers, three bits for each divider.
+fn posts_near(product: usize) -> u16
+    requires { ⌜ product ≤ 49 ⌝ }
+    ensures { λ r. ⌜ NearestPosts product r ⌝ }
+{
+    NEAREST_POSTS[product]
+}
+
+// The lowest rank at one feedback divider. Where the target goes q times into the VCO frequency, post dividers with
+// a product up to q give the target or more, and the greatest such product is nearest. Those with a product above q
+// give less, and there the least is nearest.
+fn best_posts(input_hz: u32, target: u32, fbdiv: u32) -> u64
+    requires { ⌜ (16 ≤ fbdiv) × (fbdiv ≤ 320) × InVco («input_hz» * fbdiv) ⌝ }
+    ensures { λ r. ⌜ LowestRank «input_hz» target (CandidatesAt «input_hz» fbdiv) 9223372036854775808 r ⌝ }
+{
+    let vco = input_hz * fbdiv;
+    let posts = posts_near(wanted_product(vco, target)) as u32;
+    lower(
+        rank(vco, target, fbdiv, posts / 64),
+        rank(vco, target, fbdiv, posts % 64),
+    )
+}
+
+// The lowest rank at one feedback divider, if its VCO frequency is in range.
+fn best_feedback(input_hz: u32, target: u32, fbdiv: u32) -> u64
+    requires { ⌜ (16 ≤ fbdiv) × (fbdiv ≤ 320) ⌝ }
+    ensures { λ r. ⌜ LowestRank «input_hz» target (CandidatesAt «input_hz» fbdiv) 9223372036854775808 r ⌝ }
+{
+    let vco = (input_hz as u64) * (fbdiv as u64);
+    if vco < VCO_MIN {
+        return NO_RANK;
+    }
+    if vco > VCO_MAX {
+        return NO_RANK;
+    }
+    best_posts(input_hz, target, fbdiv)
+}
+
+// The lowest of `best` and the ranks at the feedback dividers from fbdiv down to 16: it calls itself with the next
+// lower one. A rank with no remainder ends the walk, since nothing after it is lower.
+fn walk(input_hz: u32, target: u32, fbdiv: u32, best: u64) -> u64
+    requires { ⌜ (16 ≤ fbdiv) × (fbdiv ≤ 320) × (65536 ≤ best) × (best ≤ 9223372036854775808) ⌝ }
+    ensures { λ r. ⌜ LowestRank «input_hz» target (CandidatesTo «input_hz» fbdiv) best r ⌝ }
+{
+    let now = lower(best, best_feedback(input_hz, target, fbdiv));
+    if now < INEXACT {
+        return now;
+    }
+    if fbdiv <= 16 {
+        return now;
+    }
+    walk(input_hz, target, fbdiv - 1, now)
+}
+
+// The setting of a rank.
+fn setting(rank: u64) -> PllConfig
+    ensures { λ r. ⌜ r ≡ settingOf rank ⌝ }
+{
+    let key = 65535 - rank % 65536;
+    PllConfig {
+        refdiv: 1,
+        fbdiv: (key / 64) as u16,
+        post_div1: (key / 8 % 8) as u8,
+        post_div2: (key % 8) as u8,
+    }
+}
+
+// The setting for a target frequency: one with no remainder if there is one, else the nearest.
+pub fn find_pll_params(input_hz: u32, target_hz: u32) -> Found
+    ensures { λ r. ⌜ foundIs r ≡ searchOf «input_hz» «target_hz» ⌝ }
+{
+    let best = walk(input_hz, target_hz, 320, NO_RANK);
+    if best < NO_RANK {
+        Found::Params(setting(best))
+    } else {
+        Found::Refused(15)
+    }
+}

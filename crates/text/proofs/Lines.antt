@@ -1,0 +1,71 @@
+-- The first of a byte from an index on, and the bytes before it.
+-- Assumes nothing.
+use mathlib.Core.Path.{_≡_, refl, sym, ap, _∙_}
+use mathlib.Core.Bool.{Bool, true, false}
+use mathlib.Core.List.{List, [], _∷_}
+use Prim.Native.Nat.{ℕ, zero, suc, _+_, _-_, _≤_, _<_}
+use native.Mathlib.Decide.{decLe}
+use native.Mathlib.Nat.{add-zero}
+use native.Mathlib.Numerals.{add-one}
+use native.Mathlib.Omega.{arith}
+use borrow.Author.Tests.{eq-eqb, ne-eqb, le-leb, lt-leb}
+use lib.Dec.{eqb}
+use lib.ListN.{length, take, drop, getD, length-take, drop-of-length-le}
+use lib.Seq.{drop-cons, take-all}
+use Rattle.base.specs.Answer.{refusal}
+use Rattle.base.specs.Choice.{pick}
+use Rattle.text.specs.Decimal.{numberOf}
+use Rattle.text.specs.Words.{upTo, indexFrom, lineNumberOf}
+use Rattle.text.proofs.Decimals.{bad-length}
+
+module _ (s : List ℕ) (b i : ℕ) where
+  pub index-hit : i < length s → getD s i 0 ≡ b → indexFrom s i b ≡ i
+  unfolding indexFrom
+  index-hit inside same = rw (drop-cons s i 0 inside, eq-eqb (getD s i 0) b same, add-zero)
+
+  pub index-miss : i < length s → (getD s i 0 ≡ b → ⊥) → indexFrom s (i + 1) b ≡ indexFrom s i b
+  unfolding indexFrom
+  index-miss inside other = rw (add-one, drop-cons s i 0 inside, ne-eqb (getD s i 0) b other) (omega arith)
+
+  pub index-end : length s ≤ i → indexFrom s i b ≡ i
+  unfolding indexFrom
+  index-end out = rw (drop-of-length-le s out, add-zero)
+
+-- the bytes before it
+pub take-up : (b : ℕ) (xs : List ℕ) → take (length (upTo b xs)) xs ≡ upTo b xs
+take-up b [] = refl
+take-up b (x ∷ xs) = go (eqb x b) (take-up b xs)
+  where
+    go : (t : Bool) → take (length (upTo b xs)) xs ≡ upTo b xs
+        → take (length (pick t [] (x ∷ upTo b xs))) (x ∷ xs) ≡ pick t [] (x ∷ upTo b xs)
+    go true e = refl
+    go false e = ap (λ (l : List ℕ). x ∷ l) e
+
+-- so they end at its index
+pub between : (s : List ℕ) (at b : ℕ) → take (indexFrom s at b - at) (drop at s) ≡ upTo b (drop at s)
+unfolding indexFrom
+between s at b =
+    let n : at + length (upTo b (drop at s)) - at ≡ length (upTo b (drop at s)) = omega arith in
+    rw n (take-up b (drop at s))
+
+up-take : (b n : ℕ) (s : List ℕ) → upTo b (take n s) ≡ take n (upTo b s)
+up-take b zero s = refl
+up-take b (suc n) [] = refl
+up-take b (suc n) (x ∷ xs) = go (eqb x b) (up-take b n xs)
+  where
+    go : (t : Bool) → upTo b (take n xs) ≡ take n (upTo b xs)
+        → pick t [] (x ∷ upTo b (take n xs)) ≡ take (suc n) (pick t [] (x ∷ upTo b xs))
+    go true e = refl
+    go false e = ap (λ (l : List ℕ). x ∷ l) e
+
+too-long : (cs : List ℕ) → 10 < length cs → numberOf cs ≡ refusal 24
+too-long cs h = bad-length cs (rw (le-leb 1 (length cs) (omega arith), lt-leb (length cs) 10 h))
+
+-- the first 11 bytes decide: a program may read so many and leave the rest
+pub line-start : (n : ℕ) (s : List ℕ) → 11 ≤ n → lineNumberOf (take n s) ≡ lineNumberOf s
+line-start n s h = elim (decLe (length (upTo 10 s)) n) [
+  | yes short ↦ ap numberOf (up-take 10 n s ∙ take-all n (upTo 10 s) short)
+  | no long ↦
+      let l : 10 < length (take n (upTo 10 s)) = simp length-take (omega arith) in
+      ap numberOf (up-take 10 n s) ∙ too-long (take n (upTo 10 s)) l ∙ sym (too-long (upTo 10 s) (omega arith))
+]

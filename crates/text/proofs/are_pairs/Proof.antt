@@ -1,0 +1,50 @@
+-- `text::are_pairs` meets its contract. Invariant: the first i bytes are pairs. Measure: what is left of s.
+-- Assumes nothing.
+use mathlib.Core.Path.{_≡_, refl, sym, ap, _∙_}
+use Prim.Native.Nat.{_-_, _≤_}
+use native.Mathlib.Omega.{arith}
+use borrow.Author.Needs.{needs}
+use borrow.Author.Tests.{not-true, not-false}
+use lib.ListN.{length, drop, drop-of-length-le}
+use Rattle.text.specs.Hex.{arePairs}
+use Rattle.text.proofs.Hexes.{pair-step, pair-last}
+use Rattle.text.proofs.are_pairs.Statement.{statement}
+use Rattle.text.proofs.are_pairs.Tie as tie
+
+abbrev Inv-loop : tie.InvT-loop
+Inv-loop s i₀ i = (i ≤ length s) × (arePairs (drop i s) ≡ arePairs s)
+
+abbrev μ-loop : tie.MeasureT-loop
+μ-loop s i₀ i = length s - i
+
+returns : tie.Need-returns Inv-loop μ-loop
+returns c =
+    let at-loop = c .before .before in
+    let s = at-loop .before .before .args .s .now in
+    sym (sym (at-loop .loop .inv .1) ∙ pair-last s (at-loop .loop .i) (omega arith) (omega arith))
+
+returns-2 : tie.Need-returns-2 Inv-loop μ-loop
+returns-2 c =
+    let at-loop = c .before .before .before .before .before .before in
+    let s = at-loop .before .before .args .s .now in
+    let no = sym (c .before .is-pair .ensures) ∙ not-true _ (c .if2 .taken) in
+    sym (sym (at-loop .loop .inv .1) ∙ ap arePairs (pair-step s (at-loop .loop .i) (omega arith)) ∙ rw no)
+
+loop-again : tie.Need-loop-again Inv-loop μ-loop
+loop-again c =
+    let at-loop = c .before .before .before .before .before .before in
+    let s = at-loop .before .before .args .s .now in
+    let yes = sym (c .before .is-pair .ensures) ∙ not-false _ (c .if2 .left) in
+    let step = ap arePairs (pair-step s (at-loop .loop .i) (omega arith)) in
+    (omega arith, rw yes at (sym step) ∙ at-loop .loop .inv .1)
+
+returns-3 : tie.Need-returns-3 Inv-loop μ-loop
+returns-3 c =
+    rw (drop-of-length-le (c .before .before .before .args .s .now) (c .loop-test .left)) at (c .before .loop .inv .1)
+
+pub are-pairs-spec : {M : Type 1} → statement M
+are-pairs-spec =
+    tie.close
+    (tie.spec Inv-loop μ-loop (λ c. (omega arith, refl)) (λ c. search needs) returns (λ c. search needs)
+    (λ c. search needs) (λ c κs. search needs) returns-2 (λ c. search needs) (λ c. search needs)
+    loop-again returns-3)

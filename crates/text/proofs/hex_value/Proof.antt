@@ -1,0 +1,16 @@
+-- `text::hex_value` meets its contract. Assumes nothing.
+use borrow.Author.Needs.{needs}
+use mathlib.Core.Path.{_≡_}
+use Rattle.text.specs.Hex.{hexValue}
+use Rattle.text.proofs.Hexes.{hex-small}
+use Rattle.text.proofs.hex_value.Statement.{statement}
+use Rattle.text.proofs.hex_value.Tie as tie
+
+returns : tie.Need-returns
+returns c =
+    let e : c .digit-in3 .result ≡ hexValue (c .before .before .before .args .c) =
+    rw (c .digit-in3 .ensures, c .before .digit-in2 .ensures, c .before .before .digit-in .ensures) in
+    (e, rw e (hex-small (c .before .before .before .args .c)))
+
+pub hex-value-spec : {M : Type 1} → statement M
+hex-value-spec = tie.close (tie.spec (λ c κs. search needs) (λ c κs. search needs) (λ c κs. search needs) returns)

@@ -1,0 +1,48 @@
+-- `text::index_from` meets its contract. Invariant: b is nowhere from at up to i. Measure: what is left of s.
+-- Assumes nothing.
+use mathlib.Core.Path.{_≡_, refl, sym, _∙_}
+use Prim.Native.Nat.{_-_, _≤_, max}
+use native.Mathlib.Omega.{arith}
+use borrow.Author.Needs.{needs}
+use lib.ListN.{length}
+use Rattle.text.specs.Words.{indexFrom}
+use Rattle.text.proofs.Lines.{index-hit, index-miss, index-end}
+use Rattle.text.proofs.index_from.Statement.{statement}
+use Rattle.text.proofs.index_from.Tie as tie
+
+abbrev Inv-loop : tie.InvT-loop
+Inv-loop s at b i₀ i = (at ≤ i) × (i ≤ max at (length s)) × (indexFrom s i b ≡ indexFrom s at b)
+
+abbrev μ-loop : tie.MeasureT-loop
+μ-loop s at b i₀ i = length s - i
+
+loop-holds : tie.Need-loop-holds Inv-loop μ-loop
+loop-holds c = (omega arith, omega arith, refl)
+
+returns : tie.Need-returns Inv-loop μ-loop
+returns c =
+    let at-loop = c .before .before .before in let args = at-loop .before .args in (
+      sym (index-hit (args .s .now) (args .b) (at-loop .loop .i) (omega arith) (c .if1 .taken)) ∙ at-loop .loop .inv .2,
+      (omega arith, omega arith),
+    )
+
+loop-again : tie.Need-loop-again Inv-loop μ-loop
+loop-again c =
+    let at-loop = c .before .before .before in let args = at-loop .before .args in (
+      omega arith,
+      omega arith,
+      index-miss (args .s .now) (args .b) (at-loop .loop .i) (omega arith) (c .if1 .left) ∙ at-loop .loop .inv .2,
+    )
+
+returns-2 : tie.Need-returns-2 Inv-loop μ-loop
+returns-2 c =
+    let at-loop = c .before in let args = at-loop .before .args in (
+      sym (index-end (args .s .now) (args .b) (at-loop .loop .i) (omega arith)) ∙ at-loop .loop .inv .2,
+      (omega arith, omega arith),
+    )
+
+pub index-from-spec : {M : Type 1} → statement M
+index-from-spec =
+    tie.close
+    (tie.spec Inv-loop μ-loop loop-holds (λ c. search needs) returns (λ c. search needs) (λ c. search needs)
+    loop-again returns-2)

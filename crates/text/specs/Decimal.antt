@@ -1,0 +1,52 @@
+-- Decimal numbers as ASCII digits, the most significant first: what is printed for a number, and what is read.
+-- Assumes nothing.
+use mathlib.Core.Bool.{Bool, true, _&&_}
+use mathlib.Core.List.{List, [], _∷_, _++_}
+use Prim.Native.Nat.{ℕ, zero, suc, _+_, _-_, _*_, _/_, _%_}
+use lib.Dec.{leb, ltb}
+use lib.ListN.{length}
+use Rattle.base.specs.Answer.{Answer, value, refusal}
+use Rattle.base.specs.Choice.{pick, inRange}
+use Rattle.text.specs.declared.Decimal.{Decimal}
+use Rattle.text.specs.declared.Decimal.the-variants.{Number, Refused}
+
+-- the last of n's digits
+abbrev pub lastDigit : ℕ → ℕ
+lastDigit n = 48 + n % 10
+
+-- the digits of n without leading zeros; any bound above n serves, each digit takes one from it
+abbrev pub digitsOf : ℕ → ℕ → List ℕ
+digitsOf zero n = []
+digitsOf (suc bound) n = let more = digitsOf bound (n / 10) in pick (ltb n 10) [] more ++ (lastDigit n ∷ [])
+
+-- what is printed for n
+unfoldable pub decimalOf : ℕ → List ℕ
+decimalOf n = digitsOf (suc n) n
+
+abbrev pub isDigit : ℕ → Bool
+isDigit c = inRange 48 57 c
+
+abbrev pub allDigits : List ℕ → Bool
+allDigits [] = true
+allDigits (c ∷ cs) = isDigit c && allDigits cs
+
+-- the value of the digits cs behind digits of value n
+abbrev pub valueAfter : ℕ → List ℕ → ℕ
+valueAfter n [] = n
+valueAfter n (c ∷ cs) = valueAfter (n * 10 + (c - 48)) cs
+
+unfoldable pub valueOf : List ℕ → ℕ
+valueOf cs = valueAfter 0 cs
+
+-- 1 to 10 digits of a value up to 4294967295
+unfoldable pub isNumber : List ℕ → Bool
+isNumber cs = inRange 1 10 (length cs) && allDigits cs && leb (valueOf cs) 4294967295
+
+-- the number that the bytes spell; 24 where they spell none
+unfoldable pub numberOf : List ℕ → Answer ℕ
+numberOf cs = pick (isNumber cs) (value (valueOf cs)) (refusal 24)
+
+-- what the code's answer means
+abbrev pub numberIs : Decimal → Answer ℕ
+numberIs (Number n) = value n
+numberIs (Refused n) = refusal n

@@ -1,0 +1,72 @@
+-- Bytes as hexadecimal digits, two a byte, the more significant first: what is printed, and what is read.
+-- Assumes nothing.
+use mathlib.Core.Path.{_≡_}
+use mathlib.Core.Bool.{Bool, true, false, _&&_, _||_}
+use mathlib.Core.List.{List, [], _∷_, _++_}
+use mathlib.Core.Option.{Option, none, some}
+use Prim.Native.Nat.{ℕ, _+_, _-_, _*_, _/_, _%_}
+use lib.Dec.{leb, ltb, eqb}
+use lib.ListN.{length}
+use Rattle.base.specs.Choice.{pick, inRange}
+use Rattle.base.specs.Placed.{placed}
+use Rattle.text.specs.Decimal.{isDigit}
+use Rattle.text.specs.declared.HexRead.{HexRead}
+use Rattle.text.specs.declared.HexRead.the-variants.{Bytes, Bad}
+
+-- the digit of a number below 16: `0` to `9`, then `a` to `f`
+abbrev pub hexDigit : ℕ → ℕ
+hexDigit d = pick (ltb d 10) (48 + d) (87 + d)
+
+-- the two digits of a byte
+abbrev pub hexPair : ℕ → List ℕ
+hexPair b = hexDigit (b / 16) ∷ hexDigit (b % 16) ∷ []
+
+abbrev pub hexDigits : List ℕ → List ℕ
+hexDigits [] = []
+hexDigits (b ∷ bs) = hexPair b ++ hexDigits bs
+
+-- what is printed for bytes: `-` for none
+unfoldable pub hexOf : List ℕ → List ℕ
+hexOf [] = 45 ∷ []
+hexOf (b ∷ bs) = hexDigits (b ∷ bs)
+
+-- what a digit stands for, capital letters too; 0 for what is none
+abbrev pub hexValue : ℕ → ℕ
+hexValue c =
+    pick (isDigit c) (c - 48) (pick (inRange 97 102 c) (c - 87) (pick (inRange 65 70 c) (c - 55) 0))
+
+abbrev pub isHex : ℕ → Bool
+isHex c = isDigit c || inRange 97 102 c || inRange 65 70 c
+
+abbrev pub isPair : ℕ → ℕ → Bool
+isPair a b = isHex a && isHex b
+
+-- digits only, and two for each byte
+abbrev pub arePairs : List ℕ → Bool
+arePairs [] = true
+arePairs (a ∷ []) = false
+arePairs (a ∷ b ∷ cs) = isPair a b && arePairs cs
+
+abbrev pub pairValues : List ℕ → List ℕ
+pairValues [] = []
+pairValues (a ∷ []) = []
+pairValues (a ∷ b ∷ cs) = (hexValue a * 16 + hexValue b) ∷ pairValues cs
+
+-- a word of hex: `-` alone, or one pair or more
+abbrev pub isHexWord : List ℕ → Bool
+isHexWord [] = false
+isHexWord (c ∷ []) = eqb c 45
+isHexWord (a ∷ b ∷ cs) = arePairs (a ∷ b ∷ cs)
+
+-- such a word, and room for its bytes; `-` has none
+unfoldable pub isReadable : List ℕ → ℕ → Bool
+isReadable w room = isHexWord w && leb (length (pairValues w)) room
+
+abbrev pub hexReadIs : HexRead → Option ℕ
+hexReadIs (Bytes n) = some n
+hexReadIs Bad = none
+
+-- the call that read the word w into the buffer xs, answered r and left the buffer ys
+pub record HexReading (w xs : List ℕ) (r : HexRead) (ys : List ℕ) : Type 0 where
+  pub answer : hexReadIs r ≡ pick (isReadable w (length xs)) (some (length (pairValues w))) none
+  pub bytes : ys ≡ pick (isReadable w (length xs)) (placed xs 0 (pairValues w)) xs

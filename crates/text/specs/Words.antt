@@ -1,0 +1,22 @@
+-- Lines and words: a line is closed by a newline or the end, a word by a space or the end.
+-- Assumes nothing.
+use mathlib.Core.List.{List, [], _∷_}
+use Prim.Native.Nat.{ℕ, _+_}
+use lib.Dec.{eqb}
+use lib.ListN.{length, drop}
+use Rattle.base.specs.Answer.{Answer}
+use Rattle.base.specs.Choice.{pick}
+use Rattle.text.specs.Decimal.{numberOf}
+
+-- the bytes up to the first b, or all of them
+abbrev pub upTo : ℕ → List ℕ → List ℕ
+upTo b [] = []
+upTo b (x ∷ xs) = pick (eqb x b) [] (x ∷ upTo b xs)
+
+-- the index of the first b from index at on, or the end
+unfoldable pub indexFrom : List ℕ → ℕ → ℕ → ℕ
+indexFrom xs at b = at + length (upTo b (drop at xs))
+
+-- the number on the first line, as document 01's program reads it: what follows the newline is not looked at
+abbrev pub lineNumberOf : List ℕ → Answer ℕ
+lineNumberOf s = numberOf (upTo 10 s)
