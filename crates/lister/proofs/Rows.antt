@@ -1,0 +1,47 @@
+-- Worked values of the lister, from the definitions.
+-- Assumes nothing.
+use mathlib.Core.Path.{_≡_, refl}
+use mathlib.Core.List.{[], _∷_, flatMap}
+use Rattle.base.specs.Answer.{value, refusal}
+use Rattle.pll.specs.Search.{falling, setting, settings, keep, candidates}
+use Rattle.lister.specs.Lister.{exactCandidates, bytesOf, listedOf}
+use Rattle.lister.specs.Order.{rising, inOrder, listOf}
+
+-- 125 MHz from 12 MHz, and the room for it
+pub rows :
+    (listOf 12000000 125000000 ≡ setting 125 6 2 ∷ setting 125 4 3 ∷ [])
+    × (bytesOf (listOf 12000000 125000000) ≡ 62 ∷ 228 ∷ 62 ∷ 198 ∷ [])
+    × (listedOf 12000000 125000000 4 ≡ value 4)
+    × (listedOf 12000000 125000000 3 ≡ refusal 19)
+unfolding listOf inOrder rising bytesOf exactCandidates candidates keep settings falling flatMap
+rows = (refl, refl, refl, refl)
+
+-- the order: the lowest feedback divider first
+pub rising-row :
+    listOf 12000000 48000000
+    ≡ setting 64 4 4
+    ∷ setting 72 6 3
+    ∷ setting 80 5 4
+    ∷ setting 84 7 3
+    ∷ setting 96 6 4
+    ∷ setting 100 5 5
+    ∷ setting 112 7 4
+    ∷ setting 120 6 5
+    ∷ []
+unfolding listOf inOrder rising keep falling flatMap
+rising-row = refl
+
+-- the ends of the feedback dividers and of the VCO
+pub end-rows :
+    (listOf 2343750 750000000 ≡ setting 320 1 1 ∷ []) × (listOf 100000000 100000000 ≡ setting 16 4 4 ∷ [])
+unfolding listOf inOrder rising keep falling flatMap
+end-rows = (refl, refl)
+
+-- none: a target that nothing meets, no target, no input, and an input that the search refuses
+pub none-rows :
+    (listedOf 12000000 1 0 ≡ value 0)
+    × (listedOf 12000000 0 0 ≡ value 0)
+    × (listedOf 0 125000000 0 ≡ value 0)
+    × (listedOf 100000001 100000001 0 ≡ value 0)
+unfolding exactCandidates candidates keep settings falling flatMap
+none-rows = (refl, refl, refl, refl)

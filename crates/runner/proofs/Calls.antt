@@ -1,0 +1,82 @@
+-- Which rule a call falls under.
+-- Assumes nothing.
+use mathlib.Core.Bool.{Bool, true, false, not}
+use mathlib.Core.List.{List}
+use mathlib.Core.Path.{_≡_, refl}
+use Prim.Native.Nat.{ℕ, _+_, _*_, _<_, _≤_}
+use borrow.Author.Tests.{le-leb, lt-leb, ltb-false}
+use native.Mathlib.Omega.{arith}
+use lib.Dec.{eqb, ltb, leb}
+use lib.ListN.{length}
+use Rattle.base.specs.Answer.{Answer, value, refusal}
+use Rattle.base.specs.Choice.{pick}
+use Rattle.base.proofs.Bools.{or-false}
+use Rattle.step.specs.declared.Step.{Step}
+use Rattle.step.specs.Access.{readAt}
+use Rattle.runner.specs.declared.State.{State}
+use Rattle.runner.specs.Run.{Outcome, outcome, done, handed, passed, movedOn, polled, waits, isWait, unready}
+use Rattle.runner.specs.Run.{takeStep, takeRead, outside, badLength, turnOf}
+
+pub inside : (s : State) → outside s ≡ false → (s .position < 66) × (s .«lock_polls» < 1000000)
+unfolding outside
+inside s e =
+    let both = or-false (ltb 65 (s .position)) (ltb 999999 (s .«lock_polls»)) e in (
+      omega (arith, ltb-false 65 (s .position) (both .0)),
+      omega
+          (arith, ltb-false 999999 (s .«lock_polls») (both .1)),
+    )
+
+module _ (s : State) (sheet : List ℕ) (ready : Bool) where
+  pub call-outside : outside s ≡ true → outcome (refusal 21) s ≡ turnOf s sheet ready
+  unfolding turnOf
+  call-outside o = simp o
+
+  module _ (o : outside s ≡ false) where
+    pub call-stopped : s .stopped ≡ true → outcome (refusal 22) s ≡ turnOf s sheet ready
+    unfolding turnOf
+    call-stopped t = simp (o, t)
+
+    module _ (t : s .stopped ≡ false) where
+      pub call-length : badLength sheet ≡ true → outcome (refusal 20) s ≡ turnOf s sheet ready
+      unfolding turnOf
+      call-length l = simp (o, t, l)
+
+      module _ (l : badLength sheet ≡ false) where
+        pub call-done : length sheet ≤ 8 * s .position → outcome (value done) s ≡ turnOf s sheet ready
+        unfolding turnOf
+        call-done h = simp (o, t, l, le-leb _ _ h)
+
+        pub call-read : 8 * s .position < length sheet → (a : Answer Step) → readAt sheet (8 * s .position) ≡ a
+            → takeRead s a ready ≡ turnOf s sheet ready
+        unfolding turnOf
+        call-read h a e = simp (o, t, l, lt-leb _ _ h, e)
+
+both : {A : Type 0} (P : A → Type 0) (b : Bool) (x y : A) → P x → P y → P (pick b x y)
+both P true x y p q = p
+both P false x y p q = q
+
+-- what holds of every outcome that the rules name holds of a call
+module _ (P : Outcome State → Type 0) (s : State) (sheet : List ℕ) (ready : Bool)
+    (refuses : (n : ℕ) → P (outcome (refusal n) s))
+    (ends : P (outcome (value done) s)) (passes : P (outcome (value passed) (movedOn s 0)))
+    (stays : (polls : ℕ) → P (waits s polls)) (stops : P (outcome (refusal 22) (polled s (s .«lock_polls») true)))
+    (hands : (step : Step) → readAt sheet (8 * s .position) ≡ value step
+    → P (outcome (value (handed step)) (movedOn s (s .«lock_polls»)))) where
+  polls : (kind : ℕ) → P (unready s kind)
+  unfolding unready
+  polls kind =
+      both P (not (eqb kind 22)) _ _ (stays _) (both P (ltb (s .«lock_polls» + 1) 1000000) _ _ (stays _) stops)
+
+  reads : (a : Answer Step) → readAt sheet (8 * s .position) ≡ a → P (takeRead s a ready)
+  unfolding takeRead takeStep
+  reads (value step) e =
+      both P (isWait (step .kind)) _ _ (both P ready _ _ passes (polls (step .kind))) (hands step e)
+  reads (refusal n) e = refuses n
+
+  pub every-turn : P (turnOf s sheet ready)
+  unfolding turnOf
+  every-turn =
+      both P (outside s) _ _ (refuses 21)
+      (both P (s .stopped) _ _ (refuses 22)
+      (both P (badLength sheet) _ _ (refuses 20)
+      (both P (leb (length sheet) (8 * s .position)) _ _ ends (reads (readAt sheet (8 * s .position)) refl))))

@@ -1,0 +1,111 @@
+-- A sheet of well-formed steps under a runner that hears ready each time.
+-- Assumes nothing.
+use mathlib.Core.Bool.{Bool, true, false}
+use mathlib.Core.List.{List, [], _∷_, _++_, map}
+use mathlib.Core.Path.{_≡_, refl, sym, ap, _∙_}
+use Prim.Native.Nat.{ℕ, suc, _+_, _*_, _%_, _≤_, _<_}
+use native.Mathlib.Nat.{add-zero, zero-add}
+use native.Mathlib.Numerals.{add-one}
+use native.Mathlib.Omega.{arith}
+use borrow.Author.Tests.{le-ltb, eq-eqb, eqb-true}
+use lib.Dec.{eqb}
+use lib.ListN.{length, getD, replicate}
+use Rattle.base.specs.Answer.{Answer, value}
+use Rattle.step.specs.declared.Step.{Step}
+use Rattle.step.specs.Access.{readAt}
+use Rattle.step.specs.Sheet.{encoded, AllFormed}
+use Rattle.step.proofs.Sheets.{length-encoded, read-encoded}
+use Rattle.runner.specs.declared.Runner.{Runner}
+use Rattle.runner.specs.Run.{Progress, done, Outcome, outcome, maxSteps, fresh, isWait, takeStep, takeRead}
+use Rattle.runner.specs.Run.{outside, badLength, storedBy, freqsAfter, advanceOf}
+use Rattle.runner.specs.Calls.{answers, after, readyAnswer, storesOf, stateAt, runnerAt}
+use Rattle.runner.proofs.Calls.{call-done, call-read}
+
+-- a wait is no store
+wait-stores : (step : Step) (freqs : List ℕ) → isWait (step .kind) ≡ true → storedBy step freqs ≡ freqs
+unfolding storedBy
+wait-stores step freqs w = go (eqb (step .kind) 37) refl
+  where
+    go : (b : Bool) → eqb (step .kind) 37 ≡ b → storedBy step freqs ≡ freqs
+    go true k =
+        let wait37 : isWait 37 ≡ true = rw (eqb-true (step .kind) 37 k) at w in
+        let z : _≡_ {A = ℕ} 0 1 = cc in
+        absurd (omega arith)
+    go false k = simp k
+
+-- a ready call at a step
+takes : (step : Step) (p : ℕ) → takeStep (stateAt p) step true ≡ outcome (readyAnswer step) (stateAt (p + 1))
+unfolding takeStep
+takes step p = go (isWait (step .kind)) refl
+  where
+    go : (b : Bool) → isWait (step .kind) ≡ b
+        → takeStep (stateAt p) step true ≡ outcome (readyAnswer step) (stateAt (p + 1))
+    go true w = simp w
+    go false w = simp w
+
+stores : (step : Step) (freqs : List ℕ) → freqsAfter (readyAnswer step) freqs ≡ storedBy step freqs
+stores step freqs = go (isWait (step .kind)) refl
+  where
+    go : (b : Bool) → isWait (step .kind) ≡ b → freqsAfter (readyAnswer step) freqs ≡ storedBy step freqs
+    go true w = simp (w, wait-stores step freqs w)
+    go false w = simp w
+
+module _ (sheet : List ℕ) (n : ℕ) (few : n ≤ maxSteps) (size : length sheet ≡ 8 * n) where
+  within : (p : ℕ) → p ≤ n → outside (stateAt p) ≡ false
+  unfolding outside
+  within p h = simp (le-ltb 65 p (omega arith))
+
+  good-length : badLength sheet ≡ false
+  unfolding badLength
+  good-length = simp (le-ltb 520 (length sheet) (omega arith), eq-eqb (length sheet % 8) 0 (omega arith))
+
+  done-at : (freqs : List ℕ) → advanceOf (runnerAt n freqs) sheet true ≡ outcome (value done) (runnerAt n freqs)
+  unfolding advanceOf
+  done-at freqs =
+      rw (sym (call-done (stateAt n) sheet true (within n (omega arith)) refl good-length (omega arith)))
+
+  step-at : (step : Step) (p : ℕ) (freqs : List ℕ) → p < n → readAt sheet (8 * p) ≡ value step
+      → advanceOf (runnerAt p freqs) sheet true
+      ≡ outcome (readyAnswer step) (runnerAt (p + 1) (storedBy step freqs))
+  unfolding advanceOf takeRead
+  step-at step p freqs h read =
+      let fine = within p (omega arith) in
+      let taken = call-read (stateAt p) sheet true fine refl good-length (omega arith) (value step) read in
+      rw (sym taken ∙ takes step p, stores step freqs)
+
+  -- a runner with the steps ts before it takes them all, then is done
+  record Through (p : ℕ) (freqs : List ℕ) (ts : List Step) : Type 0 where
+    answered : answers (runnerAt p freqs) sheet (replicate (suc (length ts)) true)
+        ≡ map readyAnswer ts ++ (value done ∷ [])
+    left : after (runnerAt p freqs) sheet (replicate (length ts) true) ≡ runnerAt n (storesOf ts freqs)
+
+  through : (d : Step) (ts : List Step) (p : ℕ) (freqs : List ℕ) → p + length ts ≡ n
+      → ((i : ℕ) → i < length ts → readAt sheet (8 * (p + i)) ≡ value (getD ts i d)) → Through p freqs ts
+  through d [] p freqs e reads =
+      let end : p ≡ n = omega arith in
+      record { answered = rw (end, done-at freqs); left = rw end }
+  through d (step ∷ ts) p freqs e reads =
+      let call = step-at step p freqs (omega arith) (rw add-zero at (reads 0 (omega arith))) in
+      let rest = through d ts (p + 1) (storedBy step freqs) (omega arith)
+      (λ i h. let next : p + suc i ≡ p + 1 + i = omega arith in rw next at (reads (suc i) (omega arith))) in
+      record {
+        answered = rw call (ap (λ (l : List (Answer Progress)). readyAnswer step ∷ l) (rest .answered));
+        left = ap (λ (x : Outcome Runner). after (x .next) sheet (replicate (length ts) true)) call ∙ rest .left;
+      }
+
+all : (xs : List Step) (f : AllFormed xs) (few : length xs ≤ maxSteps)
+    → Through (encoded xs) (length xs) few (length-encoded xs) 0 (replicate 10 0) xs
+all xs f few =
+    let none : Step = record { kind = 0; f0 = 0; f1 = 0; f2 = 0; f3 = 0; f4 = 0 } in
+    through (encoded xs) (length xs) few (length-encoded xs) none xs 0 (replicate 10 0) (omega arith)
+    (λ i h. simp zero-add (read-encoded xs none i f h))
+
+-- every step is answered in order, then done
+pub ready-answers : (xs : List Step) → AllFormed xs → length xs ≤ maxSteps
+    → answers fresh (encoded xs) (replicate (length xs + 1) true) ≡ map readyAnswer xs ++ (value done ∷ [])
+ready-answers xs f few = rw add-one (all xs f few .answered)
+
+-- after as many calls as there are steps the frequencies are what the sheet stores
+pub ready-stores : (xs : List Step) → AllFormed xs → length xs ≤ maxSteps
+    → after fresh (encoded xs) (replicate (length xs) true) ≡ runnerAt (length xs) (storesOf xs (replicate 10 0))
+ready-stores xs f few = all xs f few .left

@@ -1,0 +1,51 @@
+-- `runner::freqs_after` meets its contract.
+-- Assumes nothing.
+use borrow.Author.Needs.{needs}
+use borrow.Author.Tests.{eq-eqb, ne-eqb}
+use denote.Enum.Declared.{tagOf}
+use mathlib.Core.List.{List, [], _∷_}
+use mathlib.Core.Path.{_≡_, refl}
+use native.Mathlib.Omega.{arith}
+use Prim.Native.Nat.{ℕ}
+use types.Run.{OneOf, miss}
+use Rattle.runner.specs.declared.Reply.{Reply}
+use Rattle.runner.specs.declared.Reply.the-variants.{Done, Handed, Passed, Waiting, Refused}
+use Rattle.runner.specs.Run.{replyIs, freqsAfter, storedBy}
+use Rattle.runner.proofs.Reply as reply
+use Rattle.runner.proofs.Steps.{store-fits}
+use Rattle.runner.proofs.freqs_after.Statement.{statement}
+use Rattle.runner.proofs.freqs_after.Tie as tie
+
+-- only a step that is handed out stores
+unchanged : (x : Reply) (freqs : List ℕ) → OneOf (0 ∷ 2 ∷ 3 ∷ 4 ∷ []) (tagOf reply.the-type x)
+    → freqs ≡ freqsAfter (replyIs x) freqs
+unchanged Done freqs k = refl
+unchanged (Handed s) freqs k = absurd (miss (0 ∷ 2 ∷ 3 ∷ 4 ∷ []) 1 tt k)
+unchanged Passed freqs k = refl
+unchanged Waiting freqs k = refl
+unchanged (Refused n) freqs k = refl
+
+returns : tie.Need-returns
+returns c = unchanged (c .before .args .reply) (c .before .args .freqs) (c .match .keys2)
+
+returns-2 : tie.Need-returns-2
+unfolding storedBy
+returns-2 c = rw (c .before .before .before .reply .given .1, ne-eqb _ _ (c .if1 .taken))
+
+returns-3 : tie.Need-returns-3
+unfolding storedBy
+returns-3 c =
+    let c4 = c .before .before .before .before in
+    rw (c4 .reply .given .1, eq-eqb _ _ (c .before .if1 .left))
+
+pub freqs-after-spec : {M : Type 1} → statement M
+freqs-after-spec =
+    tie.close
+    (tie.spec (λ c. search needs) returns returns-2
+    (λ c. let c4 = c .before .before .before .before in
+    omega (arith, store-fits _ (rw (c4 .reply .given .1) at (c4 .before .before .pre)) (c .before .if1 .left) .1))
+    (λ c. let c4 = c .before .before .before .before in
+    omega (arith, store-fits _ (rw (c4 .reply .given .1) at (c4 .before .before .pre)) (c .before .if1 .left) .0))
+    (λ c. let c4 = c .before .before .before .before in
+    omega (arith, store-fits _ (rw (c4 .reply .given .1) at (c4 .before .before .pre)) (c .before .if1 .left) .0))
+    returns-3)
