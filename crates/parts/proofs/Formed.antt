@@ -77,7 +77,8 @@ head-good =
       each = (omega arith, (omega arith, (omega arith, (omega arith, (omega arith, (omega arith, omega arith))))));
     }
 
-pub ring-good : (o : Option RoscConfig) → RingTyped o → strengthsOver o ≡ false → ringDividerOver o ≡ false → GoodSteps (ringPart o)
+pub ring-good : (o : Option RoscConfig) → RingTyped o → strengthsOver o ≡ false → ringDividerOver o ≡ false
+    → GoodSteps (ringPart o)
 unfolding ringPart strengthsOver ringDividerOver known widths width rows storable
 ring-good (some r) t s d =
     let g = r .«drive_strength» in
@@ -98,7 +99,8 @@ unfolding known widths width rows storable
 settling-good none h = tt
 settling-good (some n) h = omega (arith, h n refl)
 
-pub voltage-good : (reading : ℕ) (v : CoreVoltage) (o : Option ℕ) → ((n : ℕ) → o ≡ some n → Hz n) → GoodSteps (voltagePart reading v o)
+pub voltage-good : (reading : ℕ) (v : CoreVoltage) (o : Option ℕ) → ((n : ℕ) → o ≡ some n → Hz n)
+    → GoodSteps (voltagePart reading v o)
 unfolding voltagePart known widths width rows storable
 voltage-good reading v o h = record { each = go (eqb (codeOf v) reading) }
   where
@@ -147,7 +149,8 @@ switch-good select = go (eqb select 0)
     go true = tt
     go false = omega arith
 
-pub sys-good : (hz : ℕ) (c : SysClkConfig) → Hz hz → c .«div_int» ≤ 16777215 → c .«div_frac» < 2 ^ 8 → GoodSteps (sysPart hz c)
+pub sys-good : (hz : ℕ) (c : SysClkConfig) → Hz hz → c .«div_int» ≤ 16777215 → c .«div_frac» < 2 ^ 8
+    → GoodSteps (sysPart hz c)
 unfolding sysPart known widths width rows storable
 sys-good hz c h w f =
     let select : ℕ = sysSelect (c .src) in

@@ -56,7 +56,11 @@ unfolding sysPart switchSteps
 sys-stores hz c ys = ap (λ (l : List Step). store 5 hz ∷ l) (go (eqb (sysSelect (c .src)) 0))
   where
     end : List Step
-    end = step2 28 (sysAux (c .src)) (sysSelect (c .src)) ∷ step1 6 (sysSelect (c .src)) ∷ step2 29 (c .«div_int») (c .«div_frac») ∷ []
+    end =
+        step2 28 (sysAux (c .src)) (sysSelect (c .src))
+        ∷ step1 6 (sysSelect (c .src))
+        ∷ step2 29 (c .«div_int») (c .«div_frac»)
+        ∷ []
 
     go : (b : Bool) → storesIn ((pick b [] (step2 28 0 0 ∷ step1 6 0 ∷ []) ++ end) ++ ys) ≡ storesIn ys
     go true = refl

@@ -21,11 +21,13 @@ use Rattle.parts.specs.Parts.{stepsOf}
 use Rattle.parts.specs.Read.{settingsFrom}
 use Rattle.parts.proofs.Sheets.{settings-back, steps-formed}
 use Rattle.sheet.specs.declared.Written.{Written}
+use Rattle.sheet.specs.declared.Written.the-variants.{Refused}
 use Rattle.sheet.specs.Writer.{sheetBytes, writtenIs, Outcome}
 use Rattle.sheet.proofs.Ends.{accepted, refused, too-short}
 
 -- of the definitions
-pub same-sheets : (p q : ClockConfig) (reading : ℕ) → Typed p → Typed q → refusalOf p reading ≡ 0 → refusalOf q reading ≡ 0
+pub same-sheets : (p q : ClockConfig) (reading : ℕ) → Typed p → Typed q
+    → refusalOf p reading ≡ 0 → refusalOf q reading ≡ 0
     → (sheetBytes p reading ≡ sheetBytes q reading) ↔ (settingsOf p reading ≡ settingsOf q reading)
 unfolding sheetBytes
 same-sheets p q reading tp tq ep eq = (
@@ -57,17 +59,24 @@ module _ (p : ClockConfig) (reading : ℕ) (b b′ : List ℕ) (r : Written) (o 
   answers h l = o .answer ∙ sym (accepted p reading b (o .typed) h l .answer)
 
   pub answered : (n : ℕ) → writtenIs r ≡ value n → Answered p reading b n b′
-  answered n e = elim (ℕ-discrete (refusalOf p reading) 0) [ yes h ↦ fits h | no h ↦ absurd (never (refused p reading b (o .typed) h .answer ∙ sym (o .answer) ∙ e)) ]
+  answered n e =
+      elim (ℕ-discrete (refusalOf p reading) 0)
+      [ yes h ↦ fits h | no h ↦ absurd (unlike (refused p reading b (o .typed) h)) ]
     where
+      -- no other end of the writer answers a length
+      unlike : {k : ℕ} {after : List ℕ} → Outcome p reading b (Refused k) after → ⊥
+      unlike other = never (other .answer ∙ sym (o .answer) ∙ e)
+
       written : refusalOf p reading ≡ 0 → length (sheetBytes p reading) ≤ length b → Answered p reading b n b′
       written h l =
           let same : n ≡ length (sheetBytes p reading) = let a = answers h l in cc in
-          record { ok = h; room = l; count = same; bytes = rw same (o .bytes ∙ sym (accepted p reading b (o .typed) h l .bytes)) }
+          let end = accepted p reading b (o .typed) h l in
+          record { ok = h; room = l; count = same; bytes = rw same (o .bytes ∙ sym (end .bytes)) }
 
       fits : refusalOf p reading ≡ 0 → Answered p reading b n b′
       fits h =
           elim (decLe (length (sheetBytes p reading)) (length b))
-          [ yes l ↦ written h l | no l ↦ absurd (never (too-short p reading b (o .typed) h (lt-of-not-le l) .answer ∙ sym (o .answer) ∙ e)) ]
+          [ yes l ↦ written h l | no l ↦ absurd (unlike (too-short p reading b (o .typed) h (lt-of-not-le l))) ]
 
 -- byte i of what such a call left is byte i of the sheet
 byte-at : {p : ClockConfig} {reading : ℕ} {b : List ℕ} {n : ℕ} {b′ : List ℕ} → Answered p reading b n b′
