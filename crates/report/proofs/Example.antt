@@ -1,0 +1,44 @@
+-- Document 01's example: the report of `125000000`.
+-- Assumes nothing.
+use mathlib.Core.List.{List, [], _∷_, _++_}
+use mathlib.Core.Path.{_≡_}
+use Prim.Native.Nat.{ℕ}
+use Prim.Native.String.{String}
+use lib.Count.{ones, ones-ones}
+use Rattle.text.specs.Ascii.{ascii}
+use Rattle.text.specs.Decimal.{decimalOf, valueOf, isNumber, numberOf}
+use Rattle.divider.specs.Clock.{dividedHz}
+use Rattle.divider.specs.Delay.{startupSum}
+use Rattle.config.specs.Presets.{systemPlan}
+use Rattle.settings.specs.Frequencies.{pllHz, sourcesOf, refHz, sysHz, auxSource, storedOf}
+use Rattle.refusals.specs.Refusals.{strengthsOver, ringDividerOver, settlingOver, startupOver, sysPllInvalid}
+use Rattle.refusals.specs.Refusals.{usbPllInvalid, dividerBad, referenceBad, wholeBad, periBad, dividedBad, usbBad}
+use Rattle.refusals.specs.Refusals.{adcBad, rtcBad, outputRefusal, clockRefusal, oscillatorRefusal, refusalOf}
+use Rattle.parts.specs.Parts.{releaseMask}
+use Rattle.report.specs.Lines.{lineOf}
+use Rattle.report.specs.Report.{planReport, reportOf}
+
+-- each text closed by a newline
+abbrev pub texts : List String → List ℕ
+texts [] = []
+texts (t ∷ ts) = ascii t ++ (10 ∷ texts ts)
+
+all-released : ones 33554431 ≡ 25
+all-released = ones-ones 25
+
+pub example : reportOf (texts ("125000000" ∷ []))
+    ≡ texts
+    ("rosc 6500000"
+    ∷ "xosc 12000000"
+    ∷ "pll_sys 125000000"
+    ∷ "pll_usb 48000000"
+    ∷ "ref 12000000"
+    ∷ "sys 125000000"
+    ∷ "peri 125000000"
+    ∷ "usb 48000000"
+    ∷ "adc 48000000"
+    ∷ "rtc 46875"
+    ∷ "released 25"
+    ∷ [])
+unfolding lineOf decimalOf reportOf numberOf isNumber valueOf systemPlan planReport refusalOf oscillatorRefusal clockRefusal outputRefusal strengthsOver ringDividerOver settlingOver startupOver startupSum sysPllInvalid usbPllInvalid dividerBad referenceBad wholeBad periBad dividedBad usbBad adcBad rtcBad dividedHz pllHz sourcesOf refHz sysHz auxSource storedOf releaseMask
+example = rw all-released

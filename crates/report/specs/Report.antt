@@ -1,0 +1,42 @@
+-- The whole output of program `clocks`, for its input.
+-- Assumes nothing.
+use mathlib.Core.List.{List, [], _∷_, _++_}
+use Prim.Native.Nat.{ℕ}
+use lib.Count.{ones}
+use lib.Dec.{eqb}
+use Rattle.base.specs.Answer.{Answer, value, refusal}
+use Rattle.base.specs.Choice.{pick}
+use Rattle.text.specs.Words.{lineNumberOf}
+use Rattle.config.specs.declared.ClockConfig.{ClockConfig}
+use Rattle.config.specs.Presets.{systemPlan}
+use Rattle.settings.specs.Settings.{Settings, settingsOf}
+use Rattle.settings.specs.Frequencies.{storedOf}
+use Rattle.refusals.specs.Refusals.{refusalOf}
+use Rattle.parts.specs.Parts.{releaseMask}
+use Rattle.report.specs.Lines.{linesOf, reportNames, refusedLine}
+
+-- the program's reading
+abbrev pub reading : ℕ
+reading = 11
+
+-- the stored values of the sheet, then the count of ones in the last release mask
+abbrev pub numbersOf : Settings → List ℕ
+numbersOf s = storedOf s ++ (ones (releaseMask (s .peri) (s .usb) (s .adc) (s .rtc)) ∷ [])
+
+-- a plan that is refused at the reading has no sheet
+unfoldable pub planReport : ClockConfig → List ℕ
+planReport p =
+    pick (eqb (refusalOf p reading) 0) (linesOf reportNames (numbersOf (settingsOf p reading)))
+    (refusedLine (refusalOf p reading))
+
+abbrev pub plannedReport : Answer ClockConfig → List ℕ
+plannedReport (value p) = planReport p
+plannedReport (refusal n) = refusedLine n
+
+abbrev pub targetReport : Answer ℕ → List ℕ
+targetReport (value hz) = plannedReport (systemPlan hz)
+targetReport (refusal n) = refusedLine n
+
+-- the number on the first line is the target of the `system_freq` plan
+unfoldable pub reportOf : List ℕ → List ℕ
+reportOf input = targetReport (lineNumberOf input)
