@@ -1,14 +1,14 @@
 -- The report of a plan, by what the writer answered.
 -- Assumes nothing.
 use mathlib.Core.List.{List}
-use mathlib.Core.Path.{_≡_, refl, sym, ap, _∙_}
+use mathlib.Core.Path.{_≡_, sym, ap, _∙_}
 use Prim.Native.Nat.{ℕ, _/_, _≤_}
 use native.Mathlib.Decide.{ℕ-discrete}
 use native.Mathlib.Omega.{arith}
 use borrow.Author.Tests.{eq-eqb, ne-eqb}
 use lib.ListN.{length, take, length-append}
 use lib.Seq.{take-append-seam}
-use Rattle.base.specs.Answer.{Answer, value, refusal}
+use Rattle.base.specs.Answer.{value, refusal}
 use Rattle.config.specs.declared.ClockConfig.{ClockConfig}
 use Rattle.settings.specs.Settings.{settingsOf}
 use Rattle.refusals.specs.Refusals.{refusalOf}
@@ -35,7 +35,7 @@ module _ (p : ClockConfig) (b b′ : List ℕ) (r : Written) (o : Outcome p read
       let sheet : take n b′ ≡ sheetBytes p reading
       = rw (a .bytes, a .count) (take-append-seam (sheetBytes p reading) _) in
       let numbers : numbersIn (ranOf (take n b′) (n / 8)) ≡ numbersOf (settingsOf p reading)
-      = rw (sheet, a .count) (run-numbers p (a .ok) (o .typed)) in
+      = rw (sheet, a .count) (run-numbers p reading (a .ok) (o .typed)) in
       ap (linesOf reportNames) numbers ∙ rw (eq-eqb _ _ (a .ok))
 
   -- a refusal: the plan's own, since 520 bytes are enough for every sheet

@@ -4,19 +4,18 @@ use mathlib.Core.List.{List, [], _∷_, _++_}
 use mathlib.Core.Path.{_≡_}
 use Prim.Native.Nat.{ℕ}
 use Prim.Native.String.{String}
+use borrow.Author.Tests.{eq-eqb}
 use lib.Count.{ones, ones-ones}
 use Rattle.text.specs.Ascii.{ascii}
 use Rattle.text.specs.Decimal.{decimalOf, valueOf, isNumber, numberOf}
 use Rattle.divider.specs.Clock.{dividedHz}
-use Rattle.divider.specs.Delay.{startupSum}
-use Rattle.config.specs.Presets.{systemPlan}
+use Rattle.config.specs.Presets.{crystalPlan, systemPlan}
 use Rattle.settings.specs.Frequencies.{pllHz, sourcesOf, refHz, sysHz, auxSource, storedOf}
-use Rattle.refusals.specs.Refusals.{strengthsOver, ringDividerOver, settlingOver, startupOver, sysPllInvalid}
-use Rattle.refusals.specs.Refusals.{usbPllInvalid, dividerBad, referenceBad, wholeBad, periBad, dividedBad, usbBad}
-use Rattle.refusals.specs.Refusals.{adcBad, rtcBad, outputRefusal, clockRefusal, oscillatorRefusal, refusalOf}
+use Rattle.refusals.specs.Refusals.{refusalOf}
 use Rattle.parts.specs.Parts.{releaseMask}
+use Rattle.parts.proofs.Examples.{crystal-steps}
 use Rattle.report.specs.Lines.{lineOf}
-use Rattle.report.specs.Report.{planReport, reportOf}
+use Rattle.report.specs.Report.{reading, planReport, reportOf}
 
 -- each text closed by a newline
 abbrev pub texts : List String → List ℕ
@@ -40,5 +39,6 @@ pub example : reportOf (texts ("125000000" ∷ []))
     ∷ "rtc 46875"
     ∷ "released 25"
     ∷ [])
-unfolding lineOf decimalOf reportOf numberOf isNumber valueOf systemPlan planReport refusalOf oscillatorRefusal clockRefusal outputRefusal strengthsOver ringDividerOver settlingOver startupOver startupSum sysPllInvalid usbPllInvalid dividerBad referenceBad wholeBad periBad dividedBad usbBad adcBad rtcBad dividedHz pllHz sourcesOf refHz sysHz auxSource storedOf releaseMask
-example = rw all-released
+unfolding lineOf decimalOf reportOf numberOf isNumber valueOf systemPlan planReport
+    dividedHz pllHz sourcesOf refHz sysHz auxSource storedOf releaseMask
+example = rw (eq-eqb (refusalOf (crystalPlan 12000000) reading) 0 (crystal-steps .accepted), all-released)

@@ -8,20 +8,17 @@ use Prim.Native.Nat.{ℕ, _+_, _≤_}
 use Prim.Native.String.{String}
 use native.Mathlib.Omega.{arith}
 use borrow.Author.Tests.{eq-eqb}
-use lib.Count.{ones, ones-le, ones-ones}
+use lib.Count.{ones, ones-le}
 use lib.ListN.{length, take, length-append}
-use Rattle.base.specs.Answer.{Answer, value, refusal}
-use Rattle.base.specs.Choice.{pick}
+use Rattle.base.specs.Answer.{value}
 use Rattle.text.specs.Ascii.{ascii}
-use Rattle.text.specs.Decimal.{decimalOf, valueOf, isNumber, numberOf}
+use Rattle.text.specs.Decimal.{valueOf, isNumber, numberOf}
 use Rattle.text.specs.Words.{upTo, lineNumberOf}
 use Rattle.text.proofs.Decimals.{length-decimal}
 use Rattle.text.proofs.Lines.{line-start}
-use Rattle.divider.specs.Clock.{dividedHz}
 use Rattle.config.specs.declared.ClockConfig.{ClockConfig}
-use Rattle.config.specs.Presets.{crystalPlan, systemPlan}
 use Rattle.settings.specs.Settings.{settingsOf}
-use Rattle.settings.specs.Frequencies.{pllHz, sourcesOf, refHz, sysHz, auxSource, storedOf}
+use Rattle.settings.specs.Frequencies.{storedOf}
 use Rattle.settings.proofs.Small.{Hz}
 use Rattle.refusals.proofs.Stored.{EachHz, stored-small}
 use Rattle.parts.specs.Parts.{releaseMask}

@@ -3,7 +3,7 @@
 use mathlib.Core.Bool.{Bool, true, false}
 use mathlib.Core.List.{List, [], _∷_, _++_, map}
 use mathlib.Core.Path.{_≡_, refl, sym, ap, _∙_}
-use Prim.Native.Nat.{ℕ, zero, suc, _-_, _/_, _≤_, _<_}
+use Prim.Native.Nat.{ℕ, zero, suc, _+_, _-_, _/_, _≤_, _<_}
 use native.Mathlib.Numerals.{add-one}
 use native.Mathlib.Omega.{arith}
 use borrow.Author.Tests.{eqb-true}
@@ -21,18 +21,17 @@ use Rattle.settings.specs.Frequencies.{storedOf}
 use Rattle.refusals.specs.Refusals.{refusalOf}
 use Rattle.refusals.specs.Typed.{Typed}
 use Rattle.parts.specs.Parts.{releaseMask, clocksPart, stepsWith, stepsOf}
-use Rattle.parts.specs.Stores.{storesIn, storesFrom}
+use Rattle.parts.specs.Stores.{storesIn}
 use Rattle.parts.proofs.Stores.{sheet-stores}
 use Rattle.parts.proofs.Counts.{steps-few}
 use Rattle.parts.proofs.Sheets.{steps-formed}
 use Rattle.sheet.specs.Writer.{sheetBytes}
 use Rattle.runner.specs.declared.Runner.{Runner}
 use Rattle.runner.specs.declared.Stepped.{Stepped}
-use Rattle.runner.specs.Run.{Progress, Outcome, replyIs, steppedIs, fresh, isWait, storedBy, advanceOf}
-use Rattle.runner.specs.Calls.{answers, after, readyAnswer, storesOf, runnerAt}
+use Rattle.runner.specs.Run.{Progress, done, Outcome, replyIs, steppedIs, fresh, isWait, storedBy, advanceOf}
+use Rattle.runner.specs.Calls.{answers, readyAnswer, storesOf, runnerAt}
 use Rattle.runner.proofs.Ready.{ready-answers, ready-stores}
-use Rattle.report.specs.declared.Ran.{Ran}
-use Rattle.report.specs.Report.{reading, numbersOf}
+use Rattle.report.specs.Report.{numbersOf}
 use Rattle.report.specs.Ran.{releasedIn, releasedBy, lastReleased, runs, ranOf, numbersIn}
 
 -- one call, then the others
@@ -127,13 +126,31 @@ module _ (xs : List Step) (f : AllFormed xs) (few : length xs ≤ 65) where
   unfolding runs
   run-leaves = rw (ready-stores xs f few, all-answers, answers-release xs 0)
 
--- the numbers of a run of an accepted plan's sheet
-pub run-numbers : (p : ClockConfig) → refusalOf p reading ≡ 0 → Typed p
-    → numbersIn (ranOf (sheetBytes p reading) (length (sheetBytes p reading) / 8)) ≡ numbersOf (settingsOf p reading)
-unfolding sheetBytes storedOf
-run-numbers p ok t =
-    let s = settingsOf p reading in
-    let xs = stepsOf reading s in
-    let calls : length (encoded xs) / 8 ≡ length xs = omega (arith, length-encoded xs) in
-    let left = run-leaves xs (steps-formed p reading ok t) (steps-few reading s) in
-    rw (calls, left, stored reading s, last-release reading s 0)
+-- an accepted plan's sheet, at any reading, under a fresh runner that hears ready each time
+module _ (p : ClockConfig) (r : ℕ) (ok : refusalOf p r ≡ 0) (t : Typed p) where
+  abbrev steps : List Step
+  steps = stepsOf r (settingsOf p r)
+
+  -- it answers every step in order, then done
+  pub sheet-answers : answers fresh (sheetBytes p r) (replicate (length steps + 1) true)
+      ≡ map readyAnswer steps ++ (value done ∷ [])
+  unfolding sheetBytes
+  sheet-answers = ready-answers steps (steps-formed p r ok t) (steps-few r (settingsOf p r))
+
+  -- after as many calls as there are steps it holds the stored values, and the last release had the plan's mask
+  pub sheet-run : let s = settingsOf p r in
+      ranOf (sheetBytes p r) (length (sheetBytes p r) / 8)
+      ≡ record {
+        runner = runnerAt (length steps) (storedOf s);
+        mask = releaseMask (s .peri) (s .usb) (s .adc) (s .rtc);
+      }
+  unfolding sheetBytes
+  sheet-run =
+      let s = settingsOf p r in
+      let calls : length (encoded steps) / 8 ≡ length steps = omega (arith, length-encoded steps) in
+      let left = run-leaves steps (steps-formed p r ok t) (steps-few r s) in
+      rw (calls, left, stored r s, last-release r s 0)
+
+  pub run-numbers : numbersIn (ranOf (sheetBytes p r) (length (sheetBytes p r) / 8)) ≡ numbersOf (settingsOf p r)
+  unfolding storedOf
+  run-numbers = rw sheet-run

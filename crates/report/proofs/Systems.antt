@@ -69,7 +69,8 @@ module _ (c : PllConfig) (v : CoreVoltage) where
 
   plan-accepted : validOf c 12000000 ≡ true → settlingOver reading (codeOf v) (cyclesOf plan) ≡ false
       → refusalOf plan reading ≡ 0
-  unfolding startupSum dividedHz pllHz sourcesOf refHz auxSource strengthsOver ringDividerOver startupOver sysPllInvalid usbPllInvalid dividerBad referenceBad wholeBad periBad dividedBad usbBad adcBad rtcBad
+  unfolding startupSum dividedHz pllHz sourcesOf refHz auxSource strengthsOver ringDividerOver startupOver sysPllInvalid
+      usbPllInvalid dividerBad referenceBad wholeBad periBad dividedBad usbBad adcBad rtcBad
   plan-accepted ok calm =
       accepts plan reading
       (record {

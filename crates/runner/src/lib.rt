@@ -178,7 +178,13 @@ fn freqs_after(reply: Reply, freqs: [u32; 10]) -> [u32; 10]
 pub fn advance(r: Runner, sheet: &[u8], ready: bool) -> Stepped
     ensures { λ s. ⌜ steppedIs s ≡ advanceOf r (now (sheet .entry)) ready ⌝ }
 {
-    let before = r.state;
+    // Field by field: a copy of the whole carries the bytes between its fields through every branch.
+    let before = State {
+        position: r.state.position,
+        lock_polls: r.state.lock_polls,
+        total: r.state.total,
+        stopped: r.state.stopped,
+    };
     let t = turn(before, sheet, ready);
     let reply = t.reply;
     let state = t.state;

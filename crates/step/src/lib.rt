@@ -1,11 +1,12 @@
 // The sheet's step format: a step as a 64-bit word by shifts and masks, and the word as 8 bytes.
 ghost use mathlib.Core.Path.{_≡_};
+ghost use mathlib.Core.List.{reverse};
 ghost use Prim.Native.Nat.{_+_, _-_, _*_, _/_, _%_, _^_, _≤_, _<_};
 ghost use lib.ListN.{length, take, drop, getD};
 ghost use Rattle.base.specs.Answer.{value, refusal};
 ghost use Rattle.base.specs.Choice.{pick};
-ghost use Rattle.step.specs.Layout.{Laid};
-ghost use Rattle.step.specs.Steps.{stepOf, packOf, unpackedIs, unpackOf, storable};
+ghost use Rattle.step.specs.Layout.{Laid, kinds};
+ghost use Rattle.step.specs.Steps.{stepOf, packOf, unpackedIs, unpackOf, kindIn, storable};
 ghost use Rattle.step.specs.Bytes.{bytes8, word8, splice};
 ghost use Rattle.step.specs.Access.{written, next, readAt};
 
@@ -27,9 +28,6 @@ pub enum Unpacked {
 
 // The widths of a kind's five fields; 0 for one that it lacks.
 struct Widths(u32, u32, u32, u32, u32);
-
-// Kinds are numbered from 1 to this one.
-const KINDS: u8 = 37;
 
 // The table of widths, as a `match`: a constant array would be stored to the stack at each read.
 fn layout(kind: u8) -> Widths
@@ -137,11 +135,18 @@ fn step_if(sound: bool, s: Step) -> Unpacked
     }
 }
 
-// The step of a word, or 20 for an unknown kind, a spare bit that is set, or a store that is not allowed.
-pub fn unpack(word: u64) -> Unpacked
+// The kind that stands in a word.
+fn kind_in(word: u64) -> u8
+    ensures { λ r. ⌜ r ≡ kindIn word ⌝ }
+{
+    bits(word, 64, 6) as u8
+}
+
+// The step of a word of this kind, or 20 for a spare bit that is set or a store that is not allowed.
+fn unpack_as(kind: u8, word: u64) -> Unpacked
+    requires { ⌜ (kind ≡ kindIn word) × (1 ≤ kind) × (kind ≤ kinds) ⌝ }
     ensures { λ r. ⌜ unpackedIs r ≡ unpackOf word ⌝ }
 {
-    let kind = bits(word, 64, 6) as u8;
     let w = layout(kind);
     let b0 = 58 - w.0;
     let b1 = b0 - w.1;
@@ -153,8 +158,7 @@ pub fn unpack(word: u64) -> Unpacked
     let f3 = bits(word, b2, w.3);
     let f4 = bits(word, b3, w.4);
     let spare = low(word, b3 - w.4);
-    let known = (1 <= kind) & (kind <= KINDS);
-    let sound = known & ((spare == 0) & allowed(kind, f0, f1));
+    let sound = (spare == 0) & allowed(kind, f0, f1);
     step_if(
         sound,
         Step {
@@ -166,6 +170,53 @@ pub fn unpack(word: u64) -> Unpacked
             f4,
         },
     )
+}
+
+// The step of a word, or 20, also for an unknown kind. Each kind has an arm, since a call with a constant kind compiles
+// to that kind's few shifts.
+pub fn unpack(word: u64) -> Unpacked
+    ensures { λ r. ⌜ unpackedIs r ≡ unpackOf word ⌝ }
+{
+    match kind_in(word) {
+        1 => unpack_as(1, word),
+        2 => unpack_as(2, word),
+        3 => unpack_as(3, word),
+        4 => unpack_as(4, word),
+        5 => unpack_as(5, word),
+        6 => unpack_as(6, word),
+        7 => unpack_as(7, word),
+        8 => unpack_as(8, word),
+        9 => unpack_as(9, word),
+        10 => unpack_as(10, word),
+        11 => unpack_as(11, word),
+        12 => unpack_as(12, word),
+        13 => unpack_as(13, word),
+        14 => unpack_as(14, word),
+        15 => unpack_as(15, word),
+        16 => unpack_as(16, word),
+        17 => unpack_as(17, word),
+        18 => unpack_as(18, word),
+        19 => unpack_as(19, word),
+        20 => unpack_as(20, word),
+        21 => unpack_as(21, word),
+        22 => unpack_as(22, word),
+        23 => unpack_as(23, word),
+        24 => unpack_as(24, word),
+        25 => unpack_as(25, word),
+        26 => unpack_as(26, word),
+        27 => unpack_as(27, word),
+        28 => unpack_as(28, word),
+        29 => unpack_as(29, word),
+        30 => unpack_as(30, word),
+        31 => unpack_as(31, word),
+        32 => unpack_as(32, word),
+        33 => unpack_as(33, word),
+        34 => unpack_as(34, word),
+        35 => unpack_as(35, word),
+        36 => unpack_as(36, word),
+        37 => unpack_as(37, word),
+        _ => Unpacked::Refused(20),
+    }
 }
 
 // The byte of x right below bit `above`.
@@ -207,19 +258,50 @@ fn byte_over(buf: &[u8], i: usize, above: u32, rest: u64) -> u64
     place(above, 8, wide(buf[i]), rest)
 }
 
-// The word whose 8 bytes stand at `at`.
+// The word whose 8 bytes stand at `at`, the least significant first.
+fn get_reversed(buf: &[u8], at: usize) -> u64
+    requires { ⌜ at + 8 ≤ length (now buf) ⌝ }
+    ensures { λ r. ⌜ r ≡ word8 (reverse (take 8 (drop at (now (buf .entry))))) ⌝ }
+{
+    let r7 = byte_over(buf, at, 8, 0);
+    let r6 = byte_over(buf, at + 1, 16, r7);
+    let r5 = byte_over(buf, at + 2, 24, r6);
+    let r4 = byte_over(buf, at + 3, 32, r5);
+    let r3 = byte_over(buf, at + 4, 40, r4);
+    let r2 = byte_over(buf, at + 5, 48, r3);
+    let r1 = byte_over(buf, at + 6, 56, r2);
+    byte_over(buf, at + 7, 64, r1)
+}
+
+// The byte of x right below bit `from`, right below bit `above`, over the bits of rest.
+fn moved_over(x: u64, from: u32, above: u32, rest: u64) -> u64
+    requires { ⌜ (8 ≤ from) × (from ≤ 64) × (8 ≤ above) × (above ≤ 64) × (rest < 2 ^ (above - 8)) ⌝ }
+    ensures { λ r. ⌜ (r ≡ x / 2 ^ (from - 8) % 2 ^ 8 % 2 ^ 8 * 2 ^ (above - 8) + rest) × (r < 2 ^ above) ⌝ }
+{
+    place(above, 8, bits(x, from, 8), rest)
+}
+
+// The word with the same bytes in the other order.
+fn reversed(x: u64) -> u64
+    ensures { λ r. ⌜ r ≡ word8 (reverse (bytes8 x)) ⌝ }
+{
+    let r7 = moved_over(x, 64, 8, 0);
+    let r6 = moved_over(x, 56, 16, r7);
+    let r5 = moved_over(x, 48, 24, r6);
+    let r4 = moved_over(x, 40, 32, r5);
+    let r3 = moved_over(x, 32, 40, r4);
+    let r2 = moved_over(x, 24, 48, r3);
+    let r1 = moved_over(x, 16, 56, r2);
+    moved_over(x, 8, 64, r1)
+}
+
+// The word whose 8 bytes stand at `at`. Bytes in the machine's own order compile to one load, and the turn to one
+// instruction; read in the sheet's order and then taken apart by an arm of `unpack`, they would be eight loads.
 fn get(buf: &[u8], at: usize) -> u64
     requires { ⌜ at + 8 ≤ length (now buf) ⌝ }
     ensures { λ r. ⌜ r ≡ word8 (take 8 (drop at (now (buf .entry)))) ⌝ }
 {
-    let r7 = byte_over(buf, at + 7, 8, 0);
-    let r6 = byte_over(buf, at + 6, 16, r7);
-    let r5 = byte_over(buf, at + 5, 24, r6);
-    let r4 = byte_over(buf, at + 4, 32, r5);
-    let r3 = byte_over(buf, at + 3, 40, r4);
-    let r2 = byte_over(buf, at + 2, 48, r3);
-    let r1 = byte_over(buf, at + 1, 56, r2);
-    byte_over(buf, at, 64, r1)
+    reversed(get_reversed(buf, at))
 }
 
 // Writes a word's 8 bytes at `at`, and answers the index past them. Without room for them nothing is written.
@@ -239,10 +321,10 @@ pub fn write(buf: &mut [u8], at: usize, word: u64) -> usize
 pub fn read(buf: &[u8], at: usize) -> Unpacked
     ensures { λ r. ⌜ unpackedIs r ≡ readAt (now (buf .entry)) at ⌝ }
 {
-    if buf.len() < 8 {
+    if buf.len() <= at {
         return Unpacked::Refused(20);
     }
-    if buf.len() - 8 < at {
+    if buf.len() - at < 8 {
         return Unpacked::Refused(20);
     }
     unpack(get(buf, at))
