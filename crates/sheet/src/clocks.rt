@@ -213,7 +213,7 @@ fn release_mask(peri: OptionPeri, usb: OptionUsb, adc: OptionAdc, rtc: OptionRtc
     0x1FFFFFF - (peri_bits(peri) + usb_bits(usb) + adc_bits(adc) + rtc_bits(rtc))
 }
 
-pub fn put_clocks(
+pub(crate) fn put_clocks(
     words: &mut [u64; 65],
     at: usize,
     plan: ClockConfig,

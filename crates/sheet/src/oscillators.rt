@@ -16,7 +16,7 @@ ghost use Rattle.settings.specs.Settings.{crystalOf, settlingStep};
 ghost use Rattle.parts.specs.Parts.{headPart, ringPart, voltagePart, pllSteps, crystalPart};
 ghost use Rattle.sheet.specs.Gather.{held, pushes};
 
-pub fn put_head(words: &mut [u64; 65], at: usize) -> usize
+pub(crate) fn put_head(words: &mut [u64; 65], at: usize) -> usize
     ensures { λ r. ⌜ held (now (words .exit)) r ≡ pushes (held (now (words .entry)) at) headPart ⌝ }
 {
     let at = add1(words, at, kind::RESET, 0x0FBCDBF);
@@ -30,7 +30,7 @@ pub fn put_head(words: &mut [u64; 65], at: usize) -> usize
     add1(words, at, kind::WAIT_RELEASED, 0x3000)
 }
 
-pub fn put_ring(words: &mut [u64; 65], at: usize, ring: OptionRosc) -> usize
+pub(crate) fn put_ring(words: &mut [u64; 65], at: usize, ring: OptionRosc) -> usize
     ensures { λ r. ⌜ held (now (words .exit)) r ≡ pushes (held (now (words .entry)) at) (ringPart (roscOption ring)) ⌝ }
 {
     let hz = settings::ring_hz(ring) as u64;
@@ -50,7 +50,7 @@ pub fn put_ring(words: &mut [u64; 65], at: usize, ring: OptionRosc) -> usize
 }
 
 // Nothing where the voltage is as it was read.
-pub fn put_voltage(
+pub(crate) fn put_voltage(
     words: &mut [u64; 65],
     at: usize,
     reading: u8,
@@ -95,7 +95,7 @@ fn put_pll(words: &mut [u64; 65], at: usize, which: u64, pll: OptionPll) -> usiz
     }
 }
 
-pub fn put_crystal(words: &mut [u64; 65], at: usize, crystal: OptionXosc) -> usize
+pub(crate) fn put_crystal(words: &mut [u64; 65], at: usize, crystal: OptionXosc) -> usize
     ensures { λ r. ⌜ held (now (words .exit)) r ≡ pushes (held (now (words .entry)) at) (crystalPart (crystalOf (xoscOption crystal))) ⌝ }
 {
     match crystal {

@@ -1,0 +1,4 @@
+pub mod Table
+pub mod Buffers
+pub mod HexWords
+pub mod Settled

@@ -1,0 +1,19 @@
+-- `cases::lists::put_list_in` meets its contract. Assumes nothing.
+use borrow.Author.Needs.{needs}
+use Rattle.cases.proofs.Settled.{listed-text}
+use Rattle.cases.proofs.lists.put_list_in.Statement.{statement}
+use Rattle.cases.proofs.lists.put_list_in.Tie as tie
+
+returns : tie.Need-returns
+returns c =
+    let listing = c .before .before .before .before .before .before .before .list-exact .ensures in
+    record {
+      settings = listing .settings;
+      once = listing .once;
+      placed = rw (listed-text _ _ _ _ _ listing) at (c .before .before .put-listed .ensures);
+    }
+
+pub put-list-in-spec : {M : Type 1} → statement M
+put-list-in-spec =
+    tie.close
+    (tie.spec (λ c κs. search needs) (λ c κs. search needs) (λ c. search needs) (λ c. search needs) returns)

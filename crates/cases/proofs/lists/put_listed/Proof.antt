@@ -1,0 +1,16 @@
+-- `cases::lists::put_listed` meets its contract. Assumes nothing.
+use borrow.Author.Needs.{needs}
+use Rattle.cases.proofs.lists.put_listed.Statement.{statement}
+use Rattle.cases.proofs.lists.put_listed.Tie as tie
+
+returns : tie.Need-returns
+returns c = rw (c .before .before .before .before .before .listed .given .1) (c .before .before .put-written .ensures)
+
+returns-2 : tie.Need-returns-2
+returns-2 c = rw (c .before .before .before .before .before .listed2 .given .1) (c .before .before .put-refused .ensures)
+
+pub put-listed-spec : {M : Type 1} → statement M
+put-listed-spec =
+    tie.close
+    (tie.spec (λ c. search needs) (λ c κs. search needs) (λ c. search needs) (λ c κs. search needs)
+    (λ c. search needs) returns (λ c. search needs) returns-2)

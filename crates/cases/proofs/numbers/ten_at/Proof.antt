@@ -1,0 +1,28 @@
+-- `cases::numbers::ten_at` meets its contract. Assumes nothing.
+use borrow.Author.Needs.{needs}
+use Rattle.cases.proofs.numbers.ten_at.Statement.{statement}
+use Rattle.cases.proofs.numbers.ten_at.Tie as tie
+
+returns : tie.Need-returns
+returns c =
+    rw (
+      c .number-at10 .ensures,
+      c .before .before .number-at9 .ensures,
+      c .before .before .before .before .number-at8 .ensures,
+      c .before .before .before .before .before .before .number-at7 .ensures,
+      c .before .before .before .before .before .before .before .before .number-at6 .ensures,
+      c .before .before .before .before .before .before .before .before .before .before .number-at5 .ensures,
+      c .before .before .before .before .before .before .before .before .before .before .before .before .number-at4 .ensures,
+      c .before .before .before .before .before .before .before .before .before .before .before .before .before .before .number-at3 .ensures,
+      c .before .before .before .before .before .before .before .before .before .before .before .before .before .before .before .before .number-at2 .ensures,
+      c .before .before .before .before .before .before .before .before .before .before .before .before .before .before .before .before .before .before .number-at .ensures,
+    )
+
+pub ten-at-spec : {M : Type 1} → statement M
+ten-at-spec =
+    tie.close
+    (tie.spec (λ c κs. search needs) (λ c. search needs) (λ c κs. search needs) (λ c. search needs)
+    (λ c κs. search needs) (λ c. search needs) (λ c κs. search needs) (λ c. search needs) (λ c κs. search needs)
+    (λ c. search needs) (λ c κs. search needs) (λ c. search needs) (λ c κs. search needs) (λ c. search needs)
+    (λ c κs. search needs) (λ c. search needs) (λ c κs. search needs) (λ c. search needs) (λ c κs. search needs)
+    returns)

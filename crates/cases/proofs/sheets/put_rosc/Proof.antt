@@ -1,0 +1,12 @@
+-- `cases::sheets::put_rosc` meets its contract. Assumes nothing.
+use borrow.Author.Needs.{needs}
+use Rattle.cases.proofs.sheets.put_rosc.Statement.{statement}
+use Rattle.cases.proofs.sheets.put_rosc.Tie as tie
+
+returns : tie.Need-returns
+returns c = rw (c .before .before .before .before .rosc .ensures) at (c .before .before .put-sheet .ensures)
+
+pub put-rosc-spec : {M : Type 1} → statement M
+put-rosc-spec =
+    tie.close
+    (tie.spec (λ c κs. search needs) (λ c κs. search needs) (λ c. search needs) returns)

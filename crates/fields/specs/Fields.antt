@@ -1,0 +1,59 @@
+-- A line is words with one space between them. After its first word come decimal numbers, each up to a limit.
+-- Assumes nothing.
+use mathlib.Core.Path.{_≡_}
+use mathlib.Core.List.{List, [], _∷_}
+use Prim.Native.Nat.{ℕ, suc}
+use lib.Dec.{eqb, leb, ltb}
+use lib.ListN.{length, drop}
+use Rattle.base.specs.Answer.{Answer, value, refusal}
+use Rattle.base.specs.Choice.{pick}
+use Rattle.base.specs.Placed.{placed}
+use Rattle.text.specs.Decimal.{numberOf}
+use Rattle.text.specs.Words.{upTo}
+use Rattle.fields.specs.declared.Rest.{Rest}
+use Rattle.fields.specs.declared.Rest.the-variants.{At, Bad}
+
+-- what follows a word: the line's end, or a space and this text; or a word was not what it has to be
+pub data Tail : Type 0 where
+  ended : Tail
+  more : List ℕ → Tail
+  bad : Tail
+
+-- what follows the first word of a text
+abbrev pub behind : List ℕ → Tail
+behind [] = ended
+behind (c ∷ cs) = pick (eqb c 32) (more cs) (behind cs)
+
+-- the numbers read, and what follows them
+pub record Fields : Type 0 where
+  pub numbers : List ℕ
+  pub tail : Tail
+
+abbrev pub noNumber : Fields
+noNumber = record { numbers = []; tail = bad }
+
+-- a number up to the limit, in front of those behind it
+abbrev pub withNumber : ℕ → Answer ℕ → Fields → Fields
+withNumber limit (value n) f = pick (leb n limit) (record { numbers = n ∷ f .numbers; tail = f .tail }) noNumber
+withNumber limit (refusal m) f = noNumber
+
+-- a number for each limit; reading stops at the first word that is none
+unfoldable pub numbersIn : List ℕ → Tail → Fields
+numbersIn [] tail = record { numbers = []; tail = tail }
+numbersIn (limit ∷ limits) ended = noNumber
+numbersIn (limit ∷ limits) bad = noNumber
+numbersIn (limit ∷ limits) (more text) = withNumber limit (numberOf (upTo 32 text)) (numbersIn limits (behind text))
+
+-- what follows the word of a line that ends at index at
+unfoldable pub tailAt : List ℕ → ℕ → Tail
+tailAt line at = pick (ltb at (length line)) (more (drop (suc at) line)) ended
+
+-- the code's answer
+abbrev pub restIs : List ℕ → Rest → Tail
+restIs line (At at) = tailAt line at
+restIs line Bad = bad
+
+-- the call that read the numbers behind index at into the buffer before, answered r and left the buffer after
+pub record Reading (line : List ℕ) (at : ℕ) (limits before : List ℕ) (r : Rest) (after : List ℕ) : Type 0 where
+  pub tail : restIs line r ≡ numbersIn limits (tailAt line at) .tail
+  pub numbers : after ≡ placed before 0 (numbersIn limits (tailAt line at) .numbers)

@@ -1,0 +1,4 @@
+// Answers the cases on standard input, a line for each.
+fn main() {
+    replay::run();
+}

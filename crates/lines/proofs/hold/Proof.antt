@@ -1,0 +1,30 @@
+-- `lines::hold` meets its contract. Assumes nothing.
+use mathlib.Core.Path.{_∙_}
+use native.Mathlib.Omega.{arith}
+use borrow.Author.Needs.{needs}
+use lib.ListN.{length-take}
+use Rattle.lines.proofs.Ends.{line-end, line-bytes}
+use Rattle.lines.proofs.hold.Statement.{statement}
+use Rattle.lines.proofs.hold.Tie as tie
+
+slice-aggregate-put-bytes : tie.Need-slice-aggregate-put-bytes
+slice-aggregate-put-bytes c = simp length-take (omega arith)
+
+returns : tie.Need-returns
+returns c =
+    let room = c .before .before .before .before .before in
+    let index = room .before in
+    let text = index .before .before .before .args .text .now in
+    let end = index .index-from .ensures .0 in
+    record {
+      used = end ∙ line-end text;
+      used-within = omega arith;
+      bytes = rw (end, line-bytes text) at (c .before .before .put-bytes .ensures);
+      too-long = rw (room .less .ensures, end, line-end text);
+    }
+
+pub hold-spec : {M : Type 1} → statement M
+hold-spec =
+    tie.close
+    (tie.spec (λ c κs. search needs) (λ c κs. search needs) slice-aggregate-put-bytes (λ c κs. search needs)
+    (λ c. search needs) returns)

@@ -1,0 +1,48 @@
+// Lines gathered from pieces of a text, and the answer to each.
+ghost use mathlib.Core.Path.{_≡_};
+ghost use Prim.Native.Nat.{_-_};
+ghost use lib.ListN.{take};
+ghost use Rattle.cases.specs.Lists.{Answered};
+ghost use Rattle.cases.specs.Cases.{inputOf, targetOf};
+ghost use Rattle.lines.specs.Lines.{Holding, heldText};
+
+// What is held of a line: how many bytes, whether there were more than the buffer holds, and how many bytes of the
+// last text were the line's.
+pub struct Held {
+    pub len: usize,
+    pub over: bool,
+    pub used: usize,
+}
+
+// a - b, or 0 where b is greater.
+fn less(a: usize, b: usize) -> usize
+    ensures { λ r. ⌜ r ≡ a - b ⌝ }
+{
+    if a < b { 0 } else { a - b }
+}
+
+// Adds a text's bytes, up to its newline or its end, to the `len` bytes held.
+pub fn hold(held: &mut [u8], len: usize, over: bool, text: &[u8]) -> Held
+    ensures { λ r. ⌜ Holding (now (held .entry)) len over (now (text .entry)) r (now (held .exit)) ⌝ }
+{
+    let used = text::index_from(text, 0, b'\n');
+    let room = less(held.len(), len);
+    let next = text::put_bytes(held, len, &text[..used]);
+    Held {
+        len: next,
+        over: over | (room < used),
+        used,
+    }
+}
+
+// Answers the line held, and closes the answer with a newline.
+pub fn answer_held(held: &[u8], len: usize, over: bool, out: &mut [u8]) -> usize
+    ensures { λ r. ⌜ Answered (inputOf (take len (now (held .entry)))) (targetOf (take len (now (held .entry)))) (heldText (now (held .entry)) len over) (now (out .entry)) r (now (out .exit)) ⌝ }
+{
+    if over | (held.len() < len) {
+        let bad = replies::put_bad(out);
+        return text::put_byte(out, bad, b'\n');
+    }
+    let end = cases::answer(&held[..len], out);
+    text::put_byte(out, end, b'\n')
+}

@@ -1,0 +1,28 @@
+-- `plans::part::adc` meets its contract. Assumes nothing.
+use borrow.Author.Needs.{needs}
+use Rattle.plans.proofs.Flags.{there, absent}
+use Rattle.plans.specs.Plan.{adcOf}
+use Rattle.fields.proofs.Rows.{uncut}
+use Rattle.plans.proofs.part.adc.Statement.{statement}
+use Rattle.plans.proofs.part.adc.Tie as tie
+
+returns : tie.Need-returns
+unfolding adcOf
+returns c = rw (absent (c .before .number-at .ensures) (c .if1 .taken))
+
+returns-2 : tie.Need-returns-2
+unfolding adcOf
+returns-2 c =
+    rw (
+      there (c .before .before .before .before .before .number-at .ensures) (c .before .before .before .before .if1 .left),
+      uncut (c .byte-at2 .ensures) (search needs),
+      uncut (c .before .byte-at .ensures) (search needs),
+      c .before .before .adc .ensures,
+      c .before .before .before .number-at2 .ensures,
+    )
+
+pub adc-spec : {M : Type 1} → statement M
+adc-spec =
+    tie.close
+    (tie.spec (λ c κs. search needs) returns (λ c κs. search needs) (λ c κs. search needs)
+    (λ c κs. search needs) (λ c κs. search needs) returns-2)

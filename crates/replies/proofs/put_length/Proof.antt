@@ -1,0 +1,13 @@
+-- `replies::put_length` meets its contract. Assumes nothing.
+use borrow.Author.Needs.{needs}
+use Rattle.base.proofs.Placing.{placed-append}
+use Rattle.replies.proofs.put_length.Statement.{statement}
+use Rattle.replies.proofs.put_length.Tie as tie
+
+returns : tie.Need-returns
+returns c = placed-append (c .before .before .before .before .before .before .put-decimal .ensures) (c .before .before .put-byte .ensures)
+
+pub put-length-spec : {M : Type 1} → statement M
+put-length-spec =
+    tie.close
+    (tie.spec (λ c κs. search needs) (λ c κs. search needs) (λ c. search needs) returns)

@@ -1,0 +1,13 @@
+-- `replies::put_row` meets its contract. Assumes nothing.
+use borrow.Author.Needs.{needs}
+use Rattle.base.proofs.Placing.{placed-append}
+use Rattle.replies.proofs.put_row.Statement.{statement}
+use Rattle.replies.proofs.put_row.Tie as tie
+
+returns : tie.Need-returns
+returns c = placed-append (c .before .before .before .before .before .before .put-decimal .ensures) (c .before .before .put-spaced .ensures)
+
+pub put-row-spec : {M : Type 1} → statement M
+put-row-spec =
+    tie.close
+    (tie.spec (λ c κs. search needs) (λ c κs. search needs) (λ c. search needs) returns)

@@ -1,0 +1,44 @@
+-- The texts that answers are made of.
+-- Assumes nothing.
+use mathlib.Core.Bool.{Bool}
+use mathlib.Core.List.{List, [], _∷_, _++_}
+use Prim.Native.Nat.{ℕ}
+use lib.ListN.{take}
+use Rattle.base.specs.Answer.{Answer, value, refusal}
+use Rattle.base.specs.Choice.{pick}
+use Rattle.text.specs.Decimal.{decimalOf}
+use Rattle.text.specs.Hex.{hexOf}
+use Rattle.text.specs.Ascii.{ascii}
+
+-- a line that is no case
+abbrev pub badCase : List ℕ
+badCase = ascii "bad case"
+
+abbrev pub yesNo : Bool → List ℕ
+yesNo test = pick test (ascii "yes") (ascii "no")
+
+-- a refusal by its number
+abbrev pub refusedText : ℕ → List ℕ
+refusedText n = ascii "refused " ++ decimalOf n
+
+-- the text of a value, or the refusal
+abbrev pub answerText : {A : Type 0} → (A → List ℕ) → Answer A → List ℕ
+answerText text (value a) = text a
+answerText text (refusal n) = refusedText n
+
+-- numbers, each behind a space
+abbrev pub spaced : List ℕ → List ℕ
+spaced [] = []
+spaced (n ∷ ns) = 32 ∷ (decimalOf n ++ spaced ns)
+
+-- numbers with one space between
+abbrev pub rowText : ℕ → List ℕ → List ℕ
+rowText first more = decimalOf first ++ spaced more
+
+-- a length, and the bytes in hex
+abbrev pub bytesText : ℕ → List ℕ → List ℕ
+bytesText n bytes = decimalOf n ++ (32 ∷ hexOf bytes)
+
+-- of a buffer only the n bytes written are shown
+abbrev pub writtenText : List ℕ → ℕ → List ℕ
+writtenText buffer n = bytesText n (take n buffer)

@@ -1,0 +1,81 @@
+// The texts that answers are made of, each put into the caller's buffer.
+ghost use mathlib.Core.Path.{_≡_};
+ghost use mathlib.Core.List.{[], _∷_, _++_};
+ghost use Prim.Native.Nat.{min};
+ghost use Rattle.base.specs.Placed.{Placed};
+ghost use Rattle.text.specs.Decimal.{decimalOf};
+ghost use Rattle.replies.specs.Reply.{badCase, yesNo, refusedText, spaced, rowText, writtenText};
+
+pub fn put_bad(out: &mut [u8]) -> usize
+    ensures { λ r. ⌜ Placed (now (out .entry)) 0 badCase r (now (out .exit)) ⌝ }
+{
+    text::put_bytes(out, 0, b"bad case")
+}
+
+pub fn put_yes_no(out: &mut [u8], yes: bool) -> usize
+    ensures { λ r. ⌜ Placed (now (out .entry)) 0 (yesNo yes) r (now (out .exit)) ⌝ }
+{
+    if yes {
+        return text::put_bytes(out, 0, b"yes");
+    }
+    text::put_bytes(out, 0, b"no")
+}
+
+pub fn put_refused(out: &mut [u8], number: u8) -> usize
+    ensures { λ r. ⌜ Placed (now (out .entry)) 0 (refusedText number) r (now (out .exit)) ⌝ }
+{
+    let end = text::put_bytes(out, 0, b"refused ");
+    text::put_decimal(out, end, number as u64)
+}
+
+// A space and a number.
+fn put_next(out: &mut [u8], at: usize, n: u64) -> usize
+    ensures { λ r. ⌜ Placed (now (out .entry)) at (32 ∷ decimalOf n) r (now (out .exit)) ⌝ }
+{
+    let end = text::put_byte(out, at, b' ');
+    text::put_decimal(out, end, n)
+}
+
+fn least(a: usize, b: usize) -> usize
+    ensures { λ r. ⌜ r ≡ min a b ⌝ }
+{
+    if a < b { a } else { b }
+}
+
+// Numbers, each behind a space.
+fn put_spaced(out: &mut [u8], at: usize, ns: &[u64]) -> usize
+    ensures { λ r. ⌜ Placed (now (out .entry)) at (spaced (now (ns .entry))) r (now (out .exit)) ⌝ }
+{
+    let mut end = least(at, out.len());
+    let mut i = 0;
+    while i < ns.len() {
+        end = put_next(out, end, ns[i]);
+        i += 1;
+    }
+    end
+}
+
+// Numbers with one space between.
+pub fn put_row(out: &mut [u8], at: usize, first: u64, more: &[u64]) -> usize
+    ensures { λ r. ⌜ Placed (now (out .entry)) at (rowText first (now (more .entry))) r (now (out .exit)) ⌝ }
+{
+    let end = text::put_decimal(out, at, first);
+    put_spaced(out, end, more)
+}
+
+// A length, and as many of the buffer's first bytes in hex.
+pub fn put_written(out: &mut [u8], n: usize, buf: &[u8]) -> usize
+    ensures { λ r. ⌜ Placed (now (out .entry)) 0 (writtenText (now (buf .entry)) n) r (now (out .exit)) ⌝ }
+{
+    let end = put_length(out, n);
+    let shown = least(n, buf.len());
+    text::put_hex(out, end, &buf[..shown])
+}
+
+// A number and a space.
+fn put_length(out: &mut [u8], n: usize) -> usize
+    ensures { λ r. ⌜ Placed (now (out .entry)) 0 (decimalOf n ++ (32 ∷ [])) r (now (out .exit)) ⌝ }
+{
+    let end = text::put_decimal(out, 0, n as u64);
+    text::put_byte(out, end, b' ')
+}
