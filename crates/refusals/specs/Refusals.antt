@@ -22,6 +22,7 @@ use Rattle.settings.specs.declared.Sources.{Sources}
 use Rattle.settings.specs.Codes.{usbAux, adcAux, rtcAux}
 use Rattle.settings.specs.Settings.{crystalOf, cyclesOf}
 use Rattle.settings.specs.Frequencies.{sourcesOf, refHz, sysHz, periSource, auxSource, rtcHz}
+use Rattle.refusals.specs.declared.Examined.{Examined}
 
 abbrev pub strengthOver : DriveStrength → Bool
 strengthOver g =
@@ -140,3 +141,13 @@ unfoldable pub refusalOf : ClockConfig → ℕ → ℕ
 refusalOf p reading =
     pick (ltb 15 reading) 18
     (oscillatorRefusal p reading (clockRefusal p (planSources p) (planReference p) (planSystem p)))
+
+-- what `examine` answers
+abbrev pub examinedOf : ClockConfig → ℕ → Examined
+examinedOf p reading =
+    record {
+      number = refusalOf p reading;
+      sources = planSources p;
+      reference = planReference p;
+      system = planSystem p;
+    }

@@ -23,7 +23,7 @@ ghost use Rattle.refusals.specs.Refusals.{startupOver, pllInvalid, sysPl
 ghost use Rattle.refusals.specs.Refusals.{dividerBad, referenceBad, wholeBad, periBad, dividedBad, usbBad};
 ghost use Rattle.refusals.specs.Refusals.{adcBad, rtcBad};
 ghost use Rattle.refusals.specs.Refusals.{outputRefusal, clockRefusal, oscillatorRefusal, planSources};
-ghost use Rattle.refusals.specs.Refusals.{refusalOf};
+ghost use Rattle.refusals.specs.Refusals.{examinedOf};
 ghost use Rattle.refusals.specs.Typed.{RingTyped, CrystalTyped, RtcTyped, Typed};
 
 fn strength_over(g: DriveStrength) -> bool
@@ -236,18 +236,32 @@ fn oscillator_refusal(plan: ClockConfig, f: Sources, reading: u8, rest: u8) -> u
     base::number_when(strengths_over(ring), 1, from_2)
 }
 
+// What is found of a plan at a reading: the number of its refusal, 0 where it is accepted, and its frequencies.
+pub struct Examined {
+    pub number: u8,
+    pub sources: Sources,
+    pub reference: u32,
+    pub system: u64,
+}
+
 // The number of the first refusal, 0 where the plan is accepted. The numbers of the plan are of their types.
-pub fn refusal(plan: ClockConfig, reading: u8) -> u8
-    ensures { λ r. ⌜ (r ≡ refusalOf plan reading) × Typed plan ⌝ }
+pub fn examine(plan: ClockConfig, reading: u8) -> Examined
+    ensures { λ r. ⌜ (r ≡ examinedOf plan reading) × Typed plan ⌝ }
 {
     let ring = plan.rosc;
     let crystal = plan.xosc;
     let ref_clk = plan.ref_clk;
     let sys_clk = plan.sys_clk;
-    let f = settings::source_hz(ring, crystal);
-    let reference = settings::ref_hz(f, ref_clk);
-    let system = settings::sys_hz(f, reference, sys_clk);
-    let from_7 = clock_refusal(plan, f, reference, system);
-    let from_1 = oscillator_refusal(plan, f, reading, from_7);
-    base::number_when(15 < reading, 18, from_1)
+    let sources = settings::source_hz(ring, crystal);
+    let reference = settings::ref_hz(sources, ref_clk);
+    let system = settings::sys_hz(sources, reference, sys_clk);
+    let from_7 = clock_refusal(plan, sources, reference, system);
+    let from_1 = oscillator_refusal(plan, sources, reading, from_7);
+    let number = base::number_when(15 < reading, 18, from_1);
+    Examined {
+        number,
+        sources,
+        reference,
+        system,
+    }
 }

@@ -2,32 +2,22 @@
 -- Assumes nothing.
 use mathlib.Core.Bool.{Bool, true, false, _&&_}
 use mathlib.Core.List.{List}
-use mathlib.Core.Path.{_≡_, refl}
+use mathlib.Core.Path.{_≡_}
 use Prim.Native.Nat.{ℕ, _*_, _<_}
 use native.Mathlib.Omega.{arith}
 use lib.Dec.{T, leb, leb→le}
-use lib.ListN.{take, drop}
 use Rattle.base.specs.Answer.{value}
 use Rattle.step.specs.declared.Step.{Step}
-use Rattle.step.specs.Access.{readAt, fits}
-use Rattle.step.specs.Bytes.{word8, eights}
+use Rattle.step.specs.Access.{readAt}
 use Rattle.step.specs.Layout.{rows, width, widths}
 use Rattle.step.specs.Steps.{storable, WellFormed}
-use Rattle.step.proofs.Fields.{packed-lt}
-use Rattle.step.proofs.Laws.{pack-unpack}
+use Rattle.step.proofs.Accesses.{read-sound}
 use Rattle.runner.specs.declared.State.{State}
 use Rattle.runner.specs.Run.{Outcome, HandsFormed, turnOf}
 use Rattle.runner.proofs.Calls.{every-turn}
 
 pub read-formed : (sheet : List ℕ) (at : ℕ) (s : Step) → readAt sheet at ≡ value s → WellFormed s
-unfolding readAt word8
-read-formed sheet at s e = go (fits sheet at) refl
-  where
-    go : (b : Bool) → fits sheet at ≡ b → WellFormed s
-    go true t =
-        let bytes : List ℕ = take 8 (drop at sheet) in
-        pack-unpack (word8 bytes) s (packed-lt 64 eights bytes (omega arith)) (simp t at e) .0
-    go false n = let z : _≡_ {A = ℕ} 0 1 = cc in absurd (omega arith)
+read-formed sheet at s e = read-sound sheet at s e .0
 
 left : (a b : Bool) → T (a && b) → T a
 left true b t = tt

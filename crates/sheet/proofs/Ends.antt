@@ -13,9 +13,10 @@ use Rattle.step.specs.Sheet.{encoded}
 use Rattle.step.proofs.Sheets.{length-encoded}
 use Rattle.config.specs.declared.ClockConfig.{ClockConfig}
 use Rattle.settings.specs.Settings.{settingsOf}
-use Rattle.refusals.specs.Refusals.{refusalOf}
+use Rattle.refusals.specs.declared.Examined.{Examined}
+use Rattle.refusals.specs.Refusals.{refusalOf, examinedOf}
 use Rattle.refusals.specs.Typed.{Typed}
-use Rattle.parts.specs.Parts.{stepsOf}
+use Rattle.parts.specs.Parts.{stepsOf, stepsWith}
 use Rattle.parts.proofs.Counts.{steps-few}
 use Rattle.sheet.specs.declared.Written.the-variants.{Length, Refused}
 use Rattle.sheet.specs.Gather.{Gathered, held, pushes}
@@ -41,10 +42,12 @@ ready-of xs {g} few e =
       content = ap bytesOf (h .front);
     }
 
-pub ready : (p : ClockConfig) (reading : ℕ) {g : Gathered}
-    → g ≡ pushes (held (replicate 65 0) 0) (stepsOf reading (settingsOf p reading)) → Ready g (sheetBytes p reading)
+pub ready : (p : ClockConfig) (reading : ℕ) {x : Examined} {g : Gathered} → x ≡ examinedOf p reading
+    → g
+    ≡ pushes (held (replicate 65 0) 0) (stepsWith reading (settingsOf p reading) (x .sources) (x .reference) (x .system))
+    → Ready g (sheetBytes p reading)
 unfolding sheetBytes
-ready p reading {g} e = ready-of _ (steps-few reading (settingsOf p reading)) e
+ready p reading found e = ready-of _ (steps-few reading (settingsOf p reading)) (rw found at e)
 
 -- 520 bytes are enough for every sheet
 pub sheet-most : (p : ClockConfig) (reading : ℕ) → length (sheetBytes p reading) ≤ 520

@@ -5,13 +5,14 @@ mod oscillators;
 mod words;
 
 use config::ClockConfig;
+use refusals::Examined;
 ghost use mathlib.Core.Path.{_≡_};
 ghost use Prim.Native.Nat.{_*_, _≤_};
 ghost use mathlib.Core.List.{_++_};
 ghost use lib.ListN.{length, take, drop};
 ghost use Rattle.step.specs.Bytes.{bytesOf};
 ghost use Rattle.settings.specs.Settings.{settingsOf};
-ghost use Rattle.parts.specs.Parts.{stepsOf};
+ghost use Rattle.parts.specs.Parts.{stepsWith};
 ghost use Rattle.sheet.specs.Gather.{held, pushes};
 ghost use Rattle.sheet.specs.Writer.{Outcome};
 
@@ -21,26 +22,30 @@ pub enum Written {
     Refused(u8),
 }
 
-// The steps of a plan at a regulator reading, from the first word on.
-fn gather(words: &mut [u64; 65], plan: ClockConfig, reading: u8) -> usize
-    ensures { λ r. ⌜ held (now (words .exit)) r ≡ pushes (held (now (words .entry)) 0) (stepsOf reading (settingsOf plan reading)) ⌝ }
+// The steps of a plan at a regulator reading, with the frequencies that it has, from the first word on.
+fn gather(words: &mut [u64; 65], plan: ClockConfig, reading: u8, found: Examined) -> usize
+    ensures { λ r. ⌜ held (now (words .exit)) r ≡ pushes (held (now (words .entry)) 0) (stepsWith reading (settingsOf plan reading) (found .sources) (found .reference) (found .system)) ⌝ }
 {
     let ring = plan.rosc;
     let crystal = plan.xosc;
     let core_voltage = plan.core_voltage;
     let given = plan.voltage_stabilization_delay_us;
-    let ref_clk = plan.ref_clk;
-    let sys_clk = plan.sys_clk;
-    let f = settings::source_hz(ring, crystal);
-    let reference = settings::ref_hz(f, ref_clk);
-    let system = settings::sys_hz(f, reference, sys_clk);
+    let sources = found.sources;
     let time = settings::settling_time(given, core_voltage);
     let cycles = divider::settling_cycles(time, settings::ring_hz(ring));
     let at = oscillators::put_head(words, 0);
     let at = oscillators::put_ring(words, at, ring);
     let at = oscillators::put_voltage(words, at, reading, core_voltage, time, cycles);
     let at = oscillators::put_crystal(words, at, crystal);
-    clocks::put_clocks(words, at, plan, reading, f, reference, system)
+    clocks::put_clocks(
+        words,
+        at,
+        plan,
+        reading,
+        sources,
+        found.reference,
+        found.system,
+    )
 }
 
 // Writes the first count words from the start of buf; what lies past them keeps its value.
@@ -60,12 +65,12 @@ fn copy_out(words: &[u64; 65], count: usize, buf: &mut [u8])
 pub fn init(config: ClockConfig, reading: u8, sheet: &mut [u8]) -> Written
     ensures { λ r. ⌜ Outcome config reading (now (sheet .entry)) r (now (sheet .exit)) ⌝ }
 {
-    let number = refusals::refusal(config, reading);
-    if number != 0 {
-        return Written::Refused(number);
+    let found = refusals::examine(config, reading);
+    if found.number != 0 {
+        return Written::Refused(found.number);
     }
     let mut words = [0u64; 65];
-    let count = gather(&mut words, config, reading);
+    let count = gather(&mut words, config, reading, found);
     let size = 8 * count;
     if sheet.len() < size {
         return Written::Refused(19);

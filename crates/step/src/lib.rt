@@ -8,7 +8,7 @@ ghost use Rattle.base.specs.Choice.{pick};
 ghost use Rattle.step.specs.Layout.{Laid, kinds};
 ghost use Rattle.step.specs.Steps.{stepOf, packOf, unpackedIs, unpackOf, kindIn, storable};
 ghost use Rattle.step.specs.Bytes.{bytes8, word8, splice};
-ghost use Rattle.step.specs.Access.{written, next, readAt};
+ghost use Rattle.step.specs.Access.{written, next, readAt, wordAt};
 
 // A step: its kind and up to five fields. A field that the kind lacks is 0.
 pub struct Step {
@@ -328,4 +328,17 @@ pub fn read(buf: &[u8], at: usize) -> Unpacked
         return Unpacked::Refused(20);
     }
     unpack(get(buf, at))
+}
+
+// The word whose 8 bytes stand at `at`, 0 where there are not eight.
+pub fn word(buf: &[u8], at: usize) -> u64
+    ensures { λ r. ⌜ r ≡ wordAt (now (buf .entry)) at ⌝ }
+{
+    if buf.len() <= at {
+        return 0;
+    }
+    if buf.len() - at < 8 {
+        return 0;
+    }
+    get(buf, at)
 }

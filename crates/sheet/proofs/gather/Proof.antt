@@ -10,7 +10,6 @@ unfolding stepsWith
 returns c =
     let c2 = c .before .before in let c4 = c2 .before .before in let c6 = c4 .before .before in
     let c8 = c6 .before .before in let c10 = c8 .before .before in let c11 = c10 .before in
-    let c12 = c11 .before in let c13 = c12 .before in let c14 = c13 .before in let c15 = c14 .before in
     rw (
       c .put-clocks .ensures,
       c2 .put-crystal .ensures,
@@ -19,15 +18,11 @@ returns c =
       c8 .put-head .ensures,
       c10 .settling-cycles .ensures,
       c11 .ring-hz .ensures,
-      c12 .settling-time .ensures,
-      c13 .sys-hz .ensures,
-      c14 .ref-hz .ensures,
-      c15 .source-hz .ensures,
+      c11 .before .settling-time .ensures,
     ) (simp pushes-append)
 
 pub gather-spec : {M : Type 1} → statement M
 gather-spec =
     tie.close
     (tie.spec (λ c κs. search needs) (λ c κs. search needs) (λ c κs. search needs) (λ c κs. search needs)
-    (λ c κs. search needs) (λ c κs. search needs) (λ c κs. search needs) (λ c κs. search needs)
-    (λ c κs. search needs) (λ c κs. search needs) (λ c κs. search needs) returns)
+    (λ c κs. search needs) (λ c κs. search needs) (λ c κs. search needs) (λ c κs. search needs) returns)

@@ -1,8 +1,8 @@
--- `refusals::refusal` meets its contract. Assumes nothing.
+-- `refusals::examine` meets its contract. Assumes nothing.
 use Rattle.refusals.specs.Refusals.{refusalOf}
 use borrow.Author.Needs.{needs}
-use Rattle.refusals.proofs.refusal.Statement.{statement}
-use Rattle.refusals.proofs.refusal.Tie as tie
+use Rattle.refusals.proofs.examine.Statement.{statement}
+use Rattle.refusals.proofs.examine.Tie as tie
 
 returns : tie.Need-returns
 unfolding refusalOf
@@ -24,8 +24,8 @@ returns c =
       },
     )
 
-pub refusal-spec : {M : Type 1} → statement M
-refusal-spec =
+pub examine-spec : {M : Type 1} → statement M
+examine-spec =
     tie.close
     (tie.spec (λ c κs. search needs) (λ c κs. search needs) (λ c κs. search needs) (λ c κs. search needs)
     (λ c κs. search needs) (λ c κs. search needs) returns)

@@ -1,0 +1,285 @@
+//! The lines of the table: what either side does with the same inputs.
+
+use std::hint::black_box;
+
+use dizbaral::{Progress, raw};
+
+use crate::clocks::{self, ClockConfig, Gpout};
+use crate::peripherals::PIN_21;
+use crate::pio_programs::clock_divider::calculate_pio_clock_divider_value;
+use crate::plain_runner::{Reply, Runner};
+use crate::plan;
+use crate::random::Random;
+use crate::random_plan;
+use crate::recorder;
+use crate::standins::Peri;
+
+/// One side of a line: goes once over the inputs.
+pub type Side<'a> = Box<dyn FnMut() + 'a>;
+
+pub struct Line<'a> {
+    pub name: &'static str,
+    /// How many calls one round is.
+    pub calls: usize,
+    /// The most that is allowed of the Rust's instructions.
+    pub goal: f64,
+    pub proved: Side<'a>,
+    pub rust: Side<'a>,
+}
+
+const SEED: u64 = 1;
+const READING: u8 = 11;
+const MHZ: u32 = 1_000_000;
+
+/// The inputs, made once.
+pub struct Inputs {
+    exact: Vec<(u32, u32)>,
+    inexact: Vec<(u32, u32)>,
+    random: Vec<(u32, u32)>,
+    plans: Vec<[u32; 48]>,
+    pio: Vec<(u32, u32)>,
+    gpout: Vec<(u8, u32, u8)>,
+    frequencies: [u32; 10],
+    sheet: Vec<u8>,
+}
+
+impl Inputs {
+    pub fn new() -> Inputs {
+        let mut r = Random::new(SEED);
+        let mut sheet = vec![0; dizbaral::SHEET_BYTES];
+        let length = dizbaral::system_sheet(125 * MHZ, READING, &mut sheet).unwrap();
+        sheet.truncate(length);
+        Inputs {
+            exact: (16..=133).map(|mhz| (12 * MHZ, mhz * MHZ)).filter(is_exact).collect(),
+            inexact: (16..=133).map(|mhz| (12 * MHZ, mhz * MHZ + 1)).filter(|x| !is_exact(x)).collect(),
+            random: (0..100)
+                .map(|_| (r.between(3 * MHZ, 50 * MHZ), r.between(10 * MHZ, 300 * MHZ)))
+                .collect(),
+            plans: std::iter::repeat_with(|| random_plan::plan(&mut r).try_into().unwrap())
+                .filter(|plan| accepted(plan))
+                .take(200)
+                .collect(),
+            pio: std::iter::repeat_with(|| (r.between(100 * MHZ, 200 * MHZ), r.between(10_000, 16 * MHZ)))
+                .take(200)
+                .collect(),
+            gpout: (0..200)
+                .map(|_| (r.pick(&[0, 3, 4, 5, 6, 7, 8, 10]), r.between(1, 70_000), r.between(0, 255) as u8))
+                .collect(),
+            frequencies: [
+                6_500_000,
+                12_000_000,
+                125_000_000,
+                48_000_000,
+                12_000_000,
+                125_000_000,
+                125_000_000,
+                48_000_000,
+                48_000_000,
+                46_875,
+            ],
+            sheet,
+        }
+    }
+
+    pub fn lines(&self) -> Vec<Line<'_>> {
+        vec![
+            search("search, exact hit", 0.45, &self.exact),
+            search("search, no exact hit", 0.15, &self.inexact),
+            search("search, random inputs", 1.0, &self.random),
+            self.crystal_sheet(),
+            self.plan_sheets(),
+            self.pio(),
+            self.gpout(),
+            self.runner(),
+        ]
+    }
+
+    fn crystal_sheet(&self) -> Line<'_> {
+        let mut sheet = [0; 520];
+        Line {
+            name: "sheet, crystal preset",
+            calls: 1,
+            goal: 1.0,
+            proved: Box::new(move || {
+                black_box(unsafe {
+                    raw::dizbaral_system_sheet(black_box(125 * MHZ), READING, sheet.as_mut_ptr(), 520)
+                });
+                black_box(&sheet);
+            }),
+            rust: Box::new(|| {
+                recorder::start(READING);
+                clocks::write_sheet(ClockConfig::system_freq(black_box(125 * MHZ)).ok().unwrap());
+                black_box(recorder::sheet());
+            }),
+        }
+    }
+
+    fn plan_sheets(&self) -> Line<'_> {
+        let mut sheet = [0; 520];
+        Line {
+            name: "sheet, random plans",
+            calls: self.plans.len(),
+            goal: 1.0,
+            proved: Box::new(move || {
+                for plan in &self.plans {
+                    let plan = black_box(plan);
+                    let sheet = sheet.as_mut_ptr();
+                    black_box(unsafe { raw::dizbaral_plan_sheet(plan.as_ptr(), 48, READING, sheet, 520) });
+                    black_box(&sheet);
+                }
+            }),
+            rust: Box::new(|| {
+                for numbers in &self.plans {
+                    recorder::start(READING);
+                    clocks::write_sheet(plan::config(black_box(numbers)));
+                    black_box(recorder::sheet());
+                }
+            }),
+        }
+    }
+
+    fn pio(&self) -> Line<'_> {
+        Line {
+            name: "PIO divider",
+            calls: self.pio.len(),
+            goal: 1.0,
+            proved: Box::new(|| {
+                for &(system, target) in &self.pio {
+                    black_box(unsafe { raw::dizbaral_pio_divider(black_box(system), black_box(target)) });
+                }
+            }),
+            rust: Box::new(|| {
+                for &(system, target) in &self.pio {
+                    black_box(pio(black_box(system), black_box(target)));
+                }
+            }),
+        }
+    }
+
+    fn gpout(&self) -> Line<'_> {
+        clocks::preset_frequencies(&self.frequencies);
+        let output = std::mem::ManuallyDrop::new(Gpout::new(Peri::new(PIN_21)));
+        Line {
+            name: "Gpout",
+            calls: self.gpout.len(),
+            goal: 1.0,
+            proved: Box::new(|| {
+                for &(source, whole, fraction) in &self.gpout {
+                    let frequencies = black_box(&self.frequencies);
+                    black_box(unsafe { raw::dizbaral_gpout_frequency(source, whole, fraction, frequencies) });
+                }
+            }),
+            rust: Box::new(move || {
+                for &(source, whole, fraction) in &self.gpout {
+                    recorder::set_gpout(source, whole, fraction);
+                    black_box(gpout(&output));
+                }
+            }),
+        }
+    }
+
+    fn runner(&self) -> Line<'_> {
+        Line {
+            name: "runner, a whole sheet",
+            calls: self.sheet.len() / 8 + 1,
+            goal: 1.0,
+            proved: Box::new(|| {
+                let mut runner = [0; 14];
+                let sheet = self.sheet.as_ptr();
+                while black_box(unsafe { raw::dizbaral_run(&mut runner, sheet, self.sheet.len(), true) }) != 0
+                {
+                }
+                black_box(&runner);
+            }),
+            rust: Box::new(|| {
+                let mut runner = Runner::default();
+                while black_box(runner.poll(black_box(&self.sheet), true)) != Reply::Done {}
+                black_box(&runner);
+            }),
+        }
+    }
+
+    /// Both sides say the same to every input.
+    pub fn check(&self) {
+        for &(input, target) in self.exact.iter().chain(&self.inexact).chain(&self.random) {
+            let ours = dizbaral::find_pll_params(input, target).ok();
+            let rust = clocks::search(input, target);
+            let dividers = |c: dizbaral::PllConfig| (c.refdiv, c.fbdiv, c.post_div1, c.post_div2);
+            assert_eq!(ours.map(dividers), rust.map(|c| (c.refdiv, c.fbdiv, c.post_div1, c.post_div2)));
+        }
+        let mut sheet = [0; 520];
+        for numbers in &self.plans {
+            let length = dizbaral::plan_sheet(numbers, READING, &mut sheet).unwrap();
+            recorder::start(READING);
+            clocks::write_sheet(plan::config(numbers));
+            assert_eq!(&sheet[..length], recorder::sheet());
+        }
+        recorder::start(READING);
+        clocks::write_sheet(ClockConfig::system_freq(125 * MHZ).ok().unwrap());
+        assert_eq!(self.sheet, recorder::sheet());
+        for &(system, target) in &self.pio {
+            assert_eq!(dizbaral::pio_divider(system, target), Ok(pio(system, target)));
+        }
+        clocks::preset_frequencies(&self.frequencies);
+        let output = Gpout::new(Peri::new(PIN_21));
+        for &(source, whole, fraction) in &self.gpout {
+            recorder::set_gpout(source, whole, fraction);
+            let ours = dizbaral::gpout_frequency(source, whole, fraction, &self.frequencies);
+            assert_eq!(ours, Ok(gpout(&output)));
+        }
+        let (mut ours, mut rust) = (dizbaral::Runner::new(), Runner::default());
+        for _ in 0..=self.sheet.len() / 8 {
+            for ready in [false, true] {
+                let same = match (ours.poll(&self.sheet, ready), rust.poll(&self.sheet, ready)) {
+                    (Ok(Progress::Done), Reply::Done) => true,
+                    (Ok(Progress::Passed), Reply::Passed) => true,
+                    (Ok(Progress::Waiting), Reply::Waiting) => true,
+                    (Ok(Progress::Handed(word)), Reply::Handed(step)) => (word >> 58) as u8 == step.kind,
+                    _ => false,
+                };
+                assert!(same);
+            }
+        }
+        assert_eq!(ours.numbers()[4..], rust.frequencies);
+    }
+}
+
+fn search<'a>(name: &'static str, goal: f64, inputs: &'a [(u32, u32)]) -> Line<'a> {
+    Line {
+        name,
+        calls: inputs.len(),
+        goal,
+        proved: Box::new(move || {
+            for &(input, target) in inputs {
+                black_box(unsafe { raw::dizbaral_search(black_box(input), black_box(target)) });
+            }
+        }),
+        rust: Box::new(move || {
+            for &(input, target) in inputs {
+                black_box(clocks::search(black_box(input), black_box(target)));
+            }
+        }),
+    }
+}
+
+/// Whether a setting gives the target with no remainder.
+fn is_exact(&(input, target): &(u32, u32)) -> bool {
+    let Ok(found) = dizbaral::find_pll_params(input, target) else { return false };
+    let vco = input as u64 * found.fbdiv as u64;
+    vco == target as u64 * found.post_div1 as u64 * found.post_div2 as u64
+}
+
+/// Accepted at the reading, and with no ring divider that the Rust's register cannot hold.
+fn accepted(plan: &[u32; 48]) -> bool {
+    dizbaral::plan_sheet(plan, READING, &mut [0; 520]).is_ok()
+}
+
+#[inline(never)]
+fn pio(system: u32, target: u32) -> u32 {
+    calculate_pio_clock_divider_value(system, target).to_bits()
+}
+
+#[inline(never)]
+fn gpout(output: &Gpout<PIN_21>) -> u32 {
+    output.get_freq()
+}

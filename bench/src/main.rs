@@ -1,0 +1,59 @@
+//! The proved library beside the published Rust: the same inputs, instructions counted by callgrind, and time.
+
+#[allow(dead_code, unused_imports, static_mut_refs)]
+mod clocks;
+mod lines;
+mod measure;
+mod plain_runner;
+mod recorder;
+
+// Of the oracle: the stand-in for rp-pac, plans as 48 numbers, and random ones.
+#[allow(dead_code)]
+#[path = "../../oracle/src/case.rs"]
+mod case;
+#[allow(dead_code)]
+#[path = "../../oracle/src/limits.rs"]
+mod limits;
+#[allow(dead_code)]
+#[path = "../../oracle/src/pac/mod.rs"]
+mod pac;
+#[allow(dead_code)]
+#[path = "../../oracle/src/plan.rs"]
+mod plan;
+#[allow(dead_code)]
+#[path = "../../oracle/src/random.rs"]
+mod random;
+#[allow(dead_code)]
+#[path = "../../oracle/src/random_plan.rs"]
+mod random_plan;
+#[allow(dead_code)]
+#[path = "../../oracle/src/standins.rs"]
+mod standins;
+
+// What the published code finds at its crate's root.
+use standins::{Peri, atomics, cortex_m, fixed, gpio, peripherals};
+
+mod reset {
+    include!(concat!(env!("OUT_DIR"), "/reset.rs"));
+}
+
+mod pio_programs {
+    #[allow(dead_code)]
+    pub mod clock_divider {
+        include!(concat!(env!("OUT_DIR"), "/clock_divider.rs"));
+    }
+}
+
+fn main() {
+    let words: Vec<String> = std::env::args().skip(1).collect();
+    let words: Vec<&str> = words.iter().map(String::as_str).collect();
+    match words[..] {
+        [] => measure::table(),
+        [line, side, rounds] => {
+            let (line, side, rounds) =
+                (line.parse().unwrap(), side.parse().unwrap(), rounds.parse().unwrap());
+            measure::only(line, side, rounds);
+        }
+        _ => panic!("bench, or bench LINE SIDE ROUNDS"),
+    }
+}

@@ -1,0 +1,69 @@
+/* Clock sheets for the RP2040, from the proved library libexport.a.
+ *
+ * Every function is total: it answers every input, and its answer is one number.
+ *   below DIZBARAL_REFUSAL   the value, as each function says
+ *   DIZBARAL_REFUSAL + n     refusal n of document 01; nothing that was lent has changed
+ *   DIZBARAL_MALFORMED       the numbers given are of no plan or of no runner; nothing has changed
+ *   from DIZBARAL_STEP on    (dizbaral_run only) the word of a step
+ * A pointer with a length behind it is a buffer of that many elements; no function keeps it. */
+#ifndef DIZBARAL_H
+#define DIZBARAL_H
+
+#include <stdbool.h>
+#include <stddef.h>
+#include <stdint.h>
+
+#define DIZBARAL_REFUSAL ((uint64_t)1 << 48)
+#define DIZBARAL_MALFORMED ((uint64_t)1 << 49)
+#define DIZBARAL_STEP ((uint64_t)1 << 58)
+
+/* A sheet has at most this many bytes. */
+#define DIZBARAL_SHEET_BYTES 520
+
+#ifdef __cplusplus
+extern "C" {
+#endif
+
+/* find_pll_params: the setting for a target, as
+ * reference divider << 32 | feedback divider << 16 | post divider 1 << 8 | post divider 2. Refusal 15. */
+uint64_t dizbaral_search(uint32_t input_hz, uint32_t target_hz);
+
+/* is_valid: whether the four dividers are valid for an input frequency. */
+bool dizbaral_is_valid(uint32_t input_hz, uint8_t refdiv, uint16_t fbdiv, uint8_t post_div1, uint8_t post_div2);
+
+/* output_frequency: the frequency in Hz, with no test of validity. Refusal 16. */
+uint64_t dizbaral_output_frequency(uint32_t input_hz, uint8_t refdiv, uint16_t fbdiv, uint8_t post_div1,
+                                   uint8_t post_div2);
+
+/* core_voltage: of a reading of the regulator, voltage code << 8 | brownout level. Refusal 18. */
+uint64_t dizbaral_core_voltage(uint8_t reading);
+
+/* calculate_pio_clock_divider_value: the divider in 256ths. Refusal 17. */
+uint64_t dizbaral_pio_divider(uint32_t sys_hz, uint32_t target_hz);
+
+/* Gpout get_freq: the frequency in Hz of a clock output with this source code and divider, over the ten stored
+ * frequencies (rosc, xosc, pll_sys, pll_usb, ref, sys, peri, usb, adc, rtc). Refusal 23. */
+uint64_t dizbaral_gpout_frequency(uint8_t source, uint32_t whole, uint8_t fraction, const uint32_t freqs[10]);
+
+/* Writes the sheet of the system_freq plan (12 MHz crystal) at a reading of the regulator to the start of the
+ * buffer. The length in bytes; bytes past it keep their values. Refusals 18, 1 to 14, 19. */
+uint64_t dizbaral_system_sheet(uint32_t hz, uint8_t reading, uint8_t *sheet, size_t length);
+
+/* The same for a plan of 48 numbers, in the order of bindings/README.md. Malformed where they are of no plan. */
+uint64_t dizbaral_plan_sheet(const uint32_t *plan, size_t numbers, uint8_t reading, uint8_t *sheet, size_t length);
+
+/* Writes every setting that gives the target with no remainder, each once, two bytes each, most significant first:
+ * feedback divider (9 bits), post dividers (3)(3), a zero bit. The length in bytes. Refusal 19. */
+uint64_t dizbaral_list(uint32_t input_hz, uint32_t target_hz, uint8_t *list, size_t length);
+
+/* One call of the runner over a sheet: 0 done, 1 passed, 2 waiting, or the word of the step that is handed out
+ * (its kind in the six highest bits). The runner is position, lock polls, total of unready polls, stopped mark
+ * (0 or 1, else malformed) and ten frequencies; a fresh one is all zeros. Refusals 21, 22, 20; the lock timeout,
+ * 22, is the one refusal that changes something: it sets the mark and adds 1 to the total. */
+uint64_t dizbaral_run(uint32_t runner[14], const uint8_t *sheet, size_t length, bool ready);
+
+#ifdef __cplusplus
+}
+#endif
+
+#endif

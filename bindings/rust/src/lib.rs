@@ -1,0 +1,167 @@
+//! Clock sheets for the RP2040, from the proved library: safe calls of its static archive.
+
+pub mod raw;
+
+/// A refusal, by its number in document 01.
+#[derive(Clone, Copy, Debug, PartialEq, Eq)]
+pub struct Refused(pub u8);
+
+/// A value, or the number of a refusal.
+fn answer(number: u64) -> Result<u64, Refused> {
+    if (raw::REFUSAL..raw::MALFORMED).contains(&number) {
+        Err(Refused((number - raw::REFUSAL) as u8))
+    } else {
+        Ok(number)
+    }
+}
+
+/// The four dividers of a PLL.
+#[derive(Clone, Copy, Debug, PartialEq, Eq)]
+pub struct PllConfig {
+    pub refdiv: u8,
+    pub fbdiv: u16,
+    pub post_div1: u8,
+    pub post_div2: u8,
+}
+
+impl PllConfig {
+    /// Whether the setting is valid for an input frequency.
+    pub fn is_valid(self, input_hz: u32) -> bool {
+        unsafe { raw::dizbaral_is_valid(input_hz, self.refdiv, self.fbdiv, self.post_div1, self.post_div2) }
+    }
+
+    /// The output frequency, with no test of validity.
+    pub fn output_frequency(self, input_hz: u32) -> Result<u32, Refused> {
+        let number = unsafe {
+            raw::dizbaral_output_frequency(input_hz, self.refdiv, self.fbdiv, self.post_div1, self.post_div2)
+        };
+        answer(number).map(|hz| hz as u32)
+    }
+}
+
+/// The setting for a target frequency: one with no remainder if there is one, else the nearest.
+pub fn find_pll_params(input_hz: u32, target_hz: u32) -> Result<PllConfig, Refused> {
+    answer(unsafe { raw::dizbaral_search(input_hz, target_hz) }).map(|number| PllConfig {
+        refdiv: (number >> 32) as u8,
+        fbdiv: (number >> 16) as u16,
+        post_div1: (number >> 8) as u8,
+        post_div2: number as u8,
+    })
+}
+
+/// A core voltage: its register code, and the brownout level that belongs to it.
+#[derive(Clone, Copy, Debug, PartialEq, Eq)]
+pub struct CoreVoltage {
+    pub code: u8,
+    pub brownout: u8,
+}
+
+/// The voltage whose code was read.
+pub fn core_voltage(reading: u8) -> Result<CoreVoltage, Refused> {
+    answer(unsafe { raw::dizbaral_core_voltage(reading) })
+        .map(|number| CoreVoltage { code: (number >> 8) as u8, brownout: number as u8 })
+}
+
+/// The divider, in 256ths, that makes a PIO state machine run at the target.
+pub fn pio_divider(sys_hz: u32, target_hz: u32) -> Result<u32, Refused> {
+    answer(unsafe { raw::dizbaral_pio_divider(sys_hz, target_hz) }).map(|divider| divider as u32)
+}
+
+/// The frequency of a Gpout with this source code and divider, over the ten stored frequencies.
+pub fn gpout_frequency(source: u8, whole: u32, fraction: u8, freqs: &[u32; 10]) -> Result<u32, Refused> {
+    answer(unsafe { raw::dizbaral_gpout_frequency(source, whole, fraction, freqs) }).map(|hz| hz as u32)
+}
+
+/// A sheet has at most this many bytes.
+pub const SHEET_BYTES: usize = 520;
+
+/// Writes the sheet of a 12 MHz crystal and a system frequency, and answers its length.
+pub fn system_sheet(hz: u32, reading: u8, sheet: &mut [u8]) -> Result<usize, Refused> {
+    let number = unsafe { raw::dizbaral_system_sheet(hz, reading, sheet.as_mut_ptr(), sheet.len()) };
+    answer(number).map(|length| length as usize)
+}
+
+/// Why there is no sheet of a plan given as numbers.
+#[derive(Clone, Copy, Debug, PartialEq, Eq)]
+pub enum PlanError {
+    /// The numbers are of no plan.
+    NoPlan,
+    Refused(u8),
+}
+
+/// Writes the sheet of a plan given as 48 numbers (bindings/README.md has their order), and answers its length.
+pub fn plan_sheet(plan: &[u32; 48], reading: u8, sheet: &mut [u8]) -> Result<usize, PlanError> {
+    let number = unsafe {
+        raw::dizbaral_plan_sheet(plan.as_ptr(), plan.len(), reading, sheet.as_mut_ptr(), sheet.len())
+    };
+    match answer(number) {
+        Ok(raw::MALFORMED) => Err(PlanError::NoPlan),
+        Ok(length) => Ok(length as usize),
+        Err(Refused(refusal)) => Err(PlanError::Refused(refusal)),
+    }
+}
+
+/// Writes every setting that gives the target with no remainder, two bytes each, and answers their length.
+pub fn list(input_hz: u32, target_hz: u32, list: &mut [u8]) -> Result<usize, Refused> {
+    let number = unsafe { raw::dizbaral_list(input_hz, target_hz, list.as_mut_ptr(), list.len()) };
+    answer(number).map(|length| length as usize)
+}
+
+/// A setting that the lister wrote.
+pub fn listed(bytes: [u8; 2]) -> PllConfig {
+    let word = u16::from_be_bytes(bytes);
+    PllConfig {
+        refdiv: 1,
+        fbdiv: word >> 7,
+        post_div1: (word >> 4 & 7) as u8,
+        post_div2: (word >> 1 & 7) as u8,
+    }
+}
+
+/// What a call of the runner answers.
+#[derive(Clone, Copy, Debug, PartialEq, Eq)]
+pub enum Progress {
+    Done,
+    /// A step to carry out, as its 64-bit word; the kind is in the six highest bits.
+    Handed(u64),
+    Passed,
+    Waiting,
+}
+
+/// Takes one step of a sheet after another.
+#[derive(Clone, Copy, Debug, PartialEq, Eq, Default)]
+pub struct Runner {
+    /// Position, lock polls, total of unready polls, stopped mark, ten frequencies.
+    numbers: [u32; 14],
+}
+
+impl Runner {
+    pub fn new() -> Runner {
+        Runner::default()
+    }
+
+    /// From what `numbers` gave; nothing where the stopped mark is neither 0 nor 1.
+    pub fn from_numbers(numbers: [u32; 14]) -> Option<Runner> {
+        (numbers[3] <= 1).then_some(Runner { numbers })
+    }
+
+    pub fn numbers(&self) -> &[u32; 14] {
+        &self.numbers
+    }
+
+    /// The frequency that was stored for a clock, 0 to 9.
+    pub fn frequency(&self, clock: usize) -> u32 {
+        self.numbers[4..][clock]
+    }
+
+    /// One call over the sheet; `ready` says whether what a wait waits for is there.
+    pub fn poll(&mut self, sheet: &[u8], ready: bool) -> Result<Progress, Refused> {
+        let number = unsafe { raw::dizbaral_run(&mut self.numbers, sheet.as_ptr(), sheet.len(), ready) };
+        answer(number).map(|number| match number {
+            0 => Progress::Done,
+            1 => Progress::Passed,
+            2 => Progress::Waiting,
+            word => Progress::Handed(word),
+        })
+    }
+}

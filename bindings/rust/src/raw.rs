@@ -1,0 +1,33 @@
+//! The functions of the archive themselves; bindings/c/dizbaral.h says what each answers.
+
+// A slice is a pointer and a length.
+unsafe extern "C" {
+    pub fn dizbaral_search(input_hz: u32, target_hz: u32) -> u64;
+    pub fn dizbaral_is_valid(input_hz: u32, refdiv: u8, fbdiv: u16, post_div1: u8, post_div2: u8) -> bool;
+    pub fn dizbaral_output_frequency(
+        input_hz: u32,
+        refdiv: u8,
+        fbdiv: u16,
+        post_div1: u8,
+        post_div2: u8,
+    ) -> u64;
+    pub fn dizbaral_core_voltage(reading: u8) -> u64;
+    pub fn dizbaral_pio_divider(sys_hz: u32, target_hz: u32) -> u64;
+    pub fn dizbaral_gpout_frequency(source: u8, whole: u32, fraction: u8, freqs: *const [u32; 10]) -> u64;
+    pub fn dizbaral_system_sheet(hz: u32, reading: u8, sheet: *mut u8, length: usize) -> u64;
+    pub fn dizbaral_plan_sheet(
+        plan: *const u32,
+        numbers: usize,
+        reading: u8,
+        sheet: *mut u8,
+        length: usize,
+    ) -> u64;
+    pub fn dizbaral_list(input_hz: u32, target_hz: u32, list: *mut u8, length: usize) -> u64;
+    pub fn dizbaral_run(runner: *mut [u32; 14], sheet: *const u8, length: usize, ready: bool) -> u64;
+}
+
+/// Refusal n is this and n.
+pub const REFUSAL: u64 = 1 << 48;
+
+/// The numbers given are of no plan or of no runner.
+pub const MALFORMED: u64 = 1 << 49;

@@ -1,0 +1,112 @@
+//! Sheets, the lister and the runner.
+
+use dizbaral::{PlanError, Progress, Refused, Runner, SHEET_BYTES, list, listed, plan_sheet, system_sheet};
+
+const MHZ: u32 = 1_000_000;
+
+/// The crystal preset as numbers.
+fn crystal() -> [u32; 48] {
+    let mut plan = [0; 48];
+    plan[..3].copy_from_slice(&[1, 6_500_000, 1]);
+    plan[11] = 16;
+    plan[12..25].copy_from_slice(&[1, 12 * MHZ, 128, 1, 1, 125, 6, 2, 1, 1, 120, 6, 5]);
+    plan[25] = 11;
+    plan[28..35].copy_from_slice(&[2, 1, 1, 1, 0, 1, 0]);
+    plan[35..].copy_from_slice(&[1, 0, 1, 0, 1, 0, 1, 0, 1, 0, 1024, 0, 0]);
+    plan
+}
+
+fn sheet_of(hz: u32) -> Vec<u8> {
+    let mut sheet = vec![0; SHEET_BYTES];
+    let length = system_sheet(hz, 11, &mut sheet).unwrap();
+    sheet.truncate(length);
+    sheet
+}
+
+#[test]
+fn crystal_preset_has_62_steps() {
+    let sheet = sheet_of(125 * MHZ);
+    assert_eq!(sheet.len(), 62 * 8);
+    // 1(0x0FBCDBF): kind in 6 bits, mask in 25.
+    assert_eq!(sheet[..8], (1u64 << 58 | 0x0FBCDBFu64 << 33).to_be_bytes());
+}
+
+#[test]
+fn a_plan_as_numbers_gives_the_same_sheet() {
+    let mut sheet = [0xEE; SHEET_BYTES];
+    assert_eq!(plan_sheet(&crystal(), 11, &mut sheet), Ok(496));
+    assert_eq!(sheet[..496], sheet_of(125 * MHZ));
+    assert_eq!(sheet[496..], [0xEE; SHEET_BYTES - 496]);
+}
+
+#[test]
+fn refusals_leave_the_buffer() {
+    let mut sheet = [0xEE; 495];
+    assert_eq!(system_sheet(125 * MHZ, 11, &mut sheet), Err(Refused(19)));
+    assert_eq!(system_sheet(125 * MHZ, 16, &mut sheet), Err(Refused(18)));
+    let mut plan = crystal();
+    plan[17] = 321;
+    assert_eq!(plan_sheet(&plan, 11, &mut sheet), Err(PlanError::Refused(5)));
+    plan[0] = 2;
+    assert_eq!(plan_sheet(&plan, 11, &mut sheet), Err(PlanError::NoPlan));
+    assert_eq!(sheet, [0xEE; 495]);
+}
+
+#[test]
+fn a_run_stores_the_ten_frequencies() {
+    let sheet = sheet_of(125 * MHZ);
+    let mut runner = Runner::new();
+    let mut released = 0;
+    loop {
+        match runner.poll(&sheet, true) {
+            Ok(Progress::Done) => break,
+            Ok(Progress::Handed(word)) if word >> 58 == 2 => {
+                released = (word >> 33 & 0x1FF_FFFF).count_ones()
+            }
+            Ok(Progress::Handed(_) | Progress::Passed) => {}
+            other => panic!("{other:?}"),
+        }
+    }
+    let stored: Vec<u32> = (0..10).map(|clock| runner.frequency(clock)).collect();
+    let expected = [
+        6_500_000,
+        12_000_000,
+        125_000_000,
+        48_000_000,
+        12_000_000,
+        125_000_000,
+        125_000_000,
+        48_000_000,
+        48_000_000,
+        46_875,
+    ];
+    assert_eq!(stored, expected);
+    assert_eq!(released, 25);
+}
+
+#[test]
+fn a_lock_times_out_at_the_millionth_poll() {
+    let sheet = (22u64 << 58).to_be_bytes();
+    let mut numbers = [0; 14];
+    numbers[1] = 999_998;
+    let mut runner = Runner::from_numbers(numbers).unwrap();
+    assert_eq!(runner.poll(&sheet, false), Ok(Progress::Waiting));
+    assert_eq!(runner.poll(&sheet, false), Err(Refused(22)));
+    assert_eq!(runner.numbers()[..4], [0, 999_999, 2, 1]);
+    assert_eq!(runner.poll(&sheet, true), Err(Refused(22)));
+    assert_eq!(Runner::from_numbers([2; 14]), None);
+}
+
+#[test]
+fn the_lister_lists_each_setting_once() {
+    let mut bytes = [0; 4880];
+    let length = list(12 * MHZ, 125 * MHZ, &mut bytes).unwrap();
+    let mut settings: Vec<_> = bytes[..length].chunks(2).map(|two| listed([two[0], two[1]])).collect();
+    assert!(settings.iter().all(|setting| setting.output_frequency(12 * MHZ) == Ok(125 * MHZ)));
+    assert!(settings.iter().all(|setting| setting.is_valid(12 * MHZ)));
+    settings.sort_by_key(|setting| (setting.fbdiv, setting.post_div1, setting.post_div2));
+    settings.dedup();
+    assert_eq!(settings.len() * 2, length);
+    assert_eq!(list(12 * MHZ, 125 * MHZ, &mut []), Err(Refused(19)));
+    assert_eq!(list(12 * MHZ, 1, &mut []), Ok(0));
+}

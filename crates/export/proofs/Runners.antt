@@ -1,0 +1,51 @@
+-- A runner as numbers: a store among its frequencies, its position, and the word that it hands out.
+-- Assumes nothing.
+use mathlib.Core.Bool.{Bool, true, false}
+use mathlib.Core.List.{List, _++_}
+use mathlib.Core.Path.{_≡_, refl, sym, ap, _∙_}
+use Prim.Native.Nat.{ℕ, _+_, _*_, _≤_}
+use native.Mathlib.Omega.{arith}
+use lib.ListN.{set, take, drop, take-append-drop}
+use lib.Seq.{take-set-le, drop-set-add}
+use Rattle.step.specs.Access.{wordAt}
+use Rattle.step.proofs.Accesses.{read-sound}
+use Rattle.runner.specs.declared.State.{State}
+use Rattle.runner.specs.Run.{Outcome, outside, turnOf}
+use Rattle.export.specs.Numbers.{numberOf}
+use Rattle.export.specs.Run.{withFreqs, progressNumber, progressWith}
+use Rattle.runner.proofs.Calls.{inside, call-outside, every-turn}
+
+-- a frequency stands behind the four numbers of the state
+pub set-behind : (ns : List ℕ) (i x : ℕ) → set ns (4 + i) x ≡ withFreqs (set (drop 4 ns) i x) ns
+unfolding withFreqs
+set-behind ns i x =
+    sym (take-append-drop 4 (set ns (4 + i) x))
+    ∙ ap (λ (front : List ℕ). front ++ drop 4 (set ns (4 + i) x)) (take-set-le 4 ns (4 + i) x (omega arith))
+    ∙ ap (λ (back : List ℕ). take 4 ns ++ back) (drop-set-add 4 ns i x)
+
+-- with the frequencies that they have they are the same numbers
+pub freqs-kept : (ns : List ℕ) → ns ≡ withFreqs (drop 4 ns) ns
+unfolding withFreqs
+freqs-kept ns = sym (take-append-drop 4 ns)
+
+-- a position that moved on still fits 32 bits: it was at most 65
+pub position-fits : (s : State) (sheet : List ℕ) (ready : Bool) → s .position ≤ 4294967295
+    → turnOf s sheet ready .next .position ≤ 4294967295
+position-fits s sheet ready h = go (outside s) refl
+  where
+    go : (b : Bool) → outside s ≡ b → turnOf s sheet ready .next .position ≤ 4294967295
+    go true o = rw (← call-outside s sheet ready o) h
+    go false o =
+        let small = inside s o .0 in
+        every-turn (λ (x : Outcome State). x .next .position ≤ 4294967295) s sheet ready (λ n. h) h
+        (omega (arith, small)) (λ polls. h) h (λ step e. omega (arith, small))
+
+-- a step that is handed out is the word that stands at the position
+pub turn-word : (s : State) (sheet : List ℕ) (ready : Bool)
+    → numberOf (progressWith (wordAt sheet (8 * s .position))) (turnOf s sheet ready .answer)
+    ≡ numberOf progressNumber (turnOf s sheet ready .answer)
+turn-word s sheet ready =
+    let word : ℕ = wordAt sheet (8 * s .position) in
+    every-turn
+    (λ (x : Outcome State). numberOf (progressWith word) (x .answer) ≡ numberOf progressNumber (x .answer)) s sheet ready
+    (λ n. refl) refl refl (λ polls. refl) refl (λ step e. sym (read-sound sheet (8 * s .position) step e .1))

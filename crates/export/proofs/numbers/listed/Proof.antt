@@ -1,0 +1,14 @@
+-- `export::numbers::listed` meets its contract.
+-- Assumes nothing.
+use borrow.Author.Needs.{needs}
+use Rattle.export.proofs.numbers.listed.Statement.{statement}
+use Rattle.export.proofs.numbers.listed.Tie as tie
+
+returns-2 : tie.Need-returns-2
+returns-2 c = rw (c .before .answer2 .given .1)
+
+pub listed-spec : {M : Type 1} → statement M
+listed-spec =
+    tie.close
+    (tie.spec (λ c. search needs) (λ c. search needs) (λ c. search needs) (λ c. search needs) (λ c. search needs)
+    returns-2)

@@ -1,0 +1,6 @@
+-- The definitions that the contracts cite.
+-- Assumes nothing.
+pub mod Numbers
+pub mod Sheet
+pub mod Listing
+pub mod Run

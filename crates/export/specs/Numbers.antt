@@ -1,0 +1,32 @@
+-- How an answer is one 64-bit number.
+-- Assumes nothing.
+use Prim.Native.Nat.{ℕ, _+_, _*_}
+use Rattle.base.specs.Answer.{Answer, value, refusal}
+use Rattle.pll.specs.declared.PllConfig.{PllConfig}
+use Rattle.voltage.specs.declared.CoreVoltage.{CoreVoltage}
+use Rattle.voltage.specs.Voltage.{codeOf, bodOf}
+
+-- a value as a number of its own, below 2 ^ 48; refusal n as 2 ^ 48 + n
+abbrev pub numberOf : {A : Type 0} → (A → ℕ) → Answer A → ℕ
+numberOf f (value v) = f v
+numberOf f (refusal n) = 281474976710656 + n
+
+-- 2 ^ 49: the numbers given are of no such thing as the call is about
+abbrev pub malformed : ℕ
+malformed = 562949953421312
+
+-- a frequency, a divider or a length stands for itself
+abbrev pub itself : ℕ → ℕ
+itself n = n
+
+-- a setting: reference divider, feedback divider (16 bits), post dividers (8 bits each)
+abbrev pub settingNumber : PllConfig → ℕ
+settingNumber c = (c .refdiv * 65536 + c .fbdiv) * 65536 + (c .«post_div1» * 256 + c .«post_div2»)
+
+-- a voltage: its code, and its brownout level (8 bits)
+abbrev pub voltageNumber : CoreVoltage → ℕ
+voltageNumber v = codeOf v * 256 + bodOf v
+
+-- a setting of four given dividers
+abbrev pub dividersAre : ℕ → ℕ → ℕ → ℕ → PllConfig
+dividersAre r fb p1 p2 = record { refdiv = r; fbdiv = fb; «post_div1» = p1; «post_div2» = p2 }

@@ -1,0 +1,66 @@
+-- The runner's call over a runner that is given as 14 numbers.
+-- Assumes nothing.
+use mathlib.Core.Bool.{Bool}
+use mathlib.Core.List.{List, _++_}
+use Prim.Native.Nat.{ℕ}
+use lib.Dec.{eqb, leb}
+use lib.ListN.{getD, set, take, drop}
+use Rattle.base.specs.Choice.{pick}
+use Rattle.step.specs.Steps.{packOf}
+use Rattle.runner.specs.declared.State.{State}
+use Rattle.runner.specs.declared.Runner.{Runner}
+use Rattle.runner.specs.Run.{Progress, done, handed, passed, waiting, Outcome, advanceOf}
+use Rattle.export.specs.Numbers.{numberOf, malformed}
+
+-- position, lock polls, total, stopped mark
+abbrev pub stateIn : List ℕ → State
+stateIn ns =
+    record {
+      position = getD ns 0 0;
+      «lock_polls» = getD ns 1 0;
+      total = getD ns 2 0;
+      stopped = eqb (getD ns 3 0) 1;
+    }
+
+-- then the ten frequencies
+abbrev pub runnerIn : List ℕ → Runner
+runnerIn ns = record { state = stateIn ns; freqs = drop 4 ns }
+
+-- a mark is 1 where it is set, else 0
+abbrev pub markOf : Bool → ℕ
+markOf stopped = pick stopped 1 0
+
+-- no other mark is a runner's
+abbrev pub isRunner : List ℕ → Bool
+isRunner ns = leb (getD ns 3 0) 1
+
+-- a step that is handed out is its word, which is not below 2 ^ 58
+abbrev pub progressNumber : Progress → ℕ
+progressNumber done = 0
+progressNumber passed = 1
+progressNumber waiting = 2
+progressNumber (handed step) = packOf step
+
+-- the same where the word is known
+abbrev pub progressWith : ℕ → Progress → ℕ
+progressWith word done = 0
+progressWith word passed = 1
+progressWith word waiting = 2
+progressWith word (handed step) = word
+
+-- the numbers with another state, and with other frequencies
+unfoldable pub withState : State → List ℕ → List ℕ
+withState s ns = set (set (set (set ns 0 (s .position)) 1 (s .«lock_polls»)) 2 (s .total)) 3 (markOf (s .stopped))
+
+unfoldable pub withFreqs : List ℕ → List ℕ → List ℕ
+withFreqs freqs ns = take 4 ns ++ freqs
+
+-- a call: its answer as a number, and the numbers after it; numbers of no runner stay as they are
+unfoldable pub runNumber : List ℕ → List ℕ → Bool → ℕ
+runNumber ns sheet ready =
+    pick (isRunner ns) (numberOf progressNumber (advanceOf (runnerIn ns) sheet ready .answer)) malformed
+
+unfoldable pub runLeaves : List ℕ → List ℕ → Bool → List ℕ
+runLeaves ns sheet ready =
+    let next = advanceOf (runnerIn ns) sheet ready .next in
+    pick (isRunner ns) (withState (next .state) (withFreqs (next .freqs) ns)) ns

@@ -1,0 +1,142 @@
+// The product for programs in C and Rust: numbers and slices alone. Each answer is one number, by specs/Numbers.
+mod numbers;
+mod run;
+
+use config::ClockConfig;
+use config::Planned;
+use plans::PlanRead;
+use pll::PllConfig;
+ghost use mathlib.Core.Path.{_≡_};
+ghost use Rattle.voltage.specs.Voltage.{coreVoltageOf};
+ghost use Rattle.divider.specs.Gpout.{gpoutOf};
+ghost use Rattle.divider.specs.Pio.{pioOf};
+ghost use Rattle.pll.specs.Setting.{validOf, outputOf};
+ghost use Rattle.pll.specs.Search.{searchOf};
+ghost use Rattle.config.specs.Presets.{plannedIs, systemPlan};
+ghost use Rattle.plans.specs.Plan.{planOf};
+ghost use Rattle.export.specs.Numbers.{numberOf, itself, settingNumber, voltageNumber, dividersAre};
+ghost use Rattle.export.specs.Sheet.{SheetCall, PlanSheetCall};
+ghost use Rattle.export.specs.Listing.{ListCall};
+ghost use Rattle.export.specs.Run.{runNumber, runLeaves};
+
+#[no_mangle]
+pub extern "C" fn dizbaral_search(input_hz: u32, target_hz: u32) -> u64
+    ensures { λ r. ⌜ r ≡ numberOf settingNumber (searchOf «input_hz» «target_hz») ⌝ }
+{
+    numbers::found(pll::find_pll_params(input_hz, target_hz))
+}
+
+#[no_mangle]
+pub extern "C" fn dizbaral_is_valid(
+    input_hz: u32,
+    refdiv: u8,
+    fbdiv: u16,
+    post_div1: u8,
+    post_div2: u8,
+) -> bool
+    ensures { λ r. ⌜ r ≡ validOf (dividersAre refdiv fbdiv «post_div1» «post_div2») «input_hz» ⌝ }
+{
+    let setting = PllConfig {
+        refdiv,
+        fbdiv,
+        post_div1,
+        post_div2,
+    };
+    setting.is_valid(input_hz)
+}
+
+#[no_mangle]
+pub extern "C" fn dizbaral_output_frequency(
+    input_hz: u32,
+    refdiv: u8,
+    fbdiv: u16,
+    post_div1: u8,
+    post_div2: u8,
+) -> u64
+    ensures { λ r. ⌜ r ≡ numberOf itself (outputOf (dividersAre refdiv fbdiv «post_div1» «post_div2») «input_hz») ⌝ }
+{
+    let setting = PllConfig {
+        refdiv,
+        fbdiv,
+        post_div1,
+        post_div2,
+    };
+    numbers::output(setting.output_frequency(input_hz))
+}
+
+#[no_mangle]
+pub extern "C" fn dizbaral_core_voltage(reading: u8) -> u64
+    ensures { λ r. ⌜ r ≡ numberOf voltageNumber (coreVoltageOf reading) ⌝ }
+{
+    numbers::voltage_read(voltage::core_voltage(reading))
+}
+
+#[no_mangle]
+pub extern "C" fn dizbaral_pio_divider(sys_hz: u32, target_hz: u32) -> u64
+    ensures { λ r. ⌜ r ≡ numberOf itself (pioOf «sys_hz» «target_hz») ⌝ }
+{
+    numbers::divided(divider::calculate_pio_clock_divider_value(sys_hz, target_hz))
+}
+
+#[no_mangle]
+pub extern "C" fn dizbaral_gpout_frequency(
+    source: u8,
+    whole: u32,
+    fraction: u8,
+    freqs: &[u32; 10],
+) -> u64
+    ensures { λ r. ⌜ r ≡ numberOf itself (gpoutOf source whole fraction (now (freqs .entry))) ⌝ }
+{
+    numbers::divided(divider::get_freq(source, whole, fraction, freqs))
+}
+
+fn write_planned(plan: Planned, reading: u8, sheet: &mut [u8]) -> u64
+    ensures { λ r. ⌜ SheetCall (plannedIs plan) reading (now (sheet .entry)) r (now (sheet .exit)) ⌝ }
+{
+    match plan {
+        Planned::Plan(config) => numbers::written(sheet::init(config, reading, sheet)),
+        Planned::Refused(number) => numbers::refused(number),
+    }
+}
+
+#[no_mangle]
+pub extern "C" fn dizbaral_system_sheet(hz: u32, reading: u8, sheet: &mut [u8]) -> u64
+    ensures { λ r. ⌜ SheetCall (systemPlan hz) reading (now (sheet .entry)) r (now (sheet .exit)) ⌝ }
+{
+    write_planned(ClockConfig::system_freq(hz), reading, sheet)
+}
+
+#[no_mangle]
+pub extern "C" fn dizbaral_plan_sheet(plan: &[u32], reading: u8, sheet: &mut [u8]) -> u64
+    ensures { λ r. ⌜ PlanSheetCall (planOf (now (plan .entry))) reading (now (sheet .entry)) r (now (sheet .exit)) ⌝ }
+{
+    match plans::plan(plan) {
+        PlanRead::Plan(config) => numbers::written(sheet::init(config, reading, sheet)),
+        PlanRead::Bad => numbers::MALFORMED,
+    }
+}
+
+#[no_mangle]
+pub extern "C" fn dizbaral_list(input_hz: u32, target_hz: u32, list: &mut [u8]) -> u64
+    ensures { λ r. ⌜ ListCall «input_hz» «target_hz» (now (list .entry)) r (now (list .exit)) ⌝ }
+{
+    numbers::listed(lister::list_exact(input_hz, target_hz, list))
+}
+
+#[no_mangle]
+pub extern "C" fn dizbaral_run(runner: &mut [u32; 14], sheet: &[u8], ready: bool) -> u64
+    ensures { λ r. ⌜ r ≡ runNumber (now (runner .entry)) (now (sheet .entry)) ready ⌝ }
+    ensures { λ _. ⌜ now (runner .exit) ≡ runLeaves (now (runner .entry)) (now (sheet .entry)) ready ⌝ }
+{
+    if 1 < runner[3] {
+        return numbers::MALFORMED;
+    }
+    let before = run::state(runner);
+    let word = step::word(sheet, 8 * before.position);
+    let t = runner::turn(before, sheet, ready);
+    let after = t.state;
+    let reply = t.reply;
+    let number = run::answer(runner, reply, word);
+    run::put_state(runner, after);
+    number
+}

@@ -1,0 +1,76 @@
+// A runner as 14 numbers: position, lock polls, total, stopped mark, ten frequencies.
+use crate::numbers;
+use runner::Reply;
+use runner::State;
+use step::Step;
+ghost use mathlib.Core.Path.{_≡_};
+ghost use Prim.Native.Nat.{_≤_};
+ghost use lib.ListN.{drop};
+ghost use Rattle.step.specs.Steps.{WellFormed};
+ghost use Rattle.runner.specs.Run.{replyIs, HandsFormed, storedBy, freqsAfter};
+ghost use Rattle.export.specs.Numbers.{numberOf};
+ghost use Rattle.export.specs.Run.{stateIn, markOf, withState, withFreqs, progressWith};
+
+// The same number, which fits 32 bits.
+fn wide(x: u32) -> usize
+    ensures { λ r. ⌜ (r ≡ x) × (r ≤ 4294967295) ⌝ }
+{
+    x as usize
+}
+
+pub(crate) fn state(numbers: &[u32; 14]) -> State
+    ensures { λ r. ⌜ (r ≡ stateIn (now (numbers .entry))) × (r .position ≤ 4294967295) ⌝ }
+{
+    State {
+        position: wide(numbers[0]),
+        lock_polls: numbers[1],
+        total: numbers[2],
+        stopped: numbers[3] == 1,
+    }
+}
+
+// The number of a mark.
+fn mark(stopped: bool) -> u32
+    ensures { λ r. ⌜ r ≡ markOf stopped ⌝ }
+{
+    if stopped { 1 } else { 0 }
+}
+
+pub(crate) fn put_state(numbers: &mut [u32; 14], s: State)
+    requires { ⌜ s .position ≤ 4294967295 ⌝ }
+    ensures { λ _. ⌜ now (numbers .exit) ≡ withState s (now (numbers .entry)) ⌝ }
+{
+    numbers[0] = s.position as u32;
+    numbers[1] = s.lock_polls;
+    numbers[2] = s.total;
+    numbers[3] = mark(s.stopped);
+}
+
+// A store sets its clock's frequency.
+fn put_store(numbers: &mut [u32; 14], step: Step)
+    requires { ⌜ WellFormed step ⌝ }
+    ensures { λ _. ⌜ now (numbers .exit) ≡ withFreqs (storedBy step (drop 4 (now (numbers .entry)))) (now (numbers .entry)) ⌝ }
+{
+    if step.kind != 37 {
+        return;
+    }
+    let clock = step.f0 as usize;
+    numbers[4 + clock] = step.f1 as u32;
+}
+
+// The number of a reply at a word of the sheet; a store that is handed out sets its frequency.
+pub(crate) fn answer(numbers: &mut [u32; 14], reply: Reply, word: u64) -> u64
+    requires { ⌜ HandsFormed (replyIs reply) ⌝ }
+    ensures { λ r. ⌜ (r ≡ numberOf (progressWith word) (replyIs reply)) × (now (numbers .exit) ≡ withFreqs (freqsAfter (replyIs reply) (drop 4 (now (numbers .entry)))) (now (numbers .entry))) ⌝ }
+{
+    match reply {
+        Reply::Done => 0,
+        Reply::Handed(step) => {
+            put_store(numbers, step);
+            word
+        }
+        Reply::Passed => 1,
+        Reply::Waiting => 2,
+        Reply::Refused(number) => numbers::refused(number),
+    }
+}

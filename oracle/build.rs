@@ -1,0 +1,74 @@
+//! Reads the published sources, cuts out what is not compared, and replaces `use` lines.
+//!
+//! Only whole lines are taken out or replaced; every function that stays, stays word for word.
+
+use std::path::{Path, PathBuf};
+use std::{env, fs};
+
+const FOLDER: &str = "EMBASSY_RP";
+const DEFAULT_FOLDER: &str = "../../shared/docs/src";
+
+/// From the line with the first text up to the line with the second one (or the end) is taken out.
+const CUTS: [(&str, Option<&str>); 2] = [
+    // gpin
+    ("General purpose input", Some("clock output pin")),
+    // random numbers and dormant sleep
+    ("RANDOMBIT", None),
+];
+
+/// The line with the first text becomes the second one.
+const CLOCKS_USES: [(&str, &str); 6] = [
+    ("use core::arch", ""),
+    ("use core::marker", ""),
+    ("atomic::AtomicU16", "use crate::atomics::AtomicU16;"),
+    ("atomic::{AtomicU32", "use crate::{atomics::{AtomicU32, Ordering}, cortex_m};"),
+    ("use crate::gpio", "use crate::gpio::SealedPin;"),
+    ("use crate::pac::common", ""),
+];
+
+const DIVIDER_USES: [(&str, &str); 1] = [("use fixed", "use crate::fixed::{self, types::extra::U8};")];
+
+fn main() {
+    println!("cargo::rerun-if-env-changed={FOLDER}");
+    println!("cargo::rerun-if-changed=build.rs");
+    println!("cargo::rustc-check-cfg=cfg(feature, values(\"_rp235x\", \"defmt\"))");
+
+    let here = PathBuf::from(env::var("CARGO_MANIFEST_DIR").unwrap());
+    let folder = match env::var(FOLDER) {
+        Ok(given) => PathBuf::from(given),
+        Err(_) => here.join(DEFAULT_FOLDER),
+    };
+    let out = PathBuf::from(env::var("OUT_DIR").unwrap());
+    prepare(&folder, "src/clocks.rs", &CUTS, &CLOCKS_USES, &out.join("clocks.rs"));
+    prepare(&folder, "src/reset.rs", &[], &[], &out.join("reset.rs"));
+    let divider = "src/pio_programs/clock_divider.rs";
+    prepare(&folder, divider, &[], &DIVIDER_USES, &out.join("clock_divider.rs"));
+}
+
+fn prepare(folder: &Path, name: &str, cuts: &[(&str, Option<&str>)], uses: &[(&str, &str)], out: &Path) {
+    let path = folder.join(name);
+    println!("cargo::rerun-if-changed={}", path.display());
+    let text = fs::read_to_string(&path)
+        .unwrap_or_else(|e| panic!("{}: {e}; set {FOLDER} to the folder of embassy-rp", path.display()));
+    // A file that is included has no inner documentation.
+    let mut lines: Vec<&str> = text.lines().filter(|line| !line.starts_with("//!")).collect();
+    for (first, next) in cuts {
+        let start = only(&lines, first, &path);
+        let end = next.map_or(lines.len(), |next| only(&lines, next, &path));
+        lines.drain(start..end);
+    }
+    for (old, new) in uses {
+        let at = only(&lines, old, &path);
+        lines[at] = new;
+    }
+    fs::write(out, lines.join("\n") + "\n").unwrap();
+}
+
+/// The number of the one line with this text in it.
+fn only(lines: &[&str], text: &str, path: &Path) -> usize {
+    let mut found = lines.iter().enumerate().filter(|(_, line)| line.contains(text));
+    match (found.next(), found.next()) {
+        (Some((at, _)), None) => at,
+        _ => panic!("{}: `{text}` does not stand there in exactly one line", path.display()),
+    }
+}

@@ -1,0 +1,175 @@
+//! Holds another program's answers against the published code, and sorts what differs.
+
+use std::collections::BTreeMap;
+use std::io::{self, Read, Write};
+use std::process::{Command, Stdio};
+
+use crate::answer::{Answer, answer};
+use crate::case::{Case, Kind, PLAN, at};
+use crate::generate;
+
+/// Cases a run of the program gets at once.
+const BATCH: usize = 20_000;
+const SHOWN_FINDINGS: usize = 20;
+
+/// How two answers go together: agreement, or a difference that document 01 lists.
+#[derive(Clone, Copy, Debug, PartialEq, Eq, PartialOrd, Ord)]
+pub enum Class {
+    Same,
+    /// The step holds 16 bits of the ring divider, the register 12.
+    SameRingDivider,
+    /// Both say it is no case.
+    NoCase,
+    /// Refused with this number where the Rust panics.
+    Panics(u8),
+    /// Refused with this number where the Rust loses bits.
+    Loses(u8),
+    /// The buffer is too short: the Rust has none.
+    Room,
+    ExactVco,
+    PioShift,
+    GpoutWhole0,
+}
+
+impl Class {
+    pub fn text(self) -> String {
+        match self {
+            Class::Same => "same answer".to_string(),
+            Class::SameRingDivider => "same answer, ring divider over the register's 12 bits".to_string(),
+            Class::NoCase => "no case on both sides".to_string(),
+            Class::Panics(number) => format!("refused {number}, the Rust panics"),
+            Class::Loses(number) => format!("refused {number}, the Rust loses bits"),
+            Class::Room => "refused 19, no counterpart: the Rust has no buffer".to_string(),
+            Class::ExactVco => "not valid by the exact VCO, the Rust's product overflows".to_string(),
+            Class::PioShift => "PIO value, the Rust's shifts lose bits".to_string(),
+            Class::GpoutWhole0 => "Gpout whole part 0 is 65536, the Rust takes 65535".to_string(),
+        }
+    }
+}
+
+/// The class of an answer of ours beside the Rust's; nothing where it is a finding.
+pub fn class(case: &Case, rust: &Answer, ours: &str) -> Option<Class> {
+    let refused: Option<u8> = ours.strip_prefix("refused ").and_then(|number| number.parse().ok());
+    match (rust, refused) {
+        (Answer::Sheet(steps), _) if case.room() < steps.len() * 8 => {
+            (refused == Some(19)).then_some(Class::Room)
+        }
+        (Answer::Panic(_), None) => (exact_vco(case) && ours == "no").then_some(Class::ExactVco),
+        (Answer::Panic(refusals), Some(number)) => {
+            refusals.contains(&number).then_some(Class::Panics(number))
+        }
+        (Answer::Drops(_), None) => (pio_value(case)? == ours).then_some(Class::PioShift),
+        (Answer::Drops(number), Some(refused)) => {
+            (refused == *number && pio_value(case).is_none()).then_some(Class::Loses(refused))
+        }
+        (Answer::Says(says), _) if gpout_whole_0(case) && gpout_value(case) != *says => {
+            (gpout_value(case) == ours).then_some(Class::GpoutWhole0)
+        }
+        (Answer::Unknown(_) | Answer::NoCounterpart, _) => None,
+        _ if rust.to_string() != ours => None,
+        _ if ring_divider(case) => Some(Class::SameRingDivider),
+        _ => Some(Class::Same),
+    }
+}
+
+/// Over what the datasheet's field holds, 0xAA0 included.
+pub fn ring_divider(case: &Case) -> bool {
+    case.kind == Kind::Sheet && case.numbers[PLAN + at::RING + 11] > 0xfff - 0xaa0
+}
+
+fn exact_vco(case: &Case) -> bool {
+    let n = &case.numbers;
+    case.kind == Kind::Valid && (n[0] / n[1]) as u64 * n[2] as u64 > u32::MAX as u64
+}
+
+/// Document 01's value, where there is one.
+fn pio_value(case: &Case) -> Option<String> {
+    if case.kind != Kind::Pio || case.numbers[1] == 0 {
+        return None;
+    }
+    let value = case.numbers[0] as u64 * 256 / case.numbers[1] as u64;
+    (256..=16_777_215).contains(&value).then(|| value.to_string())
+}
+
+pub fn gpout_whole_0(case: &Case) -> bool {
+    case.kind == Kind::Gpout && case.numbers[1] == 0
+}
+
+/// Document 01's value for a whole part of 0.
+fn gpout_value(case: &Case) -> String {
+    let n = &case.numbers;
+    // The clock's number of each source.
+    let clock = match n[0] {
+        0 => 2,
+        3 => 3,
+        4 => 0,
+        5 => 1,
+        6 => 5,
+        7 => 7,
+        8 => 8,
+        _ => 4,
+    };
+    (n[3 + clock] as u64 * 256 / (65_536 * 256 + n[2] as u64)).to_string()
+}
+
+/// Compares, prints the counts by class, and says whether there was no finding.
+pub fn compare(seed: u64, count: usize, program: &str) -> io::Result<bool> {
+    let mut counts: BTreeMap<Class, u64> = BTreeMap::new();
+    let mut findings = 0;
+    let mut lines = generate::lines(seed, count);
+    loop {
+        let batch: Vec<String> = lines.by_ref().take(BATCH).collect();
+        if batch.is_empty() {
+            break;
+        }
+        let theirs = ask(program, &batch)?;
+        let ours: Vec<&str> = theirs.split_terminator('\n').collect();
+        if ours.len() != batch.len() {
+            println!("finding: {} answers to {} cases", ours.len(), batch.len());
+            println!("  first without one: {}", batch.get(ours.len()).map_or("-", String::as_str));
+            return Ok(false);
+        }
+        for (line, ours) in batch.iter().zip(ours) {
+            let (rust, class) = match Case::parse(line) {
+                None => ("bad case".to_string(), (ours == "bad case").then_some(Class::NoCase)),
+                Some(case) => {
+                    let rust = answer(&case);
+                    let class = class(&case, &rust, ours);
+                    (if class.is_none() { rust.to_string() } else { String::new() }, class)
+                }
+            };
+            match class {
+                Some(class) => *counts.entry(class).or_default() += 1,
+                None => {
+                    findings += 1;
+                    if findings <= SHOWN_FINDINGS {
+                        println!("finding: {line}\n  program: {ours}\n  Rust:    {rust}");
+                    }
+                }
+            }
+        }
+    }
+    for (class, count) in &counts {
+        println!("{count:>9}  {}", class.text());
+    }
+    println!("{findings:>9}  findings");
+    Ok(findings == 0)
+}
+
+/// The program's output for these lines.
+fn ask(program: &str, lines: &[String]) -> io::Result<String> {
+    let mut child = Command::new(program).stdin(Stdio::piped()).stdout(Stdio::piped()).spawn()?;
+    let mut input = child.stdin.take().unwrap();
+    let mut output = child.stdout.take().unwrap();
+    let text = lines.join("\n") + "\n";
+    let writer = std::thread::spawn(move || input.write_all(text.as_bytes()));
+    let mut answers = Vec::new();
+    output.read_to_end(&mut answers)?;
+    // A program that stops early is seen by its missing answers.
+    let _ = writer.join();
+    let status = child.wait()?;
+    if !status.success() {
+        println!("{program} ends with {status}");
+    }
+    Ok(String::from_utf8_lossy(&answers).into_owned())
+}

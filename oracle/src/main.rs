@@ -1,0 +1,96 @@
+//! The published Rust of embassy-rp's clocks, run over a stand-in that records what it does.
+
+mod answer;
+mod case;
+mod compare;
+mod cuts;
+mod generate;
+mod limits;
+mod pac;
+mod panics;
+mod plan;
+mod random;
+mod random_plan;
+mod recorder;
+mod replay;
+mod standins;
+mod steps;
+#[cfg(test)]
+mod tests;
+
+use std::io::{self, BufRead, BufWriter, Write};
+use std::path::Path;
+use std::process::ExitCode;
+
+// What the published code finds at its crate's root.
+use standins::{Peri, atomics, cortex_m, fixed, gpio, peripherals};
+
+#[allow(dead_code, unused_imports)]
+mod clocks;
+
+mod reset {
+    include!(concat!(env!("OUT_DIR"), "/reset.rs"));
+}
+
+mod pio_programs {
+    #[allow(dead_code)]
+    pub mod clock_divider {
+        include!(concat!(env!("OUT_DIR"), "/clock_divider.rs"));
+    }
+}
+
+const USAGE: &str = "oracle answer
+oracle cases SEED N
+oracle compare SEED N PROGRAM
+oracle replay SEED N FOLDER";
+
+fn main() -> ExitCode {
+    panics::install();
+    let words: Vec<String> = std::env::args().skip(1).collect();
+    let words: Vec<&str> = words.iter().map(String::as_str).collect();
+    let done = match words[..] {
+        ["answer"] => answer_all(),
+        ["cases", seed, count] => number(seed).zip(number(count)).map_or(usage(), |(seed, n)| cases(seed, n)),
+        ["compare", seed, count, program] => number(seed)
+            .zip(number(count))
+            .map_or(usage(), |(seed, n)| compare::compare(seed, n as usize, program)),
+        ["replay", seed, count, folder] => number(seed)
+            .zip(number(count))
+            .map_or(usage(), |(seed, n)| replay::replay(seed, n as usize, Path::new(folder))),
+        _ => usage(),
+    };
+    match done {
+        Ok(true) => ExitCode::SUCCESS,
+        Ok(false) => ExitCode::FAILURE,
+        Err(error) => {
+            eprintln!("{error}");
+            ExitCode::from(2)
+        }
+    }
+}
+
+fn usage() -> io::Result<bool> {
+    Err(io::Error::new(io::ErrorKind::InvalidInput, USAGE))
+}
+
+fn number(word: &str) -> Option<u64> {
+    word.parse().ok()
+}
+
+fn answer_all() -> io::Result<bool> {
+    let mut out = BufWriter::new(io::stdout().lock());
+    for line in io::stdin().lock().split(b'\n') {
+        writeln!(out, "{}", answer::answer_line(&String::from_utf8_lossy(&line?)))?;
+    }
+    out.flush()?;
+    Ok(true)
+}
+
+fn cases(seed: u64, count: u64) -> io::Result<bool> {
+    let mut out = BufWriter::new(io::stdout().lock());
+    for line in generate::lines(seed, count as usize) {
+        writeln!(out, "{line}")?;
+    }
+    out.flush()?;
+    Ok(true)
+}

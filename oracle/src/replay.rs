@@ -1,0 +1,67 @@
+//! Writes cases and the Rust's answers to them, for a program to be tested without the Rust.
+
+use std::collections::BTreeMap;
+use std::fs;
+use std::io;
+use std::path::Path;
+
+use crate::answer::{Answer, answer};
+use crate::case::Case;
+use crate::compare::{gpout_whole_0, ring_divider};
+use crate::generate;
+
+/// Why a case is left out; nothing where it stays.
+fn left_out(case: &Case, rust: &Answer) -> Option<String> {
+    Some(match rust {
+        Answer::Panic(refusals) if refusals.is_empty() => {
+            "the Rust panics, the VCO's product overflows".to_string()
+        }
+        Answer::Panic(refusals) => format!("the Rust panics, refusal {}", either(refusals)),
+        Answer::Drops(number) => format!("the Rust loses bits, refusal {number}"),
+        Answer::Sheet(steps) if case.room() < steps.len() * 8 => {
+            "buffer too short, no counterpart".to_string()
+        }
+        Answer::Sheet(_) if ring_divider(case) => "ring divider over the register's 12 bits".to_string(),
+        Answer::Says(_) if gpout_whole_0(case) => "Gpout whole part 0".to_string(),
+        _ => return None,
+    })
+}
+
+fn either(numbers: &[u8]) -> String {
+    numbers.iter().map(u8::to_string).collect::<Vec<_>>().join(" or ")
+}
+
+/// Says whether the stand-in knew everything.
+pub fn replay(seed: u64, count: usize, folder: &Path) -> io::Result<bool> {
+    let mut counts: BTreeMap<String, u64> = BTreeMap::new();
+    let (mut cases, mut answers) = (String::new(), String::new());
+    let mut known = true;
+    let mut kept = 0;
+    for line in generate::lines(seed, count) {
+        let Some(case) = Case::parse(&line) else {
+            *counts.entry("no case".to_string()).or_default() += 1;
+            continue;
+        };
+        let rust = answer(&case);
+        if let Answer::Unknown(what) = &rust {
+            eprintln!("unknown {what}: {line}");
+            known = false;
+        }
+        match left_out(&case, &rust) {
+            Some(class) => *counts.entry(class).or_default() += 1,
+            None => {
+                kept += 1;
+                cases += &(line + "\n");
+                answers += &(rust.to_string() + "\n");
+            }
+        }
+    }
+    fs::create_dir_all(folder)?;
+    fs::write(folder.join("stdin"), cases)?;
+    fs::write(folder.join("stdout"), answers)?;
+    eprintln!("{kept:>9}  written");
+    for (class, count) in counts {
+        eprintln!("{count:>9}  left out, {class}");
+    }
+    Ok(known)
+}

@@ -1,0 +1,182 @@
+//! The worked values of document 01, and that the stand-in says what it does not know.
+
+use std::sync::{Mutex, MutexGuard, PoisonError};
+
+use crate::answer::{Answer, answer, answer_line};
+use crate::case::Case;
+use crate::compare::{Class, class};
+use crate::cortex_m::asm::delay;
+use crate::generate;
+use crate::pac::values::clocks::{ClkRefCtrlAuxsrc, ClkRefCtrlSrc, ClkSysCtrlSrc};
+use crate::pac::{self, fields};
+use crate::recorder::{self, Record};
+use crate::reset;
+
+/// The ten frequencies are shared: tests that run the published code come one after another.
+fn alone() -> MutexGuard<'static, ()> {
+    static ALONE: Mutex<()> = Mutex::new(());
+    ALONE.lock().unwrap_or_else(PoisonError::into_inner)
+}
+
+fn record(code: impl FnOnce()) -> Record {
+    recorder::start(11);
+    let _ = std::panic::catch_unwind(std::panic::AssertUnwindSafe(code));
+    recorder::finish()
+}
+
+fn kinds(record: &Record) -> Vec<u8> {
+    record.steps.iter().map(|step| step.kind).collect()
+}
+
+#[test]
+fn worked_values() {
+    let _alone = alone();
+    let rows = [
+        ("search 12000000 125000000", "1 125 6 2"),
+        ("search 12000000 133000001", "1 133 6 2"),
+        ("search 12000000 200000000", "1 100 6 1"),
+        ("search 12000000 0", "1 63 7 7"),
+        ("search 2343749 125000000", "refused 15"),
+        ("search 100000001 125000000", "refused 15"),
+        ("valid 5000000 1 150 1 1", "yes"),
+        ("valid 5000000 1 149 1 1", "no"),
+        // Document 01's differences.
+        ("valid 50000000 1 106 1 1", "panic"),
+        ("gpout 0 0 0 0 0 131070000 0 0 0 0 0 0 0", "2000"),
+        ("pio 125000000 100000000", "drops 17"),
+        ("pio 124999999 125000000", "panic"),
+        ("default 11 520", "panic"),
+        ("voltage 5", "refused 18"),
+        ("voltage 6", "6 5"),
+    ];
+    for (case, answer) in rows {
+        assert_eq!(answer_line(case), answer, "{case}");
+    }
+}
+
+#[test]
+fn crystal_preset_has_62_steps() {
+    let _alone = alone();
+    let sheet = answer_line("crystal 11 520 12000000");
+    assert!(sheet.starts_with("496 05f79b7e00000000"));
+    // Startup delay 6000, then the RTC at 46875 Hz and the release of all 25.
+    assert!(sheet.contains(&format!("{:016x}", 16u64 << 58 | 6000u64 << 44)));
+    assert!(sheet.ends_with(&format!(
+        "{:016x}{:016x}{:016x}",
+        37u64 << 58 | 9u64 << 54 | 46_875u64 << 22,
+        2u64 << 58 | 0x1ff_ffffu64 << 33,
+        3u64 << 58 | 0x1ff_ffffu64 << 33
+    )));
+}
+
+#[test]
+fn stored_values_of_125_mhz() {
+    let _alone = alone();
+    let Answer::Sheet(steps) = answer(&Case::parse("system 11 520 125000000").unwrap()) else {
+        panic!("no sheet");
+    };
+    let stored: Vec<(u32, u32)> = steps.iter().filter_map(|step| step.stored()).collect();
+    let hz = [6_500_000, 12_000_000, 125_000_000, 48_000_000, 12_000_000];
+    let more = [125_000_000, 125_000_000, 48_000_000, 48_000_000, 46_875];
+    assert_eq!(stored, (0..10).zip(hz.into_iter().chain(more)).collect::<Vec<_>>());
+}
+
+#[test]
+fn differences_and_findings() {
+    let _alone = alone();
+    let class = |case: &str, ours: &str| {
+        let case = Case::parse(case).unwrap();
+        class(&case, &answer(&case), ours)
+    };
+    let (pio, gpout) = ("pio 125000000 100000000", "gpout 0 0 0 0 0 131070000 0 0 0 0 0 0 0");
+    let rows = [
+        (pio, "320", Some(Class::PioShift)),
+        (pio, "refused 17", None),
+        ("pio 16777217 1", "refused 17", Some(Class::Loses(17))),
+        ("pio 1 0", "refused 17", Some(Class::Panics(17))),
+        (gpout, "1999", Some(Class::GpoutWhole0)),
+        (gpout, "2000", None),
+        ("valid 50000000 1 106 1 1", "no", Some(Class::ExactVco)),
+        ("valid 50000000 1 106 1 1", "yes", None),
+        ("crystal 11 495 12000000", "refused 19", Some(Class::Room)),
+        ("crystal 11 496 12000000", "refused 19", None),
+        ("crystal 16 520 12000000", "refused 18", Some(Class::Loses(18))),
+        ("default 11 520", "refused 8", Some(Class::Panics(8))),
+        ("default 11 520", "refused 9", None),
+        ("voltage 5", "refused 18", Some(Class::Same)),
+        ("voltage 16", "0 4", None),
+    ];
+    for (case, ours, expected) in rows {
+        assert_eq!(class(case, ours), expected, "{case}: {ours}");
+    }
+}
+
+#[test]
+fn no_cases() {
+    let lines = ["", " ", "valid", "valid 1 1 1 1", "valid 1 1 1 1 1 1", "valid 1 256 1 1 1", "pio +1 1"];
+    for line in lines.into_iter().chain(["pio  1 1", "pio 1 1 ", "rosc 11 1025", "manual 11 520 1 1 1 1 1 5"])
+    {
+        assert_eq!(answer_line(line), "bad case", "{line}");
+    }
+    assert_eq!(answer_line("list 12000000 125000000 1024"), "no counterpart");
+    assert_eq!(answer_line("run 0 0 0 0 0 0 0 0 0 0 0 0 0 0 0 -"), "no counterpart");
+}
+
+#[test]
+fn generated_lines_are_the_same_for_a_seed() {
+    let lines = |seed| generate::lines(seed, 20_000).collect::<Vec<_>>();
+    assert_eq!(lines(1), lines(1));
+    assert_ne!(lines(1), lines(2));
+    let cases = lines(1).iter().filter(|line| Case::parse(line).is_some()).count();
+    assert!(cases > 19_000);
+}
+
+#[test]
+fn a_release_clears_its_mask_alone() {
+    let done = record(|| reset::unreset_wait(fields::Peripherals(0x3000)));
+    assert_eq!((kinds(&done), done.unknown), (vec![2, 3], None));
+    let words: Vec<u64> = done.steps.iter().map(|step| step.word).collect();
+    assert_eq!(words, [2u64 << 58 | 0x3000 << 33, 3u64 << 58 | 0x3000 << 33]);
+}
+
+#[test]
+fn a_wait_for_more_or_less_is_said() {
+    let release = || pac::RESETS.reset().modify(|w| *w = fields::Peripherals(w.0 & !0x3000));
+    let less = record(|| {
+        release();
+        while !pac::RESETS.reset_done().read().0 & 0x1000 != 0 {}
+        delay(1);
+    });
+    assert!(less.unknown.is_some());
+    let more = record(|| {
+        release();
+        while !pac::RESETS.reset_done().read().0 & 0x7000 != 0 {}
+    });
+    assert!(more.unknown.is_some());
+    let other = record(|| {
+        pac::CLOCKS.clk_sys_ctrl().modify(|w| w.set_src(ClkSysCtrlSrc::CLK_REF));
+        while pac::CLOCKS.clk_sys_selected().read() != 2 {}
+    });
+    assert!(other.unknown.is_some());
+    let none = record(|| {
+        pac::XOSC.status().read();
+    });
+    assert!(none.unknown.is_some());
+}
+
+#[test]
+fn a_write_that_is_no_step_is_said() {
+    let aux = record(|| pac::CLOCKS.clk_ref_ctrl().write(|w| w.set_auxsrc(ClkRefCtrlAuxsrc::CLKSRC_GPIN0)));
+    assert!(aux.unknown.is_some());
+    let both = record(|| {
+        pac::CLOCKS.clk_ref_ctrl().modify(|w| {
+            w.set_src(ClkRefCtrlSrc::XOSC_CLKSRC);
+            w.set_auxsrc(ClkRefCtrlAuxsrc::CLKSRC_PLL_USB);
+        });
+    });
+    assert!(both.unknown.is_some());
+    let disabled = record(|| pac::WATCHDOG.tick().write(|w| w.set_cycles(12)));
+    assert!(disabled.unknown.is_some());
+    let lost = record(|| pac::WATCHDOG.tick().write(|w| w.set_cycles(512)));
+    assert_eq!(lost.lost, Some(8));
+}
