@@ -6,7 +6,7 @@ use std::path::{Path, PathBuf};
 use std::{env, fs};
 
 const FOLDER: &str = "EMBASSY_RP";
-const DEFAULT_FOLDER: &str = "../../shared/docs/src";
+const FOLDER_IS: &str = "the folder of embassy-rp 0.10.0, the one that holds src/clocks.rs";
 
 /// From the line with the first text up to the line with the second one (or the end) is taken out.
 const CUTS: [(&str, Option<&str>); 2] = [
@@ -33,42 +33,56 @@ fn main() {
     println!("cargo::rerun-if-changed=build.rs");
     println!("cargo::rustc-check-cfg=cfg(feature, values(\"_rp235x\", \"defmt\"))");
 
-    let here = PathBuf::from(env::var("CARGO_MANIFEST_DIR").unwrap());
-    let folder = match env::var(FOLDER) {
-        Ok(given) => PathBuf::from(given),
-        Err(_) => here.join(DEFAULT_FOLDER),
-    };
     let out = PathBuf::from(env::var("OUT_DIR").unwrap());
-    prepare(&folder, "src/clocks.rs", &CUTS, &CLOCKS_USES, &out.join("clocks.rs"));
-    prepare(&folder, "src/reset.rs", &[], &[], &out.join("reset.rs"));
-    let divider = "src/pio_programs/clock_divider.rs";
-    prepare(&folder, divider, &[], &DIVIDER_USES, &out.join("clock_divider.rs"));
+    if let Err(why) = folder().and_then(|folder| prepare_all(&folder, &out)) {
+        println!("cargo::error={why}");
+    }
 }
 
-fn prepare(folder: &Path, name: &str, cuts: &[(&str, Option<&str>)], uses: &[(&str, &str)], out: &Path) {
-    let path = folder.join(name);
+fn folder() -> Result<PathBuf, String> {
+    let Some(folder) = env::var_os(FOLDER).map(PathBuf::from) else {
+        return Err(format!("{FOLDER} is not set: it has to be the absolute path of {FOLDER_IS}"));
+    };
+    if folder.is_relative() || !folder.join("src/clocks.rs").is_file() {
+        return Err(format!("{FOLDER} is {}: not the absolute path of {FOLDER_IS}", folder.display()));
+    }
+    Ok(folder)
+}
+
+fn prepare_all(folder: &Path, out: &Path) -> Result<(), String> {
+    prepare(&folder.join("src/clocks.rs"), &CUTS, &CLOCKS_USES, &out.join("clocks.rs"))?;
+    prepare(&folder.join("src/reset.rs"), &[], &[], &out.join("reset.rs"))?;
+    let divider = folder.join("src/pio_programs/clock_divider.rs");
+    prepare(&divider, &[], &DIVIDER_USES, &out.join("clock_divider.rs"))
+}
+
+fn prepare(
+    path: &Path,
+    cuts: &[(&str, Option<&str>)],
+    uses: &[(&str, &str)],
+    out: &Path,
+) -> Result<(), String> {
     println!("cargo::rerun-if-changed={}", path.display());
-    let text = fs::read_to_string(&path)
-        .unwrap_or_else(|e| panic!("{}: {e}; set {FOLDER} to the folder of embassy-rp", path.display()));
+    let text = fs::read_to_string(path).map_err(|why| format!("{}: {why}", path.display()))?;
     // A file that is included has no inner documentation.
     let mut lines: Vec<&str> = text.lines().filter(|line| !line.starts_with("//!")).collect();
     for (first, next) in cuts {
-        let start = only(&lines, first, &path);
-        let end = next.map_or(lines.len(), |next| only(&lines, next, &path));
+        let start = only(&lines, first, path)?;
+        let end = next.map_or(Ok(lines.len()), |next| only(&lines, next, path))?;
         lines.drain(start..end);
     }
     for (old, new) in uses {
-        let at = only(&lines, old, &path);
+        let at = only(&lines, old, path)?;
         lines[at] = new;
     }
-    fs::write(out, lines.join("\n") + "\n").unwrap();
+    fs::write(out, lines.join("\n") + "\n").map_err(|why| format!("{}: {why}", out.display()))
 }
 
 /// The number of the one line with this text in it.
-fn only(lines: &[&str], text: &str, path: &Path) -> usize {
+fn only(lines: &[&str], text: &str, path: &Path) -> Result<usize, String> {
     let mut found = lines.iter().enumerate().filter(|(_, line)| line.contains(text));
     match (found.next(), found.next()) {
-        (Some((at, _)), None) => at,
-        _ => panic!("{}: `{text}` does not stand there in exactly one line", path.display()),
+        (Some((at, _)), None) => Ok(at),
+        _ => Err(format!("{}: `{text}` does not stand there in exactly one line", path.display())),
     }
 }

@@ -13,7 +13,7 @@ pub fn write_sheet(config: ClockConfig) {
     unsafe { init(config) }
 }
 
-/// Document 01's number of the clock whose atomic is at this address: constants at each store.
+/// The number of the clock whose atomic is at this address, as kind 37 has it: constants at each store.
 #[inline(always)]
 pub fn clock_number(address: usize) -> u32 {
     if address == CLOCKS.rosc.address() {

@@ -56,7 +56,7 @@ impl Inputs {
                 .map(|_| (r.between(3 * MHZ, 50 * MHZ), r.between(10 * MHZ, 300 * MHZ)))
                 .collect(),
             plans: std::iter::repeat_with(|| random_plan::plan(&mut r).try_into().unwrap())
-                .filter(|plan| accepted(plan))
+                .filter(accepted)
                 .take(200)
                 .collect(),
             pio: std::iter::repeat_with(|| (r.between(100 * MHZ, 200 * MHZ), r.between(10_000, 16 * MHZ)))

@@ -1,6 +1,6 @@
 //! The proved library beside the published Rust: the same inputs, instructions counted by callgrind, and time.
 
-#[allow(dead_code, unused_imports, static_mut_refs)]
+#[allow(dead_code, unused_imports, static_mut_refs, clippy::all)]
 mod clocks;
 mod lines;
 mod measure;
@@ -38,7 +38,7 @@ mod reset {
 }
 
 mod pio_programs {
-    #[allow(dead_code)]
+    #[allow(dead_code, clippy::all)]
     pub mod clock_divider {
         include!(concat!(env!("OUT_DIR"), "/clock_divider.rs"));
     }

@@ -28,10 +28,10 @@ fn instructions(line: usize, side: usize) -> f64 {
             .arg(env::current_exe().unwrap())
             .args([line.to_string(), side.to_string(), rounds.to_string()])
             .output()
-            .expect("valgrind");
+            .unwrap_or_else(|why| panic!("valgrind: {why}"));
         let text = String::from_utf8_lossy(&output.stderr);
         let collected = text.lines().find_map(|line| line.split_once("Collected :"));
-        collected.expect("a count").1.trim().parse().unwrap()
+        collected.unwrap_or_else(|| panic!("valgrind gave no count: {text}")).1.trim().parse().unwrap()
     };
     (count(20) - count(10)) / 10.0
 }

@@ -1,4 +1,4 @@
-//! The runner of document 01, written straight from its rules: what the proved one is held against.
+//! The runner, written straight from docs/FORMAT.md, Runner: what the proved one is held against.
 
 /// Widths of the fields of kinds 1 to 37.
 const WIDTHS: [&[u32]; 38] = [
@@ -92,7 +92,7 @@ impl Runner {
         if self.stopped {
             return Reply::Refused(22);
         }
-        if sheet.len() > 520 || sheet.len() % 8 != 0 {
+        if sheet.len() > 520 || !sheet.len().is_multiple_of(8) {
             return Reply::Refused(20);
         }
         let Some(bytes) = sheet.chunks_exact(8).nth(self.position) else {

@@ -31,7 +31,8 @@ static mut WORDS: [u64; 128] = [0; 128];
 /// Only the one thread of this program gets here.
 #[inline(always)]
 fn recorder() -> &'static mut Recorder {
-    unsafe { &mut *&raw mut RECORDER }
+    let recorder = &raw mut RECORDER;
+    unsafe { &mut *recorder }
 }
 
 /// Before a run at a reading of the regulator.

@@ -2,10 +2,15 @@
  *
  * Every function is total: it answers every input, and its answer is one number.
  *   below DIZBARAL_REFUSAL   the value, as each function says
- *   DIZBARAL_REFUSAL + n     refusal n of document 01; nothing that was lent has changed
- *   DIZBARAL_MALFORMED       the numbers given are of no plan or of no runner; nothing has changed
+ *   DIZBARAL_REFUSAL + n     refusal n of docs/FORMAT.md
+ *   DIZBARAL_MALFORMED       the numbers given are of no plan or of no runner
  *   from DIZBARAL_STEP on    (dizbaral_run only) the word of a step
- * A pointer with a length behind it is a buffer of that many elements; no function keeps it. */
+ * After a refusal or DIZBARAL_MALFORMED all that was lent is as it was before, but for the lock timeout of
+ * dizbaral_run.
+ *
+ * A pointer with a length behind it is a buffer of that many elements; no function keeps it. No pointer may be NULL,
+ * also where the length is 0. Two buffers of one call may not overlap, and nobody else may change a buffer during the
+ * call, nor read one that is written (those without const). */
 #ifndef DIZBARAL_H
 #define DIZBARAL_H
 
@@ -16,6 +21,11 @@
 #define DIZBARAL_REFUSAL ((uint64_t)1 << 48)
 #define DIZBARAL_MALFORMED ((uint64_t)1 << 49)
 #define DIZBARAL_STEP ((uint64_t)1 << 58)
+
+/* What dizbaral_run answers beside these. */
+#define DIZBARAL_DONE ((uint64_t)0)
+#define DIZBARAL_PASSED ((uint64_t)1)
+#define DIZBARAL_WAITING ((uint64_t)2)
 
 /* A sheet has at most this many bytes. */
 #define DIZBARAL_SHEET_BYTES 520
@@ -49,17 +59,19 @@ uint64_t dizbaral_gpout_frequency(uint8_t source, uint32_t whole, uint8_t fracti
  * buffer. The length in bytes; bytes past it keep their values. Refusals 18, 1 to 14, 19. */
 uint64_t dizbaral_system_sheet(uint32_t hz, uint8_t reading, uint8_t *sheet, size_t length);
 
-/* The same for a plan of 48 numbers, in the order of bindings/README.md. Malformed where they are of no plan. */
+/* The same for a plan of 48 numbers: docs/CASES.md, A plan in numbers. Malformed where they are of no plan. */
 uint64_t dizbaral_plan_sheet(const uint32_t *plan, size_t numbers, uint8_t reading, uint8_t *sheet, size_t length);
 
 /* Writes every setting that gives the target with no remainder, each once, two bytes each, most significant first:
  * feedback divider (9 bits), post dividers (3)(3), a zero bit. The length in bytes. Refusal 19. */
 uint64_t dizbaral_list(uint32_t input_hz, uint32_t target_hz, uint8_t *list, size_t length);
 
-/* One call of the runner over a sheet: 0 done, 1 passed, 2 waiting, or the word of the step that is handed out
- * (its kind in the six highest bits). The runner is position, lock polls, total of unready polls, stopped mark
- * (0 or 1, else malformed) and ten frequencies; a fresh one is all zeros. Refusals 21, 22, 20; the lock timeout,
- * 22, is the one refusal that changes something: it sets the mark and adds 1 to the total. */
+/* One call of the runner over a sheet: DIZBARAL_DONE, DIZBARAL_PASSED, DIZBARAL_WAITING, or the word of the step that
+ * is handed out (its kind in the six highest bits). ready says whether what the step waits for is there.
+ * The runner is position, lock polls, total of unready polls, stopped mark (0 or 1, else malformed) and ten
+ * frequencies; a fresh one is all zeros. Refusals 21, 22, 20.
+ * The lock timeout, the first refusal 22 of a run, sets the stopped mark and adds 1 to the total; position, lock polls
+ * and frequencies stay. */
 uint64_t dizbaral_run(uint32_t runner[14], const uint8_t *sheet, size_t length, bool ready);
 
 #ifdef __cplusplus

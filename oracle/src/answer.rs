@@ -20,7 +20,7 @@ pub enum Answer {
     Says(String),
     Sheet(Vec<Step>),
     Refused(u8),
-    /// It panics. The refusals of document 01 that this place of the code belongs to.
+    /// It panics. The refusals that this place of the code belongs to.
     Panic(Vec<u8>),
     /// It goes on with bits lost: the refusal that this belongs to.
     Drops(u8),

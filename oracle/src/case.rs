@@ -50,7 +50,7 @@ pub const U16: Fits = UpTo(u16::MAX as u32);
 pub const U32: Fits = UpTo(u32::MAX);
 pub const ROOM: Fits = UpTo(1024);
 
-const KINDS: [(&str, Kind); 14] = [
+pub const KINDS: [(&str, Kind); 14] = [
     ("valid", Kind::Valid),
     ("output", Kind::Output),
     ("search", Kind::Search),

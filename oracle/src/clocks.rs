@@ -10,7 +10,7 @@ pub fn brownout_level(voltage: CoreVoltage) -> u8 {
     voltage.recommended_bod()
 }
 
-/// Document 01's number of the clock whose atomic is at this address.
+/// The number of the clock whose atomic is at this address, as kind 37 has it.
 pub fn clock_number(address: usize) -> Option<u32> {
     let clocks = [
         CLOCKS.rosc.address(),

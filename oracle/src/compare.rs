@@ -1,6 +1,7 @@
 //! Holds another program's answers against the published code, and sorts what differs.
 
 use std::collections::BTreeMap;
+use std::fmt::Display;
 use std::io::{self, Read, Write};
 use std::process::{Command, Stdio};
 
@@ -12,7 +13,7 @@ use crate::generate;
 const BATCH: usize = 20_000;
 const SHOWN_FINDINGS: usize = 20;
 
-/// How two answers go together: agreement, or a difference that document 01 lists.
+/// How two answers go together: agreement, or a difference of docs/DIFFERENCES.md.
 #[derive(Clone, Copy, Debug, PartialEq, Eq, PartialOrd, Ord)]
 pub enum Class {
     Same,
@@ -82,7 +83,7 @@ fn exact_vco(case: &Case) -> bool {
     case.kind == Kind::Valid && (n[0] / n[1]) as u64 * n[2] as u64 > u32::MAX as u64
 }
 
-/// Document 01's value, where there is one.
+/// The value by docs/FORMAT.md, PIO divider, where there is one.
 fn pio_value(case: &Case) -> Option<String> {
     if case.kind != Kind::Pio || case.numbers[1] == 0 {
         return None;
@@ -95,7 +96,7 @@ pub fn gpout_whole_0(case: &Case) -> bool {
     case.kind == Kind::Gpout && case.numbers[1] == 0
 }
 
-/// Document 01's value for a whole part of 0.
+/// The value for a whole part of 0 by docs/FORMAT.md, Gpout.
 fn gpout_value(case: &Case) -> String {
     let n = &case.numbers;
     // The clock's number of each source.
@@ -156,9 +157,15 @@ pub fn compare(seed: u64, count: usize, program: &str) -> io::Result<bool> {
     Ok(findings == 0)
 }
 
+/// The error with the name of what could not be started or written.
+pub fn named(what: impl Display, why: io::Error) -> io::Error {
+    io::Error::new(why.kind(), format!("{what}: {why}"))
+}
+
 /// The program's output for these lines.
 fn ask(program: &str, lines: &[String]) -> io::Result<String> {
-    let mut child = Command::new(program).stdin(Stdio::piped()).stdout(Stdio::piped()).spawn()?;
+    let started = Command::new(program).stdin(Stdio::piped()).stdout(Stdio::piped()).spawn();
+    let mut child = started.map_err(|why| named(program, why))?;
     let mut input = child.stdin.take().unwrap();
     let mut output = child.stdout.take().unwrap();
     let text = lines.join("\n") + "\n";

@@ -1,5 +1,5 @@
 //! Where the published code loses bits itself, before a register's field could show it; and which refusal
-//! of document 01 the place of a panic belongs to.
+//! the place of a panic belongs to.
 
 use crate::clocks::{ClockConfig, RtcClkSrc};
 use crate::recorder::Record;
@@ -39,10 +39,10 @@ impl Cuts {
         if self.system_whole_0 {
             record.lose(9);
         }
-        if let Some((source, whole, fraction)) = self.rtc {
-            if whole == 0 || rtc_over(stored(&record.steps, source), whole, fraction) {
-                record.lose(14);
-            }
+        if let Some((source, whole, fraction)) = self.rtc
+            && (whole == 0 || rtc_over(stored(&record.steps, source), whole, fraction))
+        {
+            record.lose(14);
         }
     }
 

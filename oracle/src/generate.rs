@@ -83,7 +83,7 @@ fn output(r: &mut Random, input: u32) -> u32 {
         let post1 = r.between(1, 7);
         let product = (post1 * r.between(1, post1)) as u64;
         output = (vco / product) as u32;
-        if (750_000_000..=1_600_000_000).contains(&vco) && vco % product == 0 {
+        if (750_000_000..=1_600_000_000).contains(&vco) && vco.is_multiple_of(product) {
             break;
         }
     }

@@ -1,4 +1,4 @@
-//! Every limit of document 01 with its neighbours, the corners it names, and the presets.
+//! Every limit of docs/FORMAT.md with its neighbours, the corners it names, and the presets.
 
 use crate::case::{Case, Kind, PARTS, PLAN_NUMBERS, at};
 

@@ -4,6 +4,8 @@ mod answer;
 mod case;
 mod compare;
 mod cuts;
+#[cfg(test)]
+mod format;
 mod generate;
 mod limits;
 mod pac;
@@ -25,7 +27,7 @@ use std::process::ExitCode;
 // What the published code finds at its crate's root.
 use standins::{Peri, atomics, cortex_m, fixed, gpio, peripherals};
 
-#[allow(dead_code, unused_imports)]
+#[allow(dead_code, unused_imports, clippy::all)]
 mod clocks;
 
 mod reset {
@@ -33,7 +35,7 @@ mod reset {
 }
 
 mod pio_programs {
-    #[allow(dead_code)]
+    #[allow(dead_code, clippy::all)]
     pub mod clock_divider {
         include!(concat!(env!("OUT_DIR"), "/clock_divider.rs"));
     }

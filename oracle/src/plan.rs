@@ -21,52 +21,59 @@ pub fn pll(dividers: &[u32]) -> PllConfig {
 
 /// `n` is well formed: every number fits its place.
 pub fn config(n: &[u32]) -> ClockConfig {
-    let mut config = ClockConfig::default();
-    config.rosc = part(n, at::RING, |n| RoscConfig {
+    ClockConfig {
+        rosc: part(n, at::RING, rosc),
+        xosc: part(n, at::CRYSTAL, |crystal| XoscConfig {
+            hz: crystal[0],
+            sys_pll: part(n, at::SYSTEM_PLL, pll),
+            usb_pll: part(n, at::USB_PLL, pll),
+            delay_multiplier: crystal[1],
+        }),
+        core_voltage: voltage(n[at::VOLTAGE]),
+        voltage_stabilization_delay_us: part(n, at::SETTLING, |n| n[0]),
+        ref_clk: RefClkConfig {
+            src: [RefClkSrc::Rosc, RefClkSrc::PllUsb, RefClkSrc::Xosc][n[at::REFERENCE] as usize],
+            div: n[at::REFERENCE + 1] as u8,
+        },
+        sys_clk: SysClkConfig {
+            src: [SysClkSrc::Ref, SysClkSrc::PllSys, SysClkSrc::PllUsb, SysClkSrc::Rosc, SysClkSrc::Xosc]
+                [n[at::SYSTEM] as usize],
+            div_int: n[at::SYSTEM + 1],
+            div_frac: n[at::SYSTEM + 2] as u8,
+        },
+        peri_clk_src: part(n, at::PERIPHERAL, peri),
+        usb_clk: part(n, at::USB, |n| UsbClkConfig {
+            src: [UsbClkSrc::PllUsb, UsbClkSrc::PllSys, UsbClkSrc::Rosc, UsbClkSrc::Xosc][n[0] as usize],
+            div: n[1] as u8,
+            phase: n[2] as u8,
+        }),
+        adc_clk: part(n, at::ADC, |n| AdcClkConfig {
+            src: [AdcClkSrc::PllUsb, AdcClkSrc::PllSys, AdcClkSrc::Rosc, AdcClkSrc::Xosc][n[0] as usize],
+            div: n[1] as u8,
+            phase: n[2] as u8,
+        }),
+        rtc_clk: part(n, at::RTC, |n| RtcClkConfig {
+            src: [RtcClkSrc::PllUsb, RtcClkSrc::PllSys, RtcClkSrc::Rosc, RtcClkSrc::Xosc][n[0] as usize],
+            div_int: n[1],
+            div_frac: n[2] as u8,
+            phase: n[3] as u8,
+        }),
+    }
+}
+
+fn rosc(n: &[u32]) -> RoscConfig {
+    RoscConfig {
         hz: n[0],
         range: [RoscRange::Low, RoscRange::Medium, RoscRange::High, RoscRange::TooHigh][n[1] as usize],
         drive_strength: std::array::from_fn(|at| n[2 + at] as u8),
         div: n[10] as u16,
-    });
-    config.xosc = part(n, at::CRYSTAL, |crystal| XoscConfig {
-        hz: crystal[0],
-        sys_pll: part(n, at::SYSTEM_PLL, pll),
-        usb_pll: part(n, at::USB_PLL, pll),
-        delay_multiplier: crystal[1],
-    });
-    config.core_voltage = voltage(n[at::VOLTAGE]);
-    config.voltage_stabilization_delay_us = part(n, at::SETTLING, |n| n[0]);
-    config.ref_clk = RefClkConfig {
-        src: [RefClkSrc::Rosc, RefClkSrc::PllUsb, RefClkSrc::Xosc][n[at::REFERENCE] as usize],
-        div: n[at::REFERENCE + 1] as u8,
-    };
-    config.sys_clk = SysClkConfig {
-        src: [SysClkSrc::Ref, SysClkSrc::PllSys, SysClkSrc::PllUsb, SysClkSrc::Rosc, SysClkSrc::Xosc]
-            [n[at::SYSTEM] as usize],
-        div_int: n[at::SYSTEM + 1],
-        div_frac: n[at::SYSTEM + 2] as u8,
-    };
-    config.peri_clk_src = part(n, at::PERIPHERAL, |n| {
-        [PeriClkSrc::Sys, PeriClkSrc::PllSys, PeriClkSrc::PllUsb, PeriClkSrc::Rosc, PeriClkSrc::Xosc]
-            [n[0] as usize]
-    });
-    config.usb_clk = part(n, at::USB, |n| UsbClkConfig {
-        src: [UsbClkSrc::PllUsb, UsbClkSrc::PllSys, UsbClkSrc::Rosc, UsbClkSrc::Xosc][n[0] as usize],
-        div: n[1] as u8,
-        phase: n[2] as u8,
-    });
-    config.adc_clk = part(n, at::ADC, |n| AdcClkConfig {
-        src: [AdcClkSrc::PllUsb, AdcClkSrc::PllSys, AdcClkSrc::Rosc, AdcClkSrc::Xosc][n[0] as usize],
-        div: n[1] as u8,
-        phase: n[2] as u8,
-    });
-    config.rtc_clk = part(n, at::RTC, |n| RtcClkConfig {
-        src: [RtcClkSrc::PllUsb, RtcClkSrc::PllSys, RtcClkSrc::Rosc, RtcClkSrc::Xosc][n[0] as usize],
-        div_int: n[1],
-        div_frac: n[2] as u8,
-        phase: n[3] as u8,
-    });
-    config
+    }
+}
+
+fn peri(n: &[u32]) -> PeriClkSrc {
+    let sources =
+        [PeriClkSrc::Sys, PeriClkSrc::PllSys, PeriClkSrc::PllUsb, PeriClkSrc::Rosc, PeriClkSrc::Xosc];
+    sources[n[0] as usize]
 }
 
 /// A part that may be absent: its flag, then its numbers.

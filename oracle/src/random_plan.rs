@@ -136,12 +136,12 @@ fn crystal(r: &mut Random, plan: &mut Plan, hz: &mut Sources) {
     for (place, hz, input) in
         [(at::SYSTEM_PLL, &mut hz.system_pll, hz.crystal), (at::USB_PLL, &mut hz.usb_pll, hz.crystal)]
     {
-        if r.percent(75) {
-            if let Some(dividers) = pll(r, input) {
-                plan[place] = 1;
-                set(plan, place + 1, &dividers);
-                *hz = output(input, dividers);
-            }
+        if r.percent(75)
+            && let Some(dividers) = pll(r, input)
+        {
+            plan[place] = 1;
+            set(plan, place + 1, &dividers);
+            *hz = output(input, dividers);
         }
     }
 }

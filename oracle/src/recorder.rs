@@ -33,7 +33,7 @@ pub struct Record {
     pub steps: Vec<Step>,
     /// Writes that set up a clock output: no steps of a sheet.
     pub output_writes: u32,
-    /// The smallest refusal of document 01 for bits that were lost.
+    /// The smallest refusal for bits that were lost.
     pub lost: Option<u8>,
     pub unknown: Option<String>,
 }
@@ -203,10 +203,10 @@ impl Recorder {
     }
 
     fn end_wait(&mut self) {
-        if let Some(wait) = self.wait.take() {
-            if !wait.answers.is_empty() {
-                self.say_unknown(format!("wait at {:?} that passes too early", wait.name));
-            }
+        if let Some(wait) = self.wait.take()
+            && !wait.answers.is_empty()
+        {
+            self.say_unknown(format!("wait at {:?} that passes too early", wait.name));
         }
     }
 }

@@ -7,7 +7,7 @@ use std::path::Path;
 
 use crate::answer::{Answer, answer};
 use crate::case::Case;
-use crate::compare::{gpout_whole_0, ring_divider};
+use crate::compare::{gpout_whole_0, named, ring_divider};
 use crate::generate;
 
 /// Why a case is left out; nothing where it stays.
@@ -56,9 +56,10 @@ pub fn replay(seed: u64, count: usize, folder: &Path) -> io::Result<bool> {
             }
         }
     }
-    fs::create_dir_all(folder)?;
-    fs::write(folder.join("stdin"), cases)?;
-    fs::write(folder.join("stdout"), answers)?;
+    let written = fs::create_dir_all(folder)
+        .and_then(|()| fs::write(folder.join("stdin"), cases))
+        .and_then(|()| fs::write(folder.join("stdout"), answers));
+    written.map_err(|why| named(folder.display(), why))?;
     eprintln!("{kept:>9}  written");
     for (class, count) in counts {
         eprintln!("{count:>9}  left out, {class}");

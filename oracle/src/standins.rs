@@ -63,7 +63,7 @@ pub mod fixed {
             FixedU32(bits, PhantomData)
         }
 
-        pub const fn to_bits(self) -> u32 {
+        pub const fn to_bits(&self) -> u32 {
             self.0
         }
     }

@@ -1,4 +1,4 @@
-//! Steps of the sheet, from document 01: which write, wait, delay or store is which step, and its bytes.
+//! Steps of the sheet, as docs/FORMAT.md has them: which write, wait, delay or store is which step, and its bytes.
 
 use crate::pac::Name;
 use crate::pac::fields::*;

@@ -1,10 +1,10 @@
-//! The worked values of document 01, and that the stand-in says what it does not know.
+//! Worked rows of docs/FORMAT.md, and that the stand-in says what it does not know.
 
 use std::sync::{Mutex, MutexGuard, PoisonError};
 
 use crate::answer::{Answer, answer, answer_line};
 use crate::case::Case;
-use crate::compare::{Class, class};
+use crate::compare::{Class, class, compare};
 use crate::cortex_m::asm::delay;
 use crate::generate;
 use crate::pac::values::clocks::{ClkRefCtrlAuxsrc, ClkRefCtrlSrc, ClkSysCtrlSrc};
@@ -13,7 +13,7 @@ use crate::recorder::{self, Record};
 use crate::reset;
 
 /// The ten frequencies are shared: tests that run the published code come one after another.
-fn alone() -> MutexGuard<'static, ()> {
+pub fn alone() -> MutexGuard<'static, ()> {
     static ALONE: Mutex<()> = Mutex::new(());
     ALONE.lock().unwrap_or_else(PoisonError::into_inner)
 }
@@ -40,7 +40,7 @@ fn worked_values() {
         ("search 100000001 125000000", "refused 15"),
         ("valid 5000000 1 150 1 1", "yes"),
         ("valid 5000000 1 149 1 1", "no"),
-        // Document 01's differences.
+        // docs/DIFFERENCES.md.
         ("valid 50000000 1 106 1 1", "panic"),
         ("gpout 0 0 0 0 0 131070000 0 0 0 0 0 0 0", "2000"),
         ("pio 125000000 100000000", "drops 17"),
@@ -109,6 +109,12 @@ fn differences_and_findings() {
     for (case, ours, expected) in rows {
         assert_eq!(class(case, ours), expected, "{case}: {ours}");
     }
+}
+
+#[test]
+fn a_missing_program_is_named() {
+    let error = compare(1, 1, "no-such-program").unwrap_err();
+    assert!(error.to_string().starts_with("no-such-program: "), "{error}");
 }
 
 #[test]

@@ -1,10 +1,28 @@
 //! Clock sheets for the RP2040, from the proved library: safe calls of its static archive.
+#![no_std]
 
 pub mod raw;
 
-/// A refusal, by its number in document 01.
+use core::error::Error;
+use core::fmt::{self, Display, Formatter};
+
+/// The README's examples run as tests.
+#[cfg(doctest)]
+#[doc = include_str!("../../README.md")]
+struct Readme;
+
+/// A refusal, by its number in docs/FORMAT.md. What was lent is as it was before, but for the lock timeout of
+/// [`Runner::poll`].
 #[derive(Clone, Copy, Debug, PartialEq, Eq)]
 pub struct Refused(pub u8);
+
+impl Display for Refused {
+    fn fmt(&self, f: &mut Formatter<'_>) -> fmt::Result {
+        write!(f, "refused {}", self.0)
+    }
+}
+
+impl Error for Refused {}
 
 /// A value, or the number of a refusal.
 fn answer(number: u64) -> Result<u64, Refused> {
@@ -89,7 +107,18 @@ pub enum PlanError {
     Refused(u8),
 }
 
-/// Writes the sheet of a plan given as 48 numbers (bindings/README.md has their order), and answers its length.
+impl Display for PlanError {
+    fn fmt(&self, f: &mut Formatter<'_>) -> fmt::Result {
+        match *self {
+            PlanError::NoPlan => f.write_str("the numbers are of no plan"),
+            PlanError::Refused(number) => Refused(number).fmt(f),
+        }
+    }
+}
+
+impl Error for PlanError {}
+
+/// Writes the sheet of a plan given as 48 numbers (docs/CASES.md, A plan in numbers), and answers its length.
 pub fn plan_sheet(plan: &[u32; 48], reading: u8, sheet: &mut [u8]) -> Result<usize, PlanError> {
     let number = unsafe {
         raw::dizbaral_plan_sheet(plan.as_ptr(), plan.len(), reading, sheet.as_mut_ptr(), sheet.len())
@@ -149,12 +178,13 @@ impl Runner {
         &self.numbers
     }
 
-    /// The frequency that was stored for a clock, 0 to 9.
-    pub fn frequency(&self, clock: usize) -> u32 {
-        self.numbers[4..][clock]
+    /// The frequency that was stored for a clock, 0 to 9; there is no other clock.
+    pub fn frequency(&self, clock: usize) -> Option<u32> {
+        self.numbers[4..].get(clock).copied()
     }
 
-    /// One call over the sheet; `ready` says whether what a wait waits for is there.
+    /// One call over the sheet; `ready` says whether what a wait waits for is there. The lock timeout, the first
+    /// refusal 22 of a run, sets the stopped mark and adds 1 to the total.
     pub fn poll(&mut self, sheet: &[u8], ready: bool) -> Result<Progress, Refused> {
         let number = unsafe { raw::dizbaral_run(&mut self.numbers, sheet.as_ptr(), sheet.len(), ready) };
         answer(number).map(|number| match number {

@@ -1,4 +1,4 @@
-//! The worked rows of document 01, and the values that it names.
+//! The worked rows of docs/FORMAT.md, and limits that it names.
 
 use dizbaral::{PllConfig, Refused, find_pll_params, gpout_frequency, pio_divider};
 

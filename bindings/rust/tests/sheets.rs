@@ -1,5 +1,7 @@
 //! Sheets, the lister and the runner.
 
+use std::error::Error;
+
 use dizbaral::{PlanError, Progress, Refused, Runner, SHEET_BYTES, list, listed, plan_sheet, system_sheet};
 
 const MHZ: u32 = 1_000_000;
@@ -53,6 +55,23 @@ fn refusals_leave_the_buffer() {
 }
 
 #[test]
+fn refusals_are_errors() {
+    let shown = |result: Result<usize, Box<dyn Error>>| result.unwrap_err().to_string();
+    assert_eq!(shown(system_sheet(125 * MHZ, 16, &mut []).map_err(Into::into)), "refused 18");
+    assert_eq!(shown(plan_sheet(&crystal(), 16, &mut []).map_err(Into::into)), "refused 18");
+    assert_eq!(shown(plan_sheet(&[2; 48], 11, &mut []).map_err(Into::into)), "the numbers are of no plan");
+}
+
+#[test]
+fn a_bad_sheet_is_refused_and_changes_nothing() {
+    for sheet in [&[0; 8][..], &[0; 9], &[0; 528]] {
+        let mut runner = Runner::new();
+        assert_eq!(runner.poll(sheet, true), Err(Refused(20)));
+        assert_eq!(runner, Runner::new());
+    }
+}
+
+#[test]
 fn a_run_stores_the_ten_frequencies() {
     let sheet = sheet_of(125 * MHZ);
     let mut runner = Runner::new();
@@ -67,7 +86,8 @@ fn a_run_stores_the_ten_frequencies() {
             other => panic!("{other:?}"),
         }
     }
-    let stored: Vec<u32> = (0..10).map(|clock| runner.frequency(clock)).collect();
+    let stored: Vec<u32> = (0..).map_while(|clock| runner.frequency(clock)).collect();
+    assert_eq!(runner.frequency(usize::MAX), None);
     let expected = [
         6_500_000,
         12_000_000,

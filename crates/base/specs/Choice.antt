@@ -9,6 +9,10 @@ abbrev pub pick {ℓ} : {A : Type ℓ} → Bool → A → A → A
 pick true a b = a
 pick false a b = b
 
+-- a test as a number
+abbrev pub bit : Bool → ℕ
+bit test = pick test 1 0
+
 -- low ≤ x ≤ high
 abbrev pub inRange : ℕ → ℕ → ℕ → Bool
 inRange low high x = leb low x && leb x high

@@ -1,20 +1,17 @@
 -- Bytes placed into a lent buffer one after another: what every function that writes text or steps promises.
 -- Assumes nothing.
 use mathlib.Core.Path.{_≡_}
-use mathlib.Core.List.{List, [], _∷_}
-use Prim.Native.Nat.{ℕ, suc, _+_, min}
-use lib.ListN.{length, set}
+use mathlib.Core.List.{List}
+use Prim.Native.Nat.{ℕ, _+_, min}
+use lib.ListN.{length}
+use lib.Seq.{sets}
 
--- the buffer xs with the bytes bs from index at on; a byte whose index is not in the buffer is dropped
-abbrev pub placed : List ℕ → ℕ → List ℕ → List ℕ
-placed xs at [] = xs
-placed xs at (b ∷ bs) = placed (set xs at b) (suc at) bs
-
--- the index past them, at most the buffer's length
+-- the index past the bytes bs from index at on, at most the buffer's length
 abbrev pub past : List ℕ → ℕ → List ℕ → ℕ
 past xs at bs = min (at + length bs) (length xs)
 
--- the call that found the buffer xs, wrote the bytes bs at index at, left the buffer ys and answered the index next
+-- the call that found the buffer xs, wrote the bytes bs at index at, left the buffer ys and answered the index next;
+-- a byte whose index is not in the buffer is dropped
 pub record Placed (xs : List ℕ) (at : ℕ) (bs : List ℕ) (next : ℕ) (ys : List ℕ) : Type 0 where
   pub index : next ≡ past xs at bs
-  pub bytes : ys ≡ placed xs at bs
+  pub bytes : ys ≡ sets xs at bs

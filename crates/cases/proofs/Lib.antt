@@ -1,4 +1,2 @@
-pub mod Table
-pub mod Buffers
-pub mod HexWords
 pub mod Settled
+pub mod Named

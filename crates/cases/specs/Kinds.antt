@@ -1,11 +1,19 @@
--- The kinds of cases: the name of each, and the greatest value of each of its numbers, in order.
+-- The kinds of cases, a row for each: its name, the greatest value of each of its numbers, and its answer.
 -- Assumes nothing.
 use mathlib.Core.List.{List, [], _∷_}
 use Prim.Native.Nat.{ℕ}
+use Prim.Native.String.{String}
 use lib.ListN.{replicate}
 use Rattle.base.specs.Choice.{pick}
 use Rattle.text.specs.Ascii.{ascii, same}
-use Rattle.fields.specs.Row.{u8, u16, u32}
+use Rattle.pll.specs.declared.PllConfig.{PllConfig}
+use Rattle.fields.specs.Row.{u8, u16, u32, room}
+use Rattle.fields.specs.Fields.{Tail, Fields, noNumber, numbersIn, numbersOnly}
+use Rattle.replies.specs.Reply.{badCase}
+use Rattle.number_cases.specs.Numbers.{validText, outputText, searchText, voltageText, pioText, gpoutText}
+use Rattle.sheet_cases.specs.Sheets.{crystalText, roscText, defaultText, systemText, manualText, planSheetText}
+use Rattle.run_cases.specs.Runs.{runText}
+use Rattle.cases.specs.Lists.{listText}
 use Rattle.cases.specs.declared.Kind.{Kind}
 use Rattle.cases.specs.declared.Kind.the-variants.{
   Valid,
@@ -25,43 +33,71 @@ use Rattle.cases.specs.declared.Kind.the-variants.{
   Unknown,
 }
 
+pub record Row : Type 0 where
+  pub name : List ℕ
+  -- its numbers, out of what stands behind the name
+  pub fields : Tail → Fields
+  -- its answer, from its numbers and the word behind them; what `list` shows comes in an order of its own
+  pub text : List ℕ → List ℕ → List PllConfig → List ℕ
+
+-- numbers alone
+abbrev pub plain : String → List ℕ → (List ℕ → List ℕ) → Row
+plain name limits text =
+    record { name = ascii name; fields = numbersOnly limits; text = λ n word settings. text n }
+
+abbrev pub listing : String → List ℕ → (List ℕ → List PllConfig → List ℕ) → Row
+listing name limits text =
+    record { name = ascii name; fields = numbersOnly limits; text = λ n word settings. text n settings }
+
+-- numbers and a word
+abbrev pub worded : String → List ℕ → (List ℕ → List ℕ → List ℕ) → Row
+worded name limits text =
+    record { name = ascii name; fields = numbersIn limits; text = λ n word settings. text n word }
+
+-- any other name
+abbrev pub nameless : Row
+nameless = record { name = []; fields = λ tail. noNumber; text = λ n word settings. badCase }
+
+abbrev pub rowOf : Kind → Row
+-- INPUT REFDIV FBDIV POST1 POST2
+rowOf Valid = plain "valid" (u32 ∷ u8 ∷ u16 ∷ u8 ∷ u8 ∷ []) validText
+rowOf Output = plain "output" (u32 ∷ u8 ∷ u16 ∷ u8 ∷ u8 ∷ []) outputText
+-- INPUT TARGET
+rowOf Search = plain "search" (u32 ∷ u32 ∷ []) searchText
+-- INPUT TARGET ROOM
+rowOf Settings = listing "list" (u32 ∷ u32 ∷ room ∷ []) listText
+-- READING
+rowOf Voltage = plain "voltage" (u8 ∷ []) voltageText
+-- SYSTEM TARGET
+rowOf Pio = plain "pio" (u32 ∷ u32 ∷ []) pioText
+-- SOURCE WHOLE FRACTION F0 to F9
+rowOf Gpout = plain "gpout" (u8 ∷ u32 ∷ u8 ∷ replicate 10 u32) gpoutText
+-- READING ROOM PLAN
+rowOf Sheet = plain "sheet" (u8 ∷ room ∷ replicate 48 u32) planSheetText
+-- READING ROOM HZ
+rowOf Crystal = plain "crystal" (u8 ∷ room ∷ u32 ∷ []) crystalText
+-- READING ROOM
+rowOf Rosc = plain "rosc" (u8 ∷ room ∷ []) roscText
+rowOf Default = plain "default" (u8 ∷ room ∷ []) defaultText
+-- READING ROOM HZ
+rowOf System = plain "system" (u8 ∷ room ∷ u32 ∷ []) systemText
+-- READING ROOM HZ REFDIV FBDIV POST1 POST2 CODE
+rowOf Manual = plain "manual" (u8 ∷ room ∷ u32 ∷ u8 ∷ u16 ∷ u8 ∷ u8 ∷ 15 ∷ []) manualText
+-- POSITION POLLS TOTAL STOPPED F0 to F9 READY, then SHEET
+rowOf Run =
+    worded "run"
+    (u32 ∷ u32 ∷ u32 ∷ 1 ∷ u32 ∷ u32 ∷ u32 ∷ u32 ∷ u32 ∷ u32 ∷ u32 ∷ u32 ∷ u32 ∷ u32 ∷ 1 ∷ [])
+    runText
+rowOf Unknown = nameless
+
+abbrev pub kinds : List Kind
+kinds =
+    Valid ∷ Output ∷ Search ∷ Settings ∷ Voltage ∷ Pio ∷ Gpout
+    ∷ Sheet ∷ Crystal ∷ Rosc ∷ Default ∷ System ∷ Manual ∷ Run ∷ []
+
+abbrev pub firstNamed : List ℕ → List Kind → Kind
+firstNamed name [] = Unknown
+firstNamed name (kind ∷ others) = pick (same name (rowOf kind .name)) kind (firstNamed name others)
+
 abbrev pub kindNamed : List ℕ → Kind
-kindNamed name =
-    pick (same name (ascii "valid")) Valid
-    (pick (same name (ascii "output")) Output
-    (pick (same name (ascii "search")) Search
-    (pick (same name (ascii "list")) Settings
-    (pick (same name (ascii "voltage")) Voltage
-    (pick (same name (ascii "pio")) Pio
-    (pick (same name (ascii "gpout")) Gpout
-    (pick (same name (ascii "sheet")) Sheet
-    (pick (same name (ascii "crystal")) Crystal
-    (pick (same name (ascii "rosc")) Rosc
-    (pick (same name (ascii "default")) Default
-    (pick (same name (ascii "system")) System
-    (pick (same name (ascii "manual")) Manual
-    (pick (same name (ascii "run")) Run Unknown)))))))))))))
-
--- the longest buffer that a case may ask for
-abbrev pub room : ℕ
-room = 1024
-
-abbrev pub limitsOf : Kind → List ℕ
-limitsOf Valid = u32 ∷ u8 ∷ u16 ∷ u8 ∷ u8 ∷ []  -- INPUT REFDIV FBDIV POST1 POST2
-limitsOf Output = u32 ∷ u8 ∷ u16 ∷ u8 ∷ u8 ∷ []  -- the same
-limitsOf Search = u32 ∷ u32 ∷ []  -- INPUT TARGET
-limitsOf Settings = u32 ∷ u32 ∷ room ∷ []  -- INPUT TARGET ROOM
-limitsOf Voltage = u8 ∷ []  -- READING
-limitsOf Pio = u32 ∷ u32 ∷ []  -- SYSTEM TARGET
-limitsOf Gpout = u8 ∷ u32 ∷ u8 ∷ replicate 10 u32  -- SOURCE WHOLE FRACTION F0 to F9
-limitsOf Sheet = u8 ∷ room ∷ replicate 48 u32  -- READING ROOM PLAN
-limitsOf Crystal = u8 ∷ room ∷ u32 ∷ []  -- READING ROOM HZ
-limitsOf Rosc = u8 ∷ room ∷ []  -- READING ROOM
-limitsOf Default = u8 ∷ room ∷ []  -- READING ROOM
-limitsOf System = u8 ∷ room ∷ u32 ∷ []  -- READING ROOM HZ
-limitsOf Manual = u8 ∷ room ∷ u32 ∷ u8 ∷ u16 ∷ u8 ∷ u8 ∷ 15 ∷ []  -- READING ROOM HZ, four dividers, CODE
-limitsOf Run =
-    u32 ∷ u32 ∷ u32 ∷ 1
-    ∷ u32 ∷ u32 ∷ u32 ∷ u32 ∷ u32 ∷ u32 ∷ u32 ∷ u32 ∷ u32 ∷ u32
-    ∷ 1 ∷ []  -- POSITION POLLS TOTAL STOPPED F0 to F9 READY
-limitsOf Unknown = []
+kindNamed name = firstNamed name kinds

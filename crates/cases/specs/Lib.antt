@@ -1,6 +1,3 @@
-pub mod Kinds
-pub mod Numbers
-pub mod Sheets
-pub mod Runs
 pub mod Lists
+pub mod Kinds
 pub mod Cases

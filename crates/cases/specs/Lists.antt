@@ -6,19 +6,19 @@ use Prim.Native.Nat.{ℕ}
 use Rattle.base.specs.Choice.{pick}
 use Rattle.base.specs.Placed.{Placed}
 use Rattle.pll.specs.declared.PllConfig.{PllConfig}
-use Rattle.lister.specs.Lister.{remainderFree, times, bytesOf, listedOf}
-use Rattle.fields.specs.Row.{nth}
+use Rattle.lister.specs.Lister.{remainderFree, times, listBytes, listedOf}
+use Rattle.fields.specs.Row.{nth, roomAt}
 use Rattle.replies.specs.Reply.{answerText, bytesText}
 
 -- LENGTH HEX
 abbrev pub settingsText : List PllConfig → ℕ → List ℕ
-settingsText settings n = bytesText n (bytesOf settings)
+settingsText settings n = bytesText n (listBytes settings)
 
 abbrev pub listedText : ℕ → ℕ → ℕ → List PllConfig → List ℕ
 listedText input target room settings = answerText (settingsText settings) (listedOf input target room)
 
 abbrev pub listText : List ℕ → List PllConfig → List ℕ
-listText n = listedText (nth n 0) (nth n 1) (nth n 2)
+listText n = listedText (nth n 0) (nth n 1) (roomAt n 2)
 
 -- the call that found the buffer before, put a text at its start, left the buffer after and answered the index r past
 -- the text; where the text lists settings, only their order is open

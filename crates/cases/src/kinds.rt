@@ -1,12 +1,12 @@
 // The kinds of cases by their names, and the limits of their numbers.
 use crate::Kind;
 use fields::Rest;
+use fields::read_all;
 ghost use mathlib.Core.Path.{_≡_};
 ghost use Rattle.base.specs.Choice.{pick};
 ghost use Rattle.text.specs.Ascii.{same};
-ghost use Rattle.fields.specs.Fields.{Reading};
-ghost use Rattle.cases.specs.Kinds.{kindNamed, limitsOf};
-ghost use Rattle.cases.specs.Cases.{isRun};
+ghost use Rattle.fields.specs.Fields.{tailAt, Reading};
+ghost use Rattle.cases.specs.Kinds.{rowOf, kindNamed};
 
 const U8: u32 = 255;
 
@@ -48,90 +48,38 @@ pub(crate) fn named(name: &[u8]) -> Kind
 
 // Reads the numbers of a kind, which stand behind the word that ends at `at`.
 pub(crate) fn read(kind: Kind, line: &[u8], at: usize, n: &mut [u32; 64]) -> Rest
-    ensures { λ r. ⌜ Reading (now (line .entry)) at (limitsOf kind) (now (n .entry)) r (now (n .exit)) ⌝ }
+    ensures { λ r. ⌜ Reading (rowOf kind .fields (tailAt (now (line .entry)) at)) (now (line .entry)) at (now (n .entry)) r (now (n .exit)) ⌝ }
 {
     match kind {
-        Kind::Valid => fields::read(line, at, &[U32, U8, U16, U8, U8], n),
-        Kind::Output => fields::read(line, at, &[U32, U8, U16, U8, U8], n),
-        Kind::Search => fields::read(line, at, &[U32, U32], n),
-        Kind::Settings => fields::read(line, at, &[U32, U32, ROOM], n),
-        Kind::Voltage => fields::read(line, at, &[U8], n),
-        Kind::Pio => fields::read(line, at, &[U32, U32], n),
-        Kind::Gpout => fields::read(
-            line,
-            at,
-            &[
-                U8,
-                U32,
-                U8,
-                U32,
-                U32,
-                U32,
-                U32,
-                U32,
-                U32,
-                U32,
-                U32,
-                U32,
-                U32,
-            ],
-            n,
-        ),
+        Kind::Valid => read_all(line, at, &[U32, U8, U16, U8, U8], n),
+        Kind::Output => read_all(line, at, &[U32, U8, U16, U8, U8], n),
+        Kind::Search => read_all(line, at, &[U32, U32], n),
+        Kind::Settings => read_all(line, at, &[U32, U32, ROOM], n),
+        Kind::Voltage => read_all(line, at, &[U8], n),
+        Kind::Pio => read_all(line, at, &[U32, U32], n),
+        Kind::Gpout => {
+            let mut limits = [U32; 13];
+            limits[0] = U8;
+            limits[2] = U8;
+            read_all(line, at, &limits, n)
+        }
         Kind::Sheet => {
             let mut limits = [U32; 50];
             limits[0] = U8;
             limits[1] = ROOM;
+            read_all(line, at, &limits, n)
+        }
+        Kind::Crystal => read_all(line, at, &[U8, ROOM, U32], n),
+        Kind::Rosc => read_all(line, at, &[U8, ROOM], n),
+        Kind::Default => read_all(line, at, &[U8, ROOM], n),
+        Kind::System => read_all(line, at, &[U8, ROOM, U32], n),
+        Kind::Manual => read_all(line, at, &[U8, ROOM, U32, U8, U16, U8, U8, 15], n),
+        Kind::Run => {
+            let mut limits = [U32; 15];
+            limits[3] = 1;
+            limits[14] = 1;
             fields::read(line, at, &limits, n)
         }
-        Kind::Crystal => fields::read(line, at, &[U8, ROOM, U32], n),
-        Kind::Rosc => fields::read(line, at, &[U8, ROOM], n),
-        Kind::Default => fields::read(line, at, &[U8, ROOM], n),
-        Kind::System => fields::read(line, at, &[U8, ROOM, U32], n),
-        Kind::Manual => fields::read(line, at, &[U8, ROOM, U32, U8, U16, U8, U8, 15], n),
-        Kind::Run => fields::read(
-            line,
-            at,
-            &[
-                U32,
-                U32,
-                U32,
-                1,
-                U32,
-                U32,
-                U32,
-                U32,
-                U32,
-                U32,
-                U32,
-                U32,
-                U32,
-                U32,
-                1,
-            ],
-            n,
-        ),
-        Kind::Unknown => Rest::At(at),
-    }
-}
-
-pub(crate) fn is_run(kind: Kind) -> bool
-    ensures { λ r. ⌜ r ≡ isRun kind ⌝ }
-{
-    match kind {
-        Kind::Valid => false,
-        Kind::Output => false,
-        Kind::Search => false,
-        Kind::Settings => false,
-        Kind::Voltage => false,
-        Kind::Pio => false,
-        Kind::Gpout => false,
-        Kind::Sheet => false,
-        Kind::Crystal => false,
-        Kind::Rosc => false,
-        Kind::Default => false,
-        Kind::System => false,
-        Kind::Manual => false,
-        Kind::Run => true,
-        Kind::Unknown => false,
+        Kind::Unknown => Rest::Bad,
     }
 }

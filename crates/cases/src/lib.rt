@@ -1,21 +1,13 @@
 // Cases as text: a line in, its answer out.
 mod kinds;
 mod lists;
-mod numbers;
-mod runs;
-mod sheets;
 
 use fields::Rest;
-ghost use mathlib.Core.Path.{_≡_};
-ghost use Rattle.base.specs.Choice.{pick};
-ghost use Rattle.base.specs.Placed.{Placed};
-ghost use Rattle.fields.specs.Fields.{numbersIn, tailAt};
-ghost use Rattle.fields.specs.Row.{nth, Within};
-ghost use Rattle.replies.specs.Reply.{badCase};
-ghost use Rattle.cases.specs.Kinds.{limitsOf};
-ghost use Rattle.cases.specs.Runs.{runText};
+ghost use Rattle.fields.specs.Fields.{tailAt};
+ghost use Rattle.fields.specs.Row.{nth};
 ghost use Rattle.cases.specs.Lists.{Answered};
-ghost use Rattle.cases.specs.Cases.{caseText, isRun, tailText, AnsweredBy, inputOf, targetOf, answerOf};
+ghost use Rattle.cases.specs.Kinds.{rowOf};
+ghost use Rattle.cases.specs.Cases.{tailText, AnsweredBy, inputOf, targetOf, answerTo};
 
 pub enum Kind {
     Valid,
@@ -35,55 +27,43 @@ pub enum Kind {
     Unknown,
 }
 
-// The answer where the line ends behind the numbers n.
-fn put_case(kind: Kind, n: &[u32; 64], out: &mut [u8]) -> usize
-    requires { ⌜ Within (limitsOf kind) (now n) ⌝ }
-    ensures { λ r. ⌜ Answered (nth (now (n .entry)) 0) (nth (now (n .entry)) 1) (caseText kind (now (n .entry))) (now (out .entry)) r (now (out .exit)) ⌝ }
+// The answer of a kind to its numbers n and the word behind them.
+fn put_case(kind: Kind, n: &[u32; 64], word: &[u8], out: &mut [u8]) -> usize
+    ensures { λ r. ⌜ Answered (nth (now (n .entry)) 0) (nth (now (n .entry)) 1) (rowOf kind .text (now (n .entry)) (now (word .entry))) (now (out .entry)) r (now (out .exit)) ⌝ }
 {
     match kind {
-        Kind::Valid => numbers::put_valid(n, out),
-        Kind::Output => numbers::put_output(n, out),
-        Kind::Search => numbers::put_search(n, out),
+        Kind::Valid => number_cases::put_valid(n, out),
+        Kind::Output => number_cases::put_output(n, out),
+        Kind::Search => number_cases::put_search(n, out),
         Kind::Settings => lists::put_list(n, out),
-        Kind::Voltage => numbers::put_voltage(n, out),
-        Kind::Pio => numbers::put_pio(n, out),
-        Kind::Gpout => numbers::put_gpout(n, out),
-        Kind::Sheet => sheets::put_plan_sheet(n, out),
-        Kind::Crystal => sheets::put_crystal(n, out),
-        Kind::Rosc => sheets::put_rosc(n, out),
-        Kind::Default => sheets::put_default(n, out),
-        Kind::System => sheets::put_system(n, out),
-        Kind::Manual => sheets::put_manual(n, out),
-        Kind::Run => replies::put_bad(out),
+        Kind::Voltage => number_cases::put_voltage(n, out),
+        Kind::Pio => number_cases::put_pio(n, out),
+        Kind::Gpout => number_cases::put_gpout(n, out),
+        Kind::Sheet => sheet_cases::put_plan_sheet(n, out),
+        Kind::Crystal => sheet_cases::put_crystal(n, out),
+        Kind::Rosc => sheet_cases::put_rosc(n, out),
+        Kind::Default => sheet_cases::put_default(n, out),
+        Kind::System => sheet_cases::put_system(n, out),
+        Kind::Manual => sheet_cases::put_manual(n, out),
+        Kind::Run => run_cases::put_run(n, word, out),
         Kind::Unknown => replies::put_bad(out),
     }
 }
 
-// The answer where a space and a word more stand behind the numbers n.
-fn put_more(kind: Kind, n: &[u32; 64], word: &[u8], out: &mut [u8]) -> usize
-    ensures { λ r. ⌜ Placed (now (out .entry)) 0 (pick (isRun kind) (runText (now (n .entry)) (now (word .entry))) badCase) r (now (out .exit)) ⌝ }
-{
-    if kinds::is_run(kind) {
-        return runs::put_run(n, word, out);
-    }
-    replies::put_bad(out)
-}
-
 // The answer by what stands behind the numbers, whose last word ends at `end`.
 fn put_tail(kind: Kind, n: &[u32; 64], line: &[u8], end: usize, out: &mut [u8]) -> usize
-    requires { ⌜ Within (limitsOf kind) (now n) ⌝ }
     ensures { λ r. ⌜ Answered (nth (now (n .entry)) 0) (nth (now (n .entry)) 1) (tailText (tailAt (now (line .entry)) end) kind (now (n .entry))) (now (out .entry)) r (now (out .exit)) ⌝ }
 {
     if end < line.len() {
         let start = end + 1;
-        return put_more(kind, n, &line[start..], out);
+        return put_case(kind, n, &line[start..], out);
     }
-    put_case(kind, n, out)
+    put_case(kind, n, b"", out)
 }
 
 // The answer to a case of a kind whose name ends at `at`.
 fn put_kind(kind: Kind, line: &[u8], at: usize, out: &mut [u8]) -> usize
-    ensures { λ r. ⌜ AnsweredBy kind (numbersIn (limitsOf kind) (tailAt (now (line .entry)) at)) (now (out .entry)) r (now (out .exit)) ⌝ }
+    ensures { λ r. ⌜ AnsweredBy kind (rowOf kind .fields (tailAt (now (line .entry)) at)) (now (out .entry)) r (now (out .exit)) ⌝ }
 {
     let mut n = [0u32; 64];
     match kinds::read(kind, line, at, &mut n) {
@@ -94,7 +74,7 @@ fn put_kind(kind: Kind, line: &[u8], at: usize, out: &mut [u8]) -> usize
 
 // Answers a line: the answer is put at the buffer's start, and the index past it is returned.
 pub fn answer(line: &[u8], out: &mut [u8]) -> usize
-    ensures { λ r. ⌜ Answered (inputOf (now (line .entry))) (targetOf (now (line .entry))) (answerOf (now (line .entry))) (now (out .entry)) r (now (out .exit)) ⌝ }
+    ensures { λ r. ⌜ Answered (inputOf (now (line .entry))) (targetOf (now (line .entry))) (answerTo (now (line .entry))) (now (out .entry)) r (now (out .exit)) ⌝ }
 {
     let at = text::index_from(line, 0, b' ');
     let kind = kinds::named(&line[..at]);

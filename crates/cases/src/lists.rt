@@ -1,21 +1,19 @@
 // The `list` case.
-use lister::Listed;
+use base::Length;
 ghost use mathlib.Core.Path.{_≡_};
 ghost use lib.ListN.{length};
 ghost use Rattle.base.specs.Placed.{Placed};
-ghost use Rattle.lister.specs.Lister.{listedIs};
-ghost use Rattle.fields.specs.Row.{nth, Within};
+ghost use Rattle.base.specs.Answer.{lengthIs};
+ghost use Rattle.fields.specs.Row.{nth};
 ghost use Rattle.replies.specs.Reply.{answerText, writtenText};
-ghost use Rattle.cases.specs.declared.Kind.the-variants.{Settings};
-ghost use Rattle.cases.specs.Kinds.{limitsOf};
 ghost use Rattle.cases.specs.Lists.{listedText, listText, Answered};
 
-fn put_listed(out: &mut [u8], buf: &[u8], listed: Listed) -> usize
-    ensures { λ r. ⌜ Placed (now (out .entry)) 0 (answerText (writtenText (now (buf .entry))) (listedIs listed)) r (now (out .exit)) ⌝ }
+fn put_listed(out: &mut [u8], buf: &[u8], listed: Length) -> usize
+    ensures { λ r. ⌜ Placed (now (out .entry)) 0 (answerText (writtenText (now (buf .entry))) (lengthIs listed)) r (now (out .exit)) ⌝ }
 {
     match listed {
-        Listed::Length(length) => replies::put_written(out, length, buf),
-        Listed::Refused(number) => replies::put_refused(out, number),
+        Length::Bytes(length) => replies::put_written(out, length, buf),
+        Length::Refused(number) => replies::put_refused(out, number),
     }
 }
 
@@ -27,12 +25,11 @@ fn put_list_in(out: &mut [u8], input: u32, target: u32, buf: &mut [u8]) -> usize
 }
 
 pub(crate) fn put_list(n: &[u32; 64], out: &mut [u8]) -> usize
-    requires { ⌜ Within (limitsOf Settings) (now n) ⌝ }
     ensures { λ r. ⌜ Answered (nth (now (n .entry)) 0) (nth (now (n .entry)) 1) (listText (now (n .entry))) (now (out .entry)) r (now (out .exit)) ⌝ }
 {
     let mut buf = [238u8; 1024];
     let input = fields::number_at(n, 0);
     let target = fields::number_at(n, 1);
-    let room = fields::number_at(n, 2) as usize;
+    let room = fields::room_at(n, 2);
     put_list_in(out, input, target, &mut buf[..room])
 }

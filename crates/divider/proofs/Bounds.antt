@@ -1,13 +1,9 @@
 -- How large the formulas' numbers get.
 -- Assumes nothing.
-use Prim.Native.Nat.{ℕ, _+_, _*_, _≤_, _<_}
+use Prim.Native.Nat.{ℕ, _+_, _*_, _≤_}
 use native.Mathlib.Nat.{le-refl, mul-le-mul, div-le-of-le-mul}
 use native.Mathlib.Omega.{arith}
 use Rattle.divider.specs.Clock.{dividedHz}
-
--- the largest product of two 32-bit numbers: some 2 ^ 33 below the top of 64 bits
-pub product-fits : (a b : ℕ) → a < 4294967296 → b < 4294967296 → a * b ≤ 18446744065119617025
-product-fits a b ha hb = mul-le-mul {n₂ = 4294967295} {m₂ = 4294967295} (omega arith) (omega arith)
 
 -- with a whole part from 1 on, a divided clock is at most its source
 pub divided-le : (source whole fraction : ℕ) → 1 ≤ whole → dividedHz source whole fraction ≤ source

@@ -2,4 +2,3 @@ pub mod Clock
 pub mod Delay
 pub mod Gpout
 pub mod Pio
-pub mod Answers

@@ -1,17 +1,15 @@
 // The formulas of the clocks: divided frequencies, delays, the Gpout frequency and the PIO divider.
+use base::Number;
 ghost use mathlib.Core.Path.{_≡_};
 ghost use Prim.Native.Nat.{_≤_};
+ghost use Rattle.base.specs.Answer.{numberIs};
 ghost use Rattle.divider.specs.Clock.{dividedHz};
-ghost use Rattle.divider.specs.Delay.{startupSum, startupDelayOf, settlingCycles, settlingDelayOf};
+ghost use Rattle.divider.specs.Delay.{startupSum, settlingCycles};
 ghost use Rattle.divider.specs.Gpout.{gpoutClock, gpoutWhole, gpoutOf};
 ghost use Rattle.divider.specs.Pio.{pioOf};
-ghost use Rattle.divider.specs.Answers.{dividedIs};
 
-// A frequency, a delay or a divider; a refusal carries its number.
-pub enum Divided {
-    Value(u32),
-    Refused(u8),
-}
+// The refusal of a Gpout that has no frequency.
+const NO_GPOUT: u8 = 23;
 
 // A source over a divider of a whole part and 256ths, rounded down; 0 over a divider of 0.
 pub fn divided_hz(source: u32, whole: u32, fraction: u8) -> u64
@@ -27,35 +25,11 @@ pub fn startup_sum(hz: u32, multiplier: u32) -> u64
     (hz / 1000) as u64 * multiplier as u64 + 128
 }
 
-// The crystal's startup delay, which has 14 bits. A sum over 32 bits gives a delay over 14 bits.
-pub fn startup_delay(hz: u32, multiplier: u32) -> Divided
-    ensures { λ r. ⌜ dividedIs r ≡ startupDelayOf hz multiplier ⌝ }
-{
-    let delay = startup_sum(hz, multiplier) / 256;
-    if delay <= 16383 {
-        Divided::Value(delay as u32)
-    } else {
-        Divided::Refused(4)
-    }
-}
-
 // Cycles of the ring in the settling time of the core voltage.
 pub fn settling_cycles(time_us: u32, ring_hz: u32) -> u64
     ensures { λ r. ⌜ r ≡ settlingCycles «time_us» «ring_hz» ⌝ }
 {
     time_us as u64 * (ring_hz / 1000000) as u64
-}
-
-// The same as a delay, which has 32 bits.
-pub fn settling_delay(time_us: u32, ring_hz: u32) -> Divided
-    ensures { λ r. ⌜ dividedIs r ≡ settlingDelayOf «time_us» «ring_hz» ⌝ }
-{
-    let cycles = settling_cycles(time_us, ring_hz);
-    if cycles <= 4294967295 {
-        Divided::Value(cycles as u32)
-    } else {
-        Divided::Refused(3)
-    }
 }
 
 // The clock that a Gpout source code stands for, 10 where there is none.
@@ -91,34 +65,29 @@ fn gpout_hz(source: u32, div_int: u32, div_frac: u8) -> u32
 }
 
 // The frequency of a Gpout with this source code and divider, over the ten stored frequencies.
-pub fn get_freq(source: u8, div_int: u32, div_frac: u8, freqs: &[u32; 10]) -> Divided
-    ensures { λ r. ⌜ dividedIs r ≡ gpoutOf source «div_int» «div_frac» (now (freqs .entry)) ⌝ }
+pub fn get_freq(source: u8, div_int: u32, div_frac: u8, freqs: &[u32; 10]) -> Number
+    ensures { λ r. ⌜ numberIs r ≡ gpoutOf source «div_int» «div_frac» (now (freqs .entry)) ⌝ }
 {
     if 16777215 < div_int {
-        return Divided::Refused(23);
+        return Number::Refused(NO_GPOUT);
     }
     let clock = gpout_clock(source) as usize;
     if clock < 10 {
-        Divided::Value(gpout_hz(freqs[clock], div_int, div_frac))
+        Number::Value(gpout_hz(freqs[clock], div_int, div_frac))
     } else {
-        Divided::Refused(23)
+        Number::Refused(NO_GPOUT)
     }
 }
 
-// The divider, in 256ths, that makes a PIO state machine run at the target.
-pub fn calculate_pio_clock_divider_value(sys_hz: u32, target_hz: u32) -> Divided
-    ensures { λ r. ⌜ dividedIs r ≡ pioOf «sys_hz» «target_hz» ⌝ }
+// The divider, in 256ths, that makes a PIO state machine run at the target. Over a target of 0 it is 0, out of
+// range.
+pub fn calculate_pio_clock_divider_value(sys_hz: u32, target_hz: u32) -> Number
+    ensures { λ r. ⌜ numberIs r ≡ pioOf «sys_hz» «target_hz» ⌝ }
 {
-    if target_hz == 0 {
-        return Divided::Refused(17);
-    }
-    let divider = sys_hz as u64 * 256 / target_hz as u64;
-    if divider < 256 {
-        return Divided::Refused(17);
-    }
-    if divider <= 16777215 {
-        Divided::Value(divider as u32)
+    let divider = base::quotient(sys_hz as u64 * 256, target_hz as u64);
+    if base::in_range(256, 16777215, divider) {
+        Number::Value(divider as u32)
     } else {
-        Divided::Refused(17)
+        Number::Refused(17)
     }
 }

@@ -1,3 +1,4 @@
 -- What belongs to no one function.
 -- Assumes nothing.
 pub mod Runners
+pub mod Demand3

@@ -11,7 +11,7 @@ use Rattle.step.specs.Access.{wordAt}
 use Rattle.step.proofs.Accesses.{read-sound}
 use Rattle.runner.specs.declared.State.{State}
 use Rattle.runner.specs.Run.{Outcome, outside, turnOf}
-use Rattle.export.specs.Numbers.{numberOf}
+use Rattle.export.specs.Numbers.{answerNumber}
 use Rattle.export.specs.Run.{withFreqs, progressNumber, progressWith}
 use Rattle.runner.proofs.Calls.{inside, call-outside, every-turn}
 
@@ -42,10 +42,10 @@ position-fits s sheet ready h = go (outside s) refl
 
 -- a step that is handed out is the word that stands at the position
 pub turn-word : (s : State) (sheet : List ℕ) (ready : Bool)
-    → numberOf (progressWith (wordAt sheet (8 * s .position))) (turnOf s sheet ready .answer)
-    ≡ numberOf progressNumber (turnOf s sheet ready .answer)
+    → answerNumber (progressWith (wordAt sheet (8 * s .position))) (turnOf s sheet ready .answer)
+    ≡ answerNumber progressNumber (turnOf s sheet ready .answer)
 turn-word s sheet ready =
     let word : ℕ = wordAt sheet (8 * s .position) in
     every-turn
-    (λ (x : Outcome State). numberOf (progressWith word) (x .answer) ≡ numberOf progressNumber (x .answer)) s sheet ready
+    (λ (x : Outcome State). answerNumber (progressWith word) (x .answer) ≡ answerNumber progressNumber (x .answer)) s sheet ready
     (λ n. refl) refl refl (λ polls. refl) refl (λ step e. sym (read-sound sheet (8 * s .position) step e .1))

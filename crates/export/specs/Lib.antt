@@ -2,5 +2,6 @@
 -- Assumes nothing.
 pub mod Numbers
 pub mod Sheet
+pub mod Demand3
 pub mod Listing
 pub mod Run

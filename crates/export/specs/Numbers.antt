@@ -6,10 +6,13 @@ use Rattle.pll.specs.declared.PllConfig.{PllConfig}
 use Rattle.voltage.specs.declared.CoreVoltage.{CoreVoltage}
 use Rattle.voltage.specs.Voltage.{codeOf, bodOf}
 
--- a value as a number of its own, below 2 ^ 48; refusal n as 2 ^ 48 + n
-abbrev pub numberOf : {A : Type 0} → (A → ℕ) → Answer A → ℕ
-numberOf f (value v) = f v
-numberOf f (refusal n) = 281474976710656 + n
+-- 2 ^ 48: a value is a number of its own below it, refusal n is that much more than n
+abbrev pub refusals : ℕ
+refusals = 281474976710656
+
+abbrev pub answerNumber : {A : Type 0} → (A → ℕ) → Answer A → ℕ
+answerNumber f (value v) = f v
+answerNumber f (refusal n) = refusals + n
 
 -- 2 ^ 49: the numbers given are of no such thing as the call is about
 abbrev pub malformed : ℕ

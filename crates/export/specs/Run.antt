@@ -5,12 +5,12 @@ use mathlib.Core.List.{List, _++_}
 use Prim.Native.Nat.{ℕ}
 use lib.Dec.{eqb, leb}
 use lib.ListN.{getD, set, take, drop}
-use Rattle.base.specs.Choice.{pick}
+use Rattle.base.specs.Choice.{pick, bit}
 use Rattle.step.specs.Steps.{packOf}
 use Rattle.runner.specs.declared.State.{State}
 use Rattle.runner.specs.declared.Runner.{Runner}
 use Rattle.runner.specs.Run.{Progress, done, handed, passed, waiting, Outcome, advanceOf}
-use Rattle.export.specs.Numbers.{numberOf, malformed}
+use Rattle.export.specs.Numbers.{answerNumber, malformed}
 
 -- position, lock polls, total, stopped mark
 abbrev pub stateIn : List ℕ → State
@@ -26,11 +26,7 @@ stateIn ns =
 abbrev pub runnerIn : List ℕ → Runner
 runnerIn ns = record { state = stateIn ns; freqs = drop 4 ns }
 
--- a mark is 1 where it is set, else 0
-abbrev pub markOf : Bool → ℕ
-markOf stopped = pick stopped 1 0
-
--- no other mark is a runner's
+-- a mark is 1 or 0; no other is a runner's
 abbrev pub isRunner : List ℕ → Bool
 isRunner ns = leb (getD ns 3 0) 1
 
@@ -50,7 +46,7 @@ progressWith word (handed step) = word
 
 -- the numbers with another state, and with other frequencies
 unfoldable pub withState : State → List ℕ → List ℕ
-withState s ns = set (set (set (set ns 0 (s .position)) 1 (s .«lock_polls»)) 2 (s .total)) 3 (markOf (s .stopped))
+withState s ns = set (set (set (set ns 0 (s .position)) 1 (s .«lock_polls»)) 2 (s .total)) 3 (bit (s .stopped))
 
 unfoldable pub withFreqs : List ℕ → List ℕ → List ℕ
 withFreqs freqs ns = take 4 ns ++ freqs
@@ -58,7 +54,7 @@ withFreqs freqs ns = take 4 ns ++ freqs
 -- a call: its answer as a number, and the numbers after it; numbers of no runner stay as they are
 unfoldable pub runNumber : List ℕ → List ℕ → Bool → ℕ
 runNumber ns sheet ready =
-    pick (isRunner ns) (numberOf progressNumber (advanceOf (runnerIn ns) sheet ready .answer)) malformed
+    pick (isRunner ns) (answerNumber progressNumber (advanceOf (runnerIn ns) sheet ready .answer)) malformed
 
 unfoldable pub runLeaves : List ℕ → List ℕ → Bool → List ℕ
 runLeaves ns sheet ready =

@@ -4,7 +4,7 @@ mod run;
 
 use config::ClockConfig;
 use config::Planned;
-use plans::PlanRead;
+use plan_numbers::PlanRead;
 use pll::PllConfig;
 ghost use mathlib.Core.Path.{_≡_};
 ghost use Rattle.voltage.specs.Voltage.{coreVoltageOf};
@@ -13,15 +13,15 @@ ghost use Rattle.divider.specs.Pio.{pioOf};
 ghost use Rattle.pll.specs.Setting.{validOf, outputOf};
 ghost use Rattle.pll.specs.Search.{searchOf};
 ghost use Rattle.config.specs.Presets.{plannedIs, systemPlan};
-ghost use Rattle.plans.specs.Plan.{planOf};
-ghost use Rattle.export.specs.Numbers.{numberOf, itself, settingNumber, voltageNumber, dividersAre};
+ghost use Rattle.plan_numbers.specs.Plan.{planOf};
+ghost use Rattle.export.specs.Numbers.{answerNumber, itself, settingNumber, voltageNumber, dividersAre};
 ghost use Rattle.export.specs.Sheet.{SheetCall, PlanSheetCall};
 ghost use Rattle.export.specs.Listing.{ListCall};
 ghost use Rattle.export.specs.Run.{runNumber, runLeaves};
 
 #[no_mangle]
 pub extern "C" fn dizbaral_search(input_hz: u32, target_hz: u32) -> u64
-    ensures { λ r. ⌜ r ≡ numberOf settingNumber (searchOf «input_hz» «target_hz») ⌝ }
+    ensures { λ r. ⌜ r ≡ answerNumber settingNumber (searchOf «input_hz» «target_hz») ⌝ }
 {
     numbers::found(pll::find_pll_params(input_hz, target_hz))
 }
@@ -53,7 +53,7 @@ pub extern "C" fn dizbaral_output_frequency(
     post_div1: u8,
     post_div2: u8,
 ) -> u64
-    ensures { λ r. ⌜ r ≡ numberOf itself (outputOf (dividersAre refdiv fbdiv «post_div1» «post_div2») «input_hz») ⌝ }
+    ensures { λ r. ⌜ r ≡ answerNumber itself (outputOf (dividersAre refdiv fbdiv «post_div1» «post_div2») «input_hz») ⌝ }
 {
     let setting = PllConfig {
         refdiv,
@@ -61,21 +61,21 @@ pub extern "C" fn dizbaral_output_frequency(
         post_div1,
         post_div2,
     };
-    numbers::output(setting.output_frequency(input_hz))
+    numbers::number(setting.output_frequency(input_hz))
 }
 
 #[no_mangle]
 pub extern "C" fn dizbaral_core_voltage(reading: u8) -> u64
-    ensures { λ r. ⌜ r ≡ numberOf voltageNumber (coreVoltageOf reading) ⌝ }
+    ensures { λ r. ⌜ r ≡ answerNumber voltageNumber (coreVoltageOf reading) ⌝ }
 {
     numbers::voltage_read(voltage::core_voltage(reading))
 }
 
 #[no_mangle]
 pub extern "C" fn dizbaral_pio_divider(sys_hz: u32, target_hz: u32) -> u64
-    ensures { λ r. ⌜ r ≡ numberOf itself (pioOf «sys_hz» «target_hz») ⌝ }
+    ensures { λ r. ⌜ r ≡ answerNumber itself (pioOf «sys_hz» «target_hz») ⌝ }
 {
-    numbers::divided(divider::calculate_pio_clock_divider_value(sys_hz, target_hz))
+    numbers::number(divider::calculate_pio_clock_divider_value(sys_hz, target_hz))
 }
 
 #[no_mangle]
@@ -85,16 +85,16 @@ pub extern "C" fn dizbaral_gpout_frequency(
     fraction: u8,
     freqs: &[u32; 10],
 ) -> u64
-    ensures { λ r. ⌜ r ≡ numberOf itself (gpoutOf source whole fraction (now (freqs .entry))) ⌝ }
+    ensures { λ r. ⌜ r ≡ answerNumber itself (gpoutOf source whole fraction (now (freqs .entry))) ⌝ }
 {
-    numbers::divided(divider::get_freq(source, whole, fraction, freqs))
+    numbers::number(divider::get_freq(source, whole, fraction, freqs))
 }
 
 fn write_planned(plan: Planned, reading: u8, sheet: &mut [u8]) -> u64
     ensures { λ r. ⌜ SheetCall (plannedIs plan) reading (now (sheet .entry)) r (now (sheet .exit)) ⌝ }
 {
     match plan {
-        Planned::Plan(config) => numbers::written(sheet::init(config, reading, sheet)),
+        Planned::Plan(config) => numbers::length(sheet::init(config, reading, sheet)),
         Planned::Refused(number) => numbers::refused(number),
     }
 }
@@ -110,8 +110,8 @@ pub extern "C" fn dizbaral_system_sheet(hz: u32, reading: u8, sheet: &mut [u8]) 
 pub extern "C" fn dizbaral_plan_sheet(plan: &[u32], reading: u8, sheet: &mut [u8]) -> u64
     ensures { λ r. ⌜ PlanSheetCall (planOf (now (plan .entry))) reading (now (sheet .entry)) r (now (sheet .exit)) ⌝ }
 {
-    match plans::plan(plan) {
-        PlanRead::Plan(config) => numbers::written(sheet::init(config, reading, sheet)),
+    match plan_numbers::plan(plan) {
+        PlanRead::Plan(config) => numbers::length(sheet::init(config, reading, sheet)),
         PlanRead::Bad => numbers::MALFORMED,
     }
 }
@@ -120,7 +120,7 @@ pub extern "C" fn dizbaral_plan_sheet(plan: &[u32], reading: u8, sheet: &mut [u8
 pub extern "C" fn dizbaral_list(input_hz: u32, target_hz: u32, list: &mut [u8]) -> u64
     ensures { λ r. ⌜ ListCall «input_hz» «target_hz» (now (list .entry)) r (now (list .exit)) ⌝ }
 {
-    numbers::listed(lister::list_exact(input_hz, target_hz, list))
+    numbers::length(lister::list_exact(input_hz, target_hz, list))
 }
 
 #[no_mangle]

@@ -8,32 +8,18 @@ ghost use Prim.Native.Nat.{_≤_};
 ghost use lib.ListN.{drop};
 ghost use Rattle.step.specs.Steps.{WellFormed};
 ghost use Rattle.runner.specs.Run.{replyIs, HandsFormed, storedBy, freqsAfter};
-ghost use Rattle.export.specs.Numbers.{numberOf};
-ghost use Rattle.export.specs.Run.{stateIn, markOf, withState, withFreqs, progressWith};
-
-// The same number, which fits 32 bits.
-fn wide(x: u32) -> usize
-    ensures { λ r. ⌜ (r ≡ x) × (r ≤ 4294967295) ⌝ }
-{
-    x as usize
-}
+ghost use Rattle.export.specs.Numbers.{answerNumber};
+ghost use Rattle.export.specs.Run.{stateIn, withState, withFreqs, progressWith};
 
 pub(crate) fn state(numbers: &[u32; 14]) -> State
     ensures { λ r. ⌜ (r ≡ stateIn (now (numbers .entry))) × (r .position ≤ 4294967295) ⌝ }
 {
     State {
-        position: wide(numbers[0]),
+        position: base::wide(numbers[0]) as usize,
         lock_polls: numbers[1],
         total: numbers[2],
         stopped: numbers[3] == 1,
     }
-}
-
-// The number of a mark.
-fn mark(stopped: bool) -> u32
-    ensures { λ r. ⌜ r ≡ markOf stopped ⌝ }
-{
-    if stopped { 1 } else { 0 }
 }
 
 pub(crate) fn put_state(numbers: &mut [u32; 14], s: State)
@@ -43,7 +29,7 @@ pub(crate) fn put_state(numbers: &mut [u32; 14], s: State)
     numbers[0] = s.position as u32;
     numbers[1] = s.lock_polls;
     numbers[2] = s.total;
-    numbers[3] = mark(s.stopped);
+    numbers[3] = base::bit(s.stopped);
 }
 
 // A store sets its clock's frequency.
@@ -61,7 +47,7 @@ fn put_store(numbers: &mut [u32; 14], step: Step)
 // The number of a reply at a word of the sheet; a store that is handed out sets its frequency.
 pub(crate) fn answer(numbers: &mut [u32; 14], reply: Reply, word: u64) -> u64
     requires { ⌜ HandsFormed (replyIs reply) ⌝ }
-    ensures { λ r. ⌜ (r ≡ numberOf (progressWith word) (replyIs reply)) × (now (numbers .exit) ≡ withFreqs (freqsAfter (replyIs reply) (drop 4 (now (numbers .entry)))) (now (numbers .entry))) ⌝ }
+    ensures { λ r. ⌜ (r ≡ answerNumber (progressWith word) (replyIs reply)) × (now (numbers .exit) ≡ withFreqs (freqsAfter (replyIs reply) (drop 4 (now (numbers .entry)))) (now (numbers .entry))) ⌝ }
 {
     match reply {
         Reply::Done => 0,

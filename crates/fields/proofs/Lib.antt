@@ -1,3 +1,2 @@
 pub mod Same
 pub mod Tails
-pub mod Rows

@@ -7,7 +7,7 @@ use Prim.Native.Nat.{ℕ}
 use native.Mathlib.Omega.{arith}
 use lib.Dec.{eqb}
 use borrow.Author.Tests.{eqb-true, eq-eqb}
-use Rattle.base.proofs.Bools.{and-true}
+use Rattle.base.proofs.Bools.{both-true}
 use Rattle.text.specs.Ascii.{same}
 
 same-true : (xs ys : List ℕ) → same xs ys ≡ true → xs ≡ ys
@@ -15,7 +15,7 @@ same-true [] [] e = refl
 same-true [] (y ∷ ys) e = let z : _≡_ {A = ℕ} 0 1 = cc in absurd (omega arith)
 same-true (x ∷ xs) [] e = let z : _≡_ {A = ℕ} 0 1 = cc in absurd (omega arith)
 same-true (x ∷ xs) (y ∷ ys) e =
-    let both = and-true (eqb x y) (same xs ys) e in
+    let both = both-true (eqb x y) (same xs ys) e in
     let x-y : x ≡ y = eqb-true x y (both .0) in
     let xs-ys : xs ≡ ys = same-true xs ys (both .1) in
     cc

@@ -3,19 +3,19 @@
 use mathlib.Core.Path.{_≡_, refl, sym, ap, _∙_}
 use mathlib.Core.Bool.{Bool, true, false}
 use mathlib.Core.List.{List, [], _∷_}
-use Prim.Native.Nat.{ℕ, zero, suc, _+_, _-_, _≤_, _<_}
+use Prim.Native.Nat.{ℕ, zero, suc, _+_, _-_, _≤_, _<_, max}
 use native.Mathlib.Omega.{arith}
-use borrow.Author.Tests.{lt-ltb, le-ltb, le-leb, lt-leb}
+use borrow.Author.Tests.{lt-ltb, le-ltb, le-leb, lt-leb, ltb-true, ltb-false}
 use lib.Dec.{eqb, ltb, leb·suc-suc}
 use lib.ListN.{length, take, drop, getD, set, length-drop, drop-of-length-le}
 use lib.Seq.{drop-cons, drop-drop}
 use Rattle.base.specs.Answer.{Answer, value, refusal}
 use Rattle.base.specs.Choice.{pick}
-use Rattle.base.specs.Placed.{placed}
+use lib.Seq.{sets}
 use Rattle.text.specs.Decimal.{numberOf}
 use Rattle.text.specs.Words.{upTo, indexFrom}
 use Rattle.text.proofs.Lines.{take-up}
-use Rattle.fields.specs.Fields.{Tail, ended, more, noNumber, behind, withNumber, numbersIn, tailAt, Reading}
+use Rattle.fields.specs.Fields.{Tail, ended, more, bad, Fields, closed, noNumber, behind, withNumber, numbersIn, tailAt, restOf, Reading}
 use Rattle.fields.specs.declared.Rest.the-variants.{At, Bad}
 
 -- what follows the first word starts where the word ends
@@ -41,8 +41,8 @@ tail-drop line k j h =
     rw (test, drop-drop, suc-out)
   where
     go : (t : Bool) → ltb (k + j) (length line) ≡ t → ltb j (length (drop k line)) ≡ t
-    go true e = lt-ltb j (length (drop k line)) (simp length-drop (omega (arith, borrow.Author.Tests.ltb-true)))
-    go false e = le-ltb j (length (drop k line)) (simp length-drop (omega (arith, borrow.Author.Tests.ltb-false)))
+    go true e = lt-ltb j (length (drop k line)) (simp length-drop (omega (arith, ltb-true)))
+    go false e = le-ltb j (length (drop k line)) (simp length-drop (omega (arith, ltb-false)))
 
 module _ (line limits : List ℕ) (i end : ℕ) where
   -- a limit more, and a word more
@@ -70,42 +70,89 @@ module _ (line limits : List ℕ) (i end : ℕ) where
   unfolding numbersIn
   all-read out = rw (drop-of-length-le limits out)
 
+-- the index of a tail that follows it
+rest-at : (line : List ℕ) (at end : ℕ) {tail : Tail} → at ≤ end → end ≤ max at (length line) → tailAt line end ≡ tail
+    → At end ≡ restOf line at tail
+unfolding tailAt
+rest-at line at end low high e = rw (← e) (go (ltb end (length line)) refl)
+  where
+    go : (t : Bool) → ltb end (length line) ≡ t
+        → At end ≡ restOf line at (pick t (more (drop (suc end) line)) ended)
+    go true in-line =
+        let h : end < length line = ltb-true end (length line) in-line in
+        ap At (simp length-drop (omega arith))
+    go false out =
+        let h : length line ≤ end = ltb-false end (length line) out in
+        ap At (omega arith)
+
 -- what is left to read makes, behind the numbers that stand in the buffer, the whole
 pub record Going (line limits before : List ℕ) (at : ℕ) (numbers : List ℕ) (end i : ℕ) : Type 0 where
+  pub start : at ≤ end
+  pub within : end ≤ max at (length line)
   pub tail : numbersIn (drop i limits) (tailAt line end) .tail ≡ numbersIn limits (tailAt line at) .tail
-  pub placing : placed numbers i (numbersIn (drop i limits) (tailAt line end) .numbers)
-      ≡ placed before 0 (numbersIn limits (tailAt line at) .numbers)
+  pub placing : sets numbers i (numbersIn (drop i limits) (tailAt line end) .numbers)
+      ≡ sets before 0 (numbersIn limits (tailAt line at) .numbers)
 
 module _ {line limits before numbers : List ℕ} {at end i : ℕ} (g : Going line limits before at numbers end i) where
-  pub finished : length limits ≤ i → Reading line at limits before (At end) numbers
+  pub finished : length limits ≤ i → Reading (numbersIn limits (tailAt line at)) line at before (At end) numbers
   finished out =
       let e = all-read line limits i end out in
-      record { tail = rw e at (g .tail); numbers = rw e at (g .placing) }
+      let tail = rw e at (g .tail) in
+      record { answer = rest-at line at end (g .start) (g .within) tail; tail = tail; numbers = rw e at (g .placing) }
 
-  stopped : numbersIn (drop i limits) (tailAt line end) ≡ noNumber → Reading line at limits before Bad numbers
-  stopped e = record { tail = rw e at (g .tail); numbers = rw e at (g .placing) }
+  stopped : numbersIn (drop i limits) (tailAt line end) ≡ noNumber → Reading (numbersIn limits (tailAt line at)) line at before Bad numbers
+  stopped e =
+      let tail = rw e at (g .tail) in
+      record { answer = rw (← tail); tail = tail; numbers = rw e at (g .placing) }
 
-  pub no-word : i < length limits → length line ≤ end → Reading line at limits before Bad numbers
+  pub no-word : i < length limits → length line ≤ end → Reading (numbersIn limits (tailAt line at)) line at before Bad numbers
   no-word in-limits out = stopped (word-missing line limits i end in-limits out)
 
   module _ (in-limits : i < length limits) (in-line : end < length line) where
     pub no-number : (m : ℕ) → refusal m ≡ numberOf (upTo 32 (drop (end + 1) line))
-        → Reading line at limits before Bad numbers
+        → Reading (numbersIn limits (tailAt line at)) line at before Bad numbers
     no-number m e = stopped (word-more line limits i end in-limits in-line ∙ rw (← e))
 
     pub number-over : (n : ℕ) → value n ≡ numberOf (upTo 32 (drop (end + 1) line)) → getD limits i 0 < n
-        → Reading line at limits before Bad numbers
+        → Reading (numbersIn limits (tailAt line at)) line at before Bad numbers
     number-over n e h = stopped (word-more line limits i end in-limits in-line ∙ rw (← e, lt-leb n (getD limits i 0) h))
 
     pub goes-on : (n : ℕ) → value n ≡ numberOf (upTo 32 (drop (end + 1) line)) → n ≤ getD limits i 0
+        → (end + 1 ≤ indexFrom line (end + 1) 32) × (indexFrom line (end + 1) 32 ≤ max (end + 1) (length line))
         → Going line limits before at (set numbers i n) (indexFrom line (end + 1) 32) (i + 1)
-    goes-on n e h =
+    goes-on n e h index =
         let rest = numbersIn (drop (i + 1) limits) (tailAt line (indexFrom line (end + 1) 32)) in
         let read : numbersIn (drop i limits) (tailAt line end) ≡ record { numbers = n ∷ rest .numbers; tail = rest .tail } =
         word-more line limits i end in-limits in-line ∙ rw (← e, le-leb n (getD limits i 0) h)
         in
         let one : i + 1 ≡ suc i = omega arith in
-        record { tail = rw read at (g .tail); placing = rw one (rw (read, one) at (g .placing)) }
+        record {
+          start = omega (arith, g .start, index .0);
+          within = omega (arith, g .start, g .within, index .1);
+          tail = rw read at (g .tail);
+          placing = rw one (rw (read, one) at (g .placing));
+        }
+
+-- the line has to end behind the numbers
+module _ {f : Fields} {line before after : List ℕ} {at : ℕ} where
+  pub ends : {end : ℕ} → Reading f line at before (At end) after → length line ≤ end
+      → Reading (closed f) line at before (At end) after
+  unfolding tailAt
+  ends {end} r out =
+      let tail : f .tail ≡ ended = sym (rw (le-ltb end (length line) out) at (r .tail)) in
+      record { answer = rw tail (rw tail at (r .answer)); tail = rw tail (rw tail at (r .tail)); numbers = r .numbers }
+
+  pub goes-past : {end : ℕ} → Reading f line at before (At end) after → end < length line
+      → Reading (closed f) line at before Bad after
+  unfolding tailAt
+  goes-past {end} r in-line =
+      let tail : f .tail ≡ more (drop (suc end) line) = sym (rw (lt-ltb end (length line) in-line) at (r .tail)) in
+      record { answer = rw tail; tail = rw tail; numbers = r .numbers }
+
+  pub stays-bad : Reading f line at before Bad after → Reading (closed f) line at before Bad after
+  stays-bad r =
+      let tail : f .tail ≡ bad = sym (r .tail) in
+      record { answer = rw tail; tail = rw tail; numbers = r .numbers }
 
 -- the first word of a line ends at its first space
 module _ (line : List ℕ) where

@@ -2,12 +2,12 @@
 -- Assumes nothing.
 use mathlib.Core.Path.{_≡_}
 use mathlib.Core.List.{List, [], _∷_}
-use Prim.Native.Nat.{ℕ, suc}
+use Prim.Native.Nat.{ℕ, suc, _-_, max}
 use lib.Dec.{eqb, leb, ltb}
 use lib.ListN.{length, drop}
 use Rattle.base.specs.Answer.{Answer, value, refusal}
 use Rattle.base.specs.Choice.{pick}
-use Rattle.base.specs.Placed.{placed}
+use lib.Seq.{sets}
 use Rattle.text.specs.Decimal.{numberOf}
 use Rattle.text.specs.Words.{upTo}
 use Rattle.fields.specs.declared.Rest.{Rest}
@@ -48,12 +48,31 @@ numbersIn (limit ∷ limits) (more text) = withNumber limit (numberOf (upTo 32 t
 unfoldable pub tailAt : List ℕ → ℕ → Tail
 tailAt line at = pick (ltb at (length line)) (more (drop (suc at) line)) ended
 
--- the code's answer
+-- the same where the line has to end behind the numbers
+abbrev pub noMore : Tail → Tail
+noMore ended = ended
+noMore (more text) = bad
+noMore bad = bad
+
+abbrev pub closed : Fields → Fields
+closed f = record { numbers = f .numbers; tail = noMore (f .tail) }
+
+abbrev pub numbersOnly : List ℕ → Tail → Fields
+numbersOnly limits tail = closed (numbersIn limits tail)
+
+-- the index at which the last word that was read ends, by what follows it; reading began behind index at
+abbrev pub restOf : List ℕ → ℕ → Tail → Rest
+restOf line at ended = At (max at (length line))
+restOf line at (more text) = At (length line - suc (length text))
+restOf line at bad = Bad
+
+-- what follows there
 abbrev pub restIs : List ℕ → Rest → Tail
 restIs line (At at) = tailAt line at
 restIs line Bad = bad
 
--- the call that read the numbers behind index at into the buffer before, answered r and left the buffer after
-pub record Reading (line : List ℕ) (at : ℕ) (limits before : List ℕ) (r : Rest) (after : List ℕ) : Type 0 where
-  pub tail : restIs line r ≡ numbersIn limits (tailAt line at) .tail
-  pub numbers : after ≡ placed before 0 (numbersIn limits (tailAt line at) .numbers)
+-- the call that read the fields behind index at into the buffer before, answered r and left the buffer after
+pub record Reading (f : Fields) (line : List ℕ) (at : ℕ) (before : List ℕ) (r : Rest) (after : List ℕ) : Type 0 where
+  pub answer : r ≡ restOf line at (f .tail)
+  pub tail : restIs line r ≡ f .tail
+  pub numbers : after ≡ sets before 0 (f .numbers)

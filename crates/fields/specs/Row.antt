@@ -1,8 +1,9 @@
--- A row of numbers and their limits. A number is found by its place; past the row's end stands 0.
+-- A row of numbers. A number is found by its place; past the row's end stands 0.
 -- Assumes nothing.
 use mathlib.Core.List.{List, [], _∷_}
-use Prim.Native.Nat.{ℕ, suc, _≤_}
+use Prim.Native.Nat.{ℕ, _+_, min}
 use lib.ListN.{getD}
+use Rattle.pll.specs.declared.PllConfig.{PllConfig}
 
 -- the greatest numbers of 8, 16 and 32 bits
 abbrev pub u8 : ℕ
@@ -17,10 +18,32 @@ u32 = 4294967295
 abbrev pub nth : List ℕ → ℕ → ℕ
 nth row i = getD row i 0
 
--- from place i on, each number of the row is up to its limit
-abbrev pub WithinFrom : ℕ → List ℕ → List ℕ → Type 0
-WithinFrom i [] row = Unit {0}
-WithinFrom i (limit ∷ limits) row = (nth row i ≤ limit) × WithinFrom (suc i) limits row
+-- the same as a number of 8 and of 16 bits; a row is read where its limits hold, and there nothing is cut
+abbrev pub byteAt : List ℕ → ℕ → ℕ
+byteAt row i = min (nth row i) u8
 
-abbrev pub Within : List ℕ → List ℕ → Type 0
-Within limits row = WithinFrom 0 limits row
+abbrev pub halfAt : List ℕ → ℕ → ℕ
+halfAt row i = min (nth row i) u16
+
+-- the longest buffer that a case may ask for, and the length that it asks for
+abbrev pub room : ℕ
+room = 1024
+
+abbrev pub roomAt : List ℕ → ℕ → ℕ
+roomAt row i = min (nth row i) room
+
+-- the four dividers of a PLL from place i on
+abbrev pub pllAt : List ℕ → ℕ → PllConfig
+pllAt row i =
+    record {
+      refdiv = byteAt row i;
+      fbdiv = halfAt row (i + 1);
+      «post_div1» = byteAt row (i + 2);
+      «post_div2» = byteAt row (i + 3);
+    }
+
+-- ten numbers from place i on
+abbrev pub tenAt : List ℕ → ℕ → List ℕ
+tenAt row i =
+    nth row i ∷ nth row (i + 1) ∷ nth row (i + 2) ∷ nth row (i + 3) ∷ nth row (i + 4)
+    ∷ nth row (i + 5) ∷ nth row (i + 6) ∷ nth row (i + 7) ∷ nth row (i + 8) ∷ nth row (i + 9) ∷ []

@@ -11,7 +11,7 @@ use Rattle.base.specs.Placed.{Placed}
 use Rattle.text.specs.Words.{upTo}
 use Rattle.pll.specs.declared.PllConfig.{PllConfig}
 use Rattle.replies.specs.Reply.{badCase}
-use Rattle.cases.specs.Cases.{answerOf}
+use Rattle.cases.specs.Cases.{answerTo}
 use Rattle.lines.specs.declared.Held.{Held}
 
 -- the call that added to the len bytes held, of a line that was too long if over, the bytes of the text up to its
@@ -27,4 +27,4 @@ pub record Holding (before : List ℕ) (len : ℕ) (over : Bool) (text : List �
 -- the answer to the line held, and a newline; a line that is too long is no case
 abbrev pub heldText : List ℕ → ℕ → Bool → List PllConfig → List ℕ
 heldText held len over settings =
-    pick (over || ltb (length held) len) badCase (answerOf (take len held) settings) ++ (10 ∷ [])
+    pick (over || ltb (length held) len) badCase (answerTo (take len held) settings) ++ (10 ∷ [])

@@ -1,6 +1,5 @@
 // Lines gathered from pieces of a text, and the answer to each.
 ghost use mathlib.Core.Path.{_≡_};
-ghost use Prim.Native.Nat.{_-_};
 ghost use lib.ListN.{take};
 ghost use Rattle.cases.specs.Lists.{Answered};
 ghost use Rattle.cases.specs.Cases.{inputOf, targetOf};
@@ -14,19 +13,12 @@ pub struct Held {
     pub used: usize,
 }
 
-// a - b, or 0 where b is greater.
-fn less(a: usize, b: usize) -> usize
-    ensures { λ r. ⌜ r ≡ a - b ⌝ }
-{
-    if a < b { 0 } else { a - b }
-}
-
 // Adds a text's bytes, up to its newline or its end, to the `len` bytes held.
 pub fn hold(held: &mut [u8], len: usize, over: bool, text: &[u8]) -> Held
     ensures { λ r. ⌜ Holding (now (held .entry)) len over (now (text .entry)) r (now (held .exit)) ⌝ }
 {
     let used = text::index_from(text, 0, b'\n');
-    let room = less(held.len(), len);
+    let room = base::less(held.len(), len);
     let next = text::put_bytes(held, len, &text[..used]);
     Held {
         len: next,

@@ -11,10 +11,10 @@ use native.Mathlib.Nat.{mul-mod-right, mul-div-cancel-left}
 use lib.Dec.{leb, eqb}
 use borrow.Author.Tests.{le-leb, eqb-true, eq-eqb, ne-eqb}
 use Rattle.base.specs.Choice.{inRange}
-use Rattle.base.proofs.Bools.{and-true, in-range}
+use Rattle.base.proofs.Bools.{both-true, never-true, same-test, in-range}
+use Rattle.pll.specs.Ranges.{feedbackMin, vcoMin, vcoMax}
 use Rattle.pll.specs.Search.{falling, setting, keep}
 use Rattle.lister.specs.Order.{atPost1, atFeedback, hasProduct, meets, Wrote}
-use Rattle.lister.proofs.Tests.{not-true, same-test}
 use Rattle.lister.proofs.Writing.{nothing}
 use Rattle.lister.proofs.Walks.{same-feedback, none-kept}
 
@@ -23,7 +23,7 @@ abbrev pub divides : ℕ → ℕ → Bool
 divides p1 q = inRange 1 p1 (q / p1) && eqb (q % p1) 0
 
 pub post2-most : (p1 q : ℕ) → divides p1 q ≡ true → q / p1 ≤ p1
-post2-most p1 q e = in-range 1 p1 (q / p1) (and-true (inRange 1 p1 (q / p1)) (eqb (q % p1) 0) e .0) .1
+post2-most p1 q e = in-range 1 p1 (q / p1) (both-true (inRange 1 p1 (q / p1)) (eqb (q % p1) 0) e .0) .1
 
 -- of the post 2 from n down to 1, at most one makes a product with post 1
 module _ (fb p1 : ℕ) (positive : 1 ≤ p1) where
@@ -54,7 +54,7 @@ module _ (fb p1 : ℕ) (positive : 1 ≤ p1) where
   pub product-kept : (q : ℕ) → divides p1 q ≡ true
       → keep (hasProduct q) (atPost1 fb p1) ≡ setting fb p1 (q / p1) ∷ []
   product-kept q e =
-      let h = and-true (inRange 1 p1 (q / p1)) (eqb (q % p1) 0) e in
+      let h = both-true (inRange 1 p1 (q / p1)) (eqb (q % p1) 0) e in
       let r = in-range 1 p1 (q / p1) (h .0) in
       let z = eqb-true (q % p1) 0 (h .1) in
       let m : p1 * (q / p1) ≡ q = omega (arith, div-add-mod' q p1) in
@@ -73,30 +73,30 @@ module _ (fb p1 : ℕ) (positive : 1 ≤ p1) where
 module _ (input target fb : ℕ) where
   -- where no product gives the target, nothing is put
   pub none-put : (buf : List ℕ) (at : ℕ)
-      → ((posts : ℕ) → 750000000 ≤ input * fb → input * fb ≤ 1600000000 → target * posts ≡ input * fb → ⊥)
+      → ((posts : ℕ) → vcoMin ≤ input * fb → input * fb ≤ vcoMax → target * posts ≡ input * fb → ⊥)
       → Wrote buf at (keep (meets input target) (atFeedback fb)) buf at × (at ≤ at + 14)
   none-put buf at h = (rw (none-kept (meets input target) fb missed) (nothing buf at), omega arith)
     where
       missed : (p1 p2 : ℕ) → meets input target (setting fb p1 p2) ≡ false
       missed p1 p2 =
-          not-true (meets input target (setting fb p1 p2))
+          never-true (meets input target (setting fb p1 p2))
           (λ e.
           let v : input / 1 * fb ≡ input * fb = rw div-one in
-          let t = and-true (leb 16 fb && inRange 750000000 1600000000 (input / 1 * fb))
+          let t = both-true (leb feedbackMin fb && inRange vcoMin vcoMax (input / 1 * fb))
           (eqb (target * (p1 * p2)) (input / 1 * fb)) e in
-          let p = and-true (leb 16 fb) (inRange 750000000 1600000000 (input / 1 * fb)) (t .0) in
-          let r = in-range 750000000 1600000000 (input / 1 * fb) (p .1) in
+          let p = both-true (leb feedbackMin fb) (inRange vcoMin vcoMax (input / 1 * fb)) (t .0) in
+          let r = in-range vcoMin vcoMax (input / 1 * fb) (p .1) in
           h (p1 * p2) (omega arith) (omega arith) (eqb-true (target * (p1 * p2)) (input / 1 * fb) (t .1) ∙ v))
 
   -- where the target goes into the VCO frequency, the quotient is the product
-  pub product-meets : 16 ≤ fb → 750000000 ≤ input * fb → input * fb ≤ 1600000000 → 0 < target
+  pub product-meets : feedbackMin ≤ fb → vcoMin ≤ input * fb → input * fb ≤ vcoMax → 0 < target
       → input * fb % target ≡ 0
       → keep (meets input target) (atFeedback fb) ≡ keep (hasProduct (input * fb / target)) (atFeedback fb)
   product-meets low from to positive whole =
       same-feedback (meets input target) (hasProduct (input * fb / target)) fb
       (λ p1 p2.
       let m : target * (input * fb / target) ≡ input * fb = omega (arith, div-add-mod' (input * fb) target) in
-      rw (div-one, le-leb 16 fb low, le-leb 750000000 (input * fb) from, le-leb (input * fb) 1600000000 to)
+      rw (div-one, le-leb feedbackMin fb low, le-leb vcoMin (input * fb) from, le-leb (input * fb) vcoMax to)
       (same-test (eqb (target * (p1 * p2)) (input * fb)) (eqb (p1 * p2) (input * fb / target))
       (λ e. eq-eqb (p1 * p2) (input * fb / target)
       (eq-of-mul-eq-mul-left target positive (p1 * p2) (input * fb / target)

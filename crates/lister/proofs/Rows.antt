@@ -3,17 +3,17 @@
 use mathlib.Core.Path.{_≡_, refl}
 use mathlib.Core.List.{[], _∷_, flatMap}
 use Rattle.base.specs.Answer.{value, refusal}
-use Rattle.pll.specs.Search.{falling, setting, settings, keep, candidates}
-use Rattle.lister.specs.Lister.{exactCandidates, bytesOf, listedOf}
-use Rattle.lister.specs.Order.{rising, inOrder, listOf}
+use Rattle.pll.specs.Search.{falling, rising, setting, settings, keep, candidates}
+use Rattle.lister.specs.Lister.{exactCandidates, listBytes, listedOf}
+use Rattle.lister.specs.Order.{inOrder, listOf}
 
 -- 125 MHz from 12 MHz, and the room for it
 pub rows :
     (listOf 12000000 125000000 ≡ setting 125 6 2 ∷ setting 125 4 3 ∷ [])
-    × (bytesOf (listOf 12000000 125000000) ≡ 62 ∷ 228 ∷ 62 ∷ 198 ∷ [])
+    × (listBytes (listOf 12000000 125000000) ≡ 62 ∷ 228 ∷ 62 ∷ 198 ∷ [])
     × (listedOf 12000000 125000000 4 ≡ value 4)
     × (listedOf 12000000 125000000 3 ≡ refusal 19)
-unfolding listOf inOrder rising bytesOf exactCandidates candidates keep settings falling flatMap
+unfolding listOf inOrder rising listBytes exactCandidates candidates keep settings falling flatMap
 rows = (refl, refl, refl, refl)
 
 -- the order: the lowest feedback divider first

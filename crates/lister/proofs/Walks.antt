@@ -6,10 +6,10 @@ use mathlib.Core.Bool.{Bool, true, false}
 use Prim.Native.Nat.{ℕ, zero, suc, _+_, _-_, _≤_, _<_}
 use native.Mathlib.Omega.{arith}
 use native.Mathlib.Numerals.{add-one}
-use Rattle.base.specs.Choice.{pick}
-use Rattle.pll.specs.Search.{falling, setting, keep}
+use Rattle.pll.specs.Search.{falling, rising, setting, keep}
 use Rattle.pll.specs.declared.PllConfig.{PllConfig}
-use Rattle.lister.specs.Order.{rising, atPost1, atFeedback, Wrote}
+use Rattle.pll.proofs.Order.{keep-append}
+use Rattle.lister.specs.Order.{atPost1, atFeedback, Wrote}
 use Rattle.lister.proofs.Writing.{nothing, then}
 
 pub falling-step : (n : ℕ) → 1 ≤ n → falling n ≡ n ∷ falling (n - 1)
@@ -31,21 +31,11 @@ unfolding rising
 rising-end zero k h = refl
 rising-end (suc n) k h = absurd (omega arith)
 
-pick-append : (b : Bool) (c : PllConfig) (xs ys : List PllConfig)
-    → pick b (c ∷ (xs ++ ys)) (xs ++ ys) ≡ pick b (c ∷ xs) xs ++ ys
-pick-append true c xs ys = refl
-pick-append false c xs ys = refl
-
 module _ (t : PllConfig → Bool) where
-  keep-append : (xs ys : List PllConfig) → keep t (xs ++ ys) ≡ keep t xs ++ keep t ys
-  unfolding keep
-  keep-append [] ys = refl
-  keep-append (c ∷ xs) ys = rw (keep-append xs ys) (pick-append (t c) c (keep t xs) (keep t ys))
-
   keep-each : (f : ℕ → List PllConfig) (k : ℕ) (ks : List ℕ)
       → keep t (flatMap f (k ∷ ks)) ≡ keep t (f k) ++ keep t (flatMap f ks)
   unfolding flatMap
-  keep-each f k ks = keep-append (f k) (flatMap f ks)
+  keep-each f k ks = keep-append t (f k) (flatMap f ks)
 
   -- the settings of the next number, and then those of the numbers left, complete the walk
   pub one-more : {b b₁ b₂ : List ℕ} {at m r : ℕ} (f : ℕ → List PllConfig) (k : ℕ) (ks left : List ℕ) → ks ≡ k ∷ left

@@ -1,21 +1,17 @@
--- The order in which the code writes. A helper for proofs, which nobody needs to believe.
+-- Inside: the order in which the code writes.
 -- Assumes nothing.
 use mathlib.Core.Path.{_≡_}
 use mathlib.Core.List.{List, [], _∷_, map, flatMap}
 use mathlib.Core.Bool.{Bool, _&&_}
-use Prim.Native.Nat.{ℕ, zero, suc, _+_, _*_}
+use Prim.Native.Nat.{ℕ, _+_, _-_, _*_}
 use lib.Dec.{eqb}
 use lib.ListN.{length}
 use lib.Seq.{sets}
+use Rattle.pll.specs.Ranges.{feedbackMin, feedbackMax}
 use Rattle.pll.specs.Setting.{postsOf}
-use Rattle.pll.specs.Search.{falling, setting, keep, permitted, exact}
+use Rattle.pll.specs.Search.{falling, rising, setting, keep, permitted, exact}
 use Rattle.pll.specs.declared.PllConfig.{PllConfig}
-use Rattle.lister.specs.Lister.{bytesOf}
-
--- n numbers from k on: k, k + 1, ..
-unfoldable pub rising : ℕ → ℕ → List ℕ
-rising zero k = []
-rising (suc n) k = k ∷ rising n (suc k)
+use Rattle.lister.specs.Lister.{listBytes}
 
 abbrev pub atPost1 : ℕ → ℕ → List PllConfig
 atPost1 fb p1 = map (setting fb p1) (falling p1)
@@ -23,9 +19,9 @@ atPost1 fb p1 = map (setting fb p1) (falling p1)
 abbrev pub atFeedback : ℕ → List PllConfig
 atFeedback fb = flatMap (atPost1 fb) (falling 7)
 
--- feedback divider from 16 to 320, rising, then post 1, then post 2, each falling
+-- feedback divider from the least to the greatest, then post 1, then post 2, each falling
 unfoldable pub inOrder : List PllConfig
-inOrder = flatMap atFeedback (rising 305 16)
+inOrder = flatMap atFeedback (rising (feedbackMax + 1 - feedbackMin) feedbackMin)
 
 -- c has its VCO in range and gives the target with no remainder
 abbrev pub meets : ℕ → ℕ → PllConfig → Bool
@@ -41,4 +37,4 @@ hasProduct product c = eqb (postsOf c) product
 -- the settings stand at an index, as far as the buffer reaches; r is the index past them
 pub record Wrote (before : List ℕ) (at : ℕ) (cs : List PllConfig) (after : List ℕ) (r : ℕ) : Type 0 where
   pub last : r ≡ at + 2 * length cs
-  pub bytes : after ≡ sets before at (bytesOf cs)
+  pub bytes : after ≡ sets before at (listBytes cs)

@@ -1,21 +1,17 @@
 // The lister: every setting that gives a target frequency with no remainder, two bytes each.
+use base::Length;
+use pll::FEEDBACK_MAX;
+use pll::FEEDBACK_MIN;
+use pll::VCO_MAX;
+use pll::VCO_MIN;
 ghost use mathlib.Core.Path.{_≡_};
 ghost use Prim.Native.Nat.{_+_, _≤_};
 ghost use mathlib.Core.List.{[], _∷_};
 ghost use lib.ListN.{set};
+ghost use Rattle.pll.specs.Ranges.{feedbackMin, feedbackMax};
 ghost use Rattle.pll.specs.Search.{setting, keep};
 ghost use Rattle.lister.specs.Lister.{Listing};
 ghost use Rattle.lister.specs.Order.{atPost1, atFeedback, listOf, hasProduct, meets, Wrote};
-
-const VCO_MIN: u64 = 750000000;
-
-const VCO_MAX: u64 = 1600000000;
-
-// The bytes written, or the number of a refusal.
-pub enum Listed {
-    Length(usize),
-    Refused(u8),
-}
 
 // Sets a byte, if the buffer reaches that far.
 fn set_byte(buf: &mut [u8], at: usize, value: u8)
@@ -29,7 +25,7 @@ fn set_byte(buf: &mut [u8], at: usize, value: u8)
 
 // Puts a setting at an index, as far as the buffer reaches, and answers the index past it.
 fn put(buf: &mut [u8], at: usize, fbdiv: u64, post1: u64, post2: u64) -> usize
-    requires { ⌜ (at ≤ 5000) × (fbdiv ≤ 320) × (post1 ≤ 7) × (post2 ≤ 7) ⌝ }
+    requires { ⌜ (at ≤ 5000) × (fbdiv ≤ feedbackMax) × (post1 ≤ 7) × (post2 ≤ 7) ⌝ }
     ensures { λ r. ⌜ Wrote (now (buf .entry)) at (setting fbdiv post1 post2 ∷ []) (now (buf .exit)) r ⌝ }
 {
     let word = fbdiv * 128 + post1 * 16 + post2 * 2;
@@ -40,7 +36,7 @@ fn put(buf: &mut [u8], at: usize, fbdiv: u64, post1: u64, post2: u64) -> usize
 
 // Puts the setting of a feedback divider and a post 1 that has a given post product, if there is one.
 fn put_post1(buf: &mut [u8], at: usize, fbdiv: u64, post1: u64, product: u64) -> usize
-    requires { ⌜ (at ≤ 5000) × (fbdiv ≤ 320) × (1 ≤ post1) × (post1 ≤ 7) ⌝ }
+    requires { ⌜ (at ≤ 5000) × (fbdiv ≤ feedbackMax) × (1 ≤ post1) × (post1 ≤ 7) ⌝ }
     ensures { λ r. ⌜ Wrote (now (buf .entry)) at (keep (hasProduct product) (atPost1 fbdiv post1)) (now (buf .exit)) r ⌝ }
     ensures { λ r. ⌜ r ≤ at + 2 ⌝ }
 {
@@ -54,7 +50,7 @@ fn put_post1(buf: &mut [u8], at: usize, fbdiv: u64, post1: u64, product: u64) ->
 
 // Puts the settings of a feedback divider that have a given post product.
 fn put_posts(buf: &mut [u8], at: usize, fbdiv: u64, product: u64) -> usize
-    requires { ⌜ (at ≤ 4900) × (fbdiv ≤ 320) ⌝ }
+    requires { ⌜ (at ≤ 4900) × (fbdiv ≤ feedbackMax) ⌝ }
     ensures { λ r. ⌜ Wrote (now (buf .entry)) at (keep (hasProduct product) (atFeedback fbdiv)) (now (buf .exit)) r ⌝ }
     ensures { λ r. ⌜ r ≤ at + 14 ⌝ }
 {
@@ -69,7 +65,7 @@ fn put_posts(buf: &mut [u8], at: usize, fbdiv: u64, product: u64) -> usize
 
 // Puts the settings of a feedback divider that give the target with no remainder.
 fn put_feedback(buf: &mut [u8], at: usize, input_hz: u64, target_hz: u64, fbdiv: u64) -> usize
-    requires { ⌜ (at ≤ 4900) × («input_hz» ≤ 4294967295) × (16 ≤ fbdiv) × (fbdiv ≤ 320) ⌝ }
+    requires { ⌜ (at ≤ 4900) × («input_hz» ≤ 4294967295) × (feedbackMin ≤ fbdiv) × (fbdiv ≤ feedbackMax) ⌝ }
     ensures { λ r. ⌜ Wrote (now (buf .entry)) at (keep (meets «input_hz» «target_hz») (atFeedback fbdiv)) (now (buf .exit)) r ⌝ }
     ensures { λ r. ⌜ r ≤ at + 14 ⌝ }
 {
@@ -96,8 +92,8 @@ fn put_list(buf: &mut [u8], input_hz: u64, target_hz: u64) -> usize
     ensures { λ r. ⌜ Wrote (now (buf .entry)) 0 (listOf «input_hz» «target_hz») (now (buf .exit)) r ⌝ }
 {
     let mut next = 0;
-    let mut fbdiv: u64 = 16;
-    while fbdiv <= 320 {
+    let mut fbdiv = FEEDBACK_MIN;
+    while fbdiv <= FEEDBACK_MAX {
         next = put_feedback(buf, next, input_hz, target_hz, fbdiv);
         fbdiv += 1;
     }
@@ -106,14 +102,14 @@ fn put_list(buf: &mut [u8], input_hz: u64, target_hz: u64) -> usize
 
 // Writes every setting of the search that gives the target with no remainder, once each in an order left open, and
 // answers the bytes written. Where the buffer is too short for them, nothing is written.
-pub fn list_exact(input_hz: u32, target_hz: u32, buf: &mut [u8]) -> Listed
+pub fn list_exact(input_hz: u32, target_hz: u32, buf: &mut [u8]) -> Length
     ensures { λ r. ⌜ Listing «input_hz» «target_hz» (now (buf .entry)) r (now (buf .exit)) ⌝ }
 {
     // A buffer with no room only counts.
     let mut nowhere = [0u8; 0];
     let length = put_list(&mut nowhere, input_hz as u64, target_hz as u64);
     if buf.len() < length {
-        return Listed::Refused(19);
+        return Length::Refused(19);
     }
-    Listed::Length(put_list(buf, input_hz as u64, target_hz as u64))
+    Length::Bytes(put_list(buf, input_hz as u64, target_hz as u64))
 }

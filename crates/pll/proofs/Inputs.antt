@@ -4,11 +4,12 @@ use mathlib.Core.Path.{_≡_, refl, ap, subst, _∙_}
 use mathlib.Core.Bool.{true}
 use Prim.Native.Nat.{ℕ, _+_, _*_, _/_, _≤_, _<_}
 use native.Mathlib.Omega.{arith}
-use native.Mathlib.Nat.{mul-le-mul, mul-div-le, lt-mul-div-succ, le-div-iff-mul-le, div-lt-iff-lt-mul}
+use native.Mathlib.Nat.{mul-le-mul, mul-le-mul-left, mul-div-le, lt-mul-div-succ, le-div-iff-mul-le, div-lt-iff-lt-mul}
 use native.Mathlib.Nat.{mul-add, mul-one, div-one}
 use native.Mathlib.Decide.{decLe}
 use borrow.Author.Tests.{le-leb}
 use Rattle.base.specs.Answer.{Answer, value, refusal}
+use Rattle.pll.specs.Ranges.{referenceMin, referenceMax, feedbackMin, feedbackMax, vcoMin, vcoMax}
 use Rattle.pll.specs.Setting.{referenceOf, validOf}
 use Rattle.pll.specs.Search.{searchOf}
 use Rattle.pll.specs.Law.{InVco, Candidate, RightAnswer}
@@ -18,22 +19,22 @@ use Rattle.pll.proofs.Right.{search-right}
 
 -- from 2343750 to 100000000 Hz some feedback divider has its VCO in range: over 5 MHz the one just below 1600 MHz
 some-feedback : (input : ℕ) → 2343750 ≤ input → input ≤ 100000000
-    → ((fb : ℕ) → 16 ≤ fb → fb ≤ 320 → InVco (input * fb) → ⊥) → ⊥
-some-feedback input lo hi none = go (decLe input 5000000)
+    → ((fb : ℕ) → feedbackMin ≤ fb → fb ≤ feedbackMax → InVco (input * fb) → ⊥) → ⊥
+some-feedback input lo hi none = go (decLe input referenceMin)
   where
-    go : Dec (input ≤ 5000000) → ⊥
-    go (yes h) = none 320 (omega arith) (omega arith) (record { low = omega arith; high = omega arith })
+    go : Dec (input ≤ referenceMin) → ⊥
+    go (yes h) = none feedbackMax (omega arith) (omega arith) (record { low = omega arith; high = omega arith })
     go (no h) =
-        let q : ℕ = 1600000000 / input in
+        let q : ℕ = vcoMax / input in
         let some : 0 < input = omega arith in
         let next : input * (q + 1) ≡ input * q + input
         = mul-add input q 1 ∙ ap (λ (n : ℕ). input * q + n) (mul-one input) in
         none q
-        (le-div-iff-mul-le {x = 16} {y = 1600000000} some .1 (omega arith))
-        (let below = div-lt-iff-lt-mul {x = 1600000000} {y = 321} some .1 (omega arith) in omega arith)
+        (le-div-iff-mul-le {x = feedbackMin} {y = vcoMax} some .1 (omega arith))
+        (let below = div-lt-iff-lt-mul {x = vcoMax} {y = 321} some .1 (omega arith) in omega arith)
         (record {
-          low = omega (arith, next, lt-mul-div-succ 1600000000 {b = input} some);
-          high = mul-div-le 1600000000 input;
+          low = omega (arith, next, lt-mul-div-succ vcoMax {b = input} some);
+          high = mul-div-le vcoMax input;
         })
 
 module _ (input target : ℕ) where
@@ -65,23 +66,24 @@ module _ (input target : ℕ) where
   found-candidate c e = subst (RightAnswer input target) e (search-right input target) .candidate
 
   -- from 5 MHz on it is valid
-  pub found-valid : (c : PllConfig) → searchOf input target ≡ value c → 5000000 ≤ input → input ≤ 100000000
-      → validOf c input ≡ true
-  found-valid c e lo hi =
+  pub found-valid : (c : PllConfig) → searchOf input target ≡ value c → referenceMin ≤ input → validOf c input ≡ true
+  found-valid c e lo =
       let m = found-candidate c e in
+      let hi : input ≤ 100000000
+      = omega (arith, m .vco .high, vco-is input c (m .reference), mul-le-mul-left input (m .feedback-low)) in
       let r : referenceOf c input ≡ input = rw (m .reference, div-one) in
       simp (
         le-leb 1 (c .refdiv) (omega (arith, m .reference)),
         le-leb (c .refdiv) 63 (omega (arith, m .reference)),
-        le-leb 16 _ (m .feedback-low),
-        le-leb _ 320 (m .feedback-high),
+        le-leb feedbackMin _ (m .feedback-low),
+        le-leb _ feedbackMax (m .feedback-high),
         le-leb _ 7 (m .post1-high),
         le-leb 1 _ (m .post2-low),
         le-leb 1 (c .«post_div1») (omega (arith, m .post2-low, m .post2-high)),
         le-leb _ _ (m .post2-high),
         le-leb (c .«post_div2») 7 (omega (arith, m .post1-high, m .post2-high)),
-        le-leb 750000000 _ (m .vco .low),
-        le-leb _ 1600000000 (m .vco .high),
-        le-leb 5000000 (referenceOf c input) (omega arith),
-        le-leb (referenceOf c input) 800000000 (omega arith),
+        le-leb vcoMin _ (m .vco .low),
+        le-leb _ vcoMax (m .vco .high),
+        le-leb referenceMin (referenceOf c input) (omega arith),
+        le-leb (referenceOf c input) referenceMax (omega arith),
       )

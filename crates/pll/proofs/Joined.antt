@@ -5,9 +5,10 @@ use mathlib.Core.Logic.{⊎-elim}
 use Prim.Native.Nat.{ℕ, _-_, _/_, _%_, _≤_, _<_}
 use native.Mathlib.Omega.{arith}
 use Rattle.base.specs.Answer.{Answer, value, refusal}
+use Rattle.pll.specs.Ranges.{feedbackMax}
 use Rattle.pll.specs.Search.{searchOf}
 use Rattle.pll.specs.Law.{Candidate}
-use Rattle.pll.specs.Walk.{key, rankOf, settingOf, LowestRank, CandidatesTo}
+use Rattle.pll.specs.Walk.{keys, noRank, key, rankOf, settingOf, LowestRank, CandidatesTo}
 use Rattle.pll.specs.declared.PllConfig.{PllConfig}
 use Rattle.pll.proofs.Scores.{rank-is, rank-below}
 use Rattle.pll.proofs.Right.{LowestOf, search-lowest}
@@ -19,19 +20,19 @@ module _ (input target r : ℕ) where
       let h1 = m .post1-high in
       let h2 = m .post2-high in
       let one : 1 ≡ c .refdiv = sym (m .reference) in
-      let k : 65535 - r % 65536 ≡ key c = omega (arith, rank-is input target c, m .feedback-high) in
-      let f : (65535 - r % 65536) / 64 ≡ c .fbdiv = omega arith in
-      let p1 : (65535 - r % 65536) / 8 % 8 ≡ c .«post_div1» = omega arith in
-      let p2 : (65535 - r % 65536) % 8 ≡ c .«post_div2» = omega arith in
+      let k : keys - 1 - r % keys ≡ key c = omega (arith, rank-is input target c, m .feedback-high) in
+      let f : (keys - 1 - r % keys) / 64 ≡ c .fbdiv = omega arith in
+      let p1 : (keys - 1 - r % keys) / 8 % 8 ≡ c .«post_div1» = omega arith in
+      let p2 : (keys - 1 - r % keys) % 8 ≡ c .«post_div2» = omega arith in
       λ i. record { refdiv = one i; fbdiv = f i; «post_div1» = p1 i; «post_div2» = p2 i }
 
   module _ (fits : target < 4294967296)
-      (w : LowestRank input target (CandidatesTo input 320) 9223372036854775808 r) where
-    pub lowest-found : r < 9223372036854775808 → value (settingOf r) ≡ searchOf input target
+      (w : LowestRank input target (CandidatesTo input feedbackMax) noRank r) where
+    pub lowest-found : r < noRank → value (settingOf r) ≡ searchOf input target
     lowest-found small =
         ⊎-elim (λ e. absurd (omega arith)) (λ x. go x (searchOf input target) (search-lowest input target)) (w .one)
       where
-        go : (x : PllConfig) × CandidatesTo input 320 x × (r ≡ rankOf input target x)
+        go : (x : PllConfig) × CandidatesTo input feedbackMax x × (r ≡ rankOf input target x)
             → (a : Answer PllConfig) → LowestOf input target a → value (settingOf r) ≡ a
         go x (value c) l =
             let m = l .candidate in
@@ -39,7 +40,7 @@ module _ (input target r : ℕ) where
             ap value (setting-is c m (omega (arith, x .2, w .least c (m, m .feedback-high))))
         go x (refusal n) h = absurd (h .1 (x .0) (x .1 .0))
 
-    pub none-found : 9223372036854775808 ≤ r → refusal 15 ≡ searchOf input target
+    pub none-found : noRank ≤ r → refusal 15 ≡ searchOf input target
     none-found high = go (searchOf input target) (search-lowest input target)
       where
         go : (a : Answer PllConfig) → LowestOf input target a → refusal 15 ≡ a

@@ -6,10 +6,11 @@ use Prim.Native.Nat.{ℕ, suc, min, _+_, _-_, _*_, _/_, _%_, _≤_, _<_}
 use native.Mathlib.Omega.{arith, min-cases}
 use native.Mathlib.Nat.{mul-le-mul-left, suc-mul, mul-suc, div-mul-le-self, le-div-iff-mul-le}
 use native.Mathlib.Nat.{div-lt-iff-lt-mul, div-eq-of-eq-mul-left, eq-or-lt-of-le}
+use Rattle.pll.specs.Ranges.{feedbackMin, feedbackMax}
 use Rattle.pll.specs.Setting.{postsOf}
 use Rattle.pll.specs.Search.{apart, setting}
 use Rattle.pll.specs.Law.{InVco, Candidate}
-use Rattle.pll.specs.Walk.{scoreOf, key, rankOf, codeRankOf, product, PostCode, NearestPosts}
+use Rattle.pll.specs.Walk.{keys, noRank, scoreOf, key, rankOf, codeRankOf, product, PostCode, NearestPosts}
 use Rattle.pll.specs.Walk.{WantedProduct, LowestRank, CandidatesAt}
 use Rattle.pll.specs.declared.PllConfig.{PllConfig}
 use Rattle.pll.proofs.Candidates.{vco-is, a-candidate}
@@ -48,15 +49,15 @@ module _ (input target fb : ℕ) where
 
   -- a rank at this feedback divider, of a setting and of post dividers as one number
   rank-here : (c : PllConfig) → CandidatesAt input fb c
-      → rankOf input target c ≡ score (postsOf c) * 65536 + (65535 - key c)
+      → rankOf input target c ≡ score (postsOf c) * keys + (keys - 1 - key c)
   rank-here c m = rw (rank-is input target c, vco-is input c (m .0 .reference), m .1)
 
   rank-code : (posts : ℕ)
-      → codeRankOf (input * fb) target fb posts ≡ score (product posts) * 65536 + (65535 - (fb * 64 + posts))
+      → codeRankOf (input * fb) target fb posts ≡ score (product posts) * keys + (keys - 1 - (fb * 64 + posts))
   unfolding codeRankOf
   rank-code posts = refl
 
-  module _ (lo : 16 ≤ fb) (hi : fb ≤ 320) (vco : InVco (input * fb)) (q pair : ℕ)
+  module _ (lo : feedbackMin ≤ fb) (hi : fb ≤ feedbackMax) (vco : InVco (input * fb)) (q pair : ℕ)
       (w : WantedProduct (input * fb) target q) (near : NearestPosts q pair) where
     abbrev low : ℕ
     low = pair / 64
@@ -99,12 +100,12 @@ module _ (input target fb : ℕ) where
         (near .nearer (c .«post_div1») (c .«post_div2») h1 (k .post2-low) h2)
 
     pub nearest-lowest : target < 4294967296
-        → LowestRank input target (CandidatesAt input fb) 9223372036854775808 (min (rank low) (rank high))
+        → LowestRank input target (CandidatesAt input fb) noRank (min (rank low) (rank high))
     nearest-lowest small =
         min-cases (rank low) (rank high) _ (λ l e. made low (near .low) e) (λ l e. made high (near .high) e)
       where
         made : (posts : ℕ) → PostCode posts → min (rank low) (rank high) ≡ rank posts
-            → LowestRank input target (CandidatesAt input fb) 9223372036854775808 (min (rank low) (rank high))
+            → LowestRank input target (CandidatesAt input fb) noRank (min (rank low) (rank high))
         made posts p e =
             let c : PllConfig = setting fb (posts / 8) (posts % 8) in
             let m : Candidate input c

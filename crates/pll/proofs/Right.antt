@@ -15,7 +15,7 @@ use Rattle.pll.specs.Setting.{vcoOf, postsOf}
 use Rattle.pll.specs.Search.{setting, distance, exact, keep, unlessNearer, nearest, firstOr}
 use Rattle.pll.specs.Search.{candidates, searchOf}
 use Rattle.pll.specs.Law.{Candidate, RightAnswer}
-use Rattle.pll.specs.Walk.{key, rankOf}
+use Rattle.pll.specs.Walk.{keys, key, rankOf}
 use Rattle.pll.specs.declared.PllConfig.{PllConfig}
 use Rattle.pll.proofs.Order.{Kind, Lists, lists-keep}
 use Rattle.pll.proofs.Candidates.{lists-candidates, a-candidate}
@@ -24,14 +24,14 @@ use Rattle.pll.proofs.Scores.{score-cases, score-exact, score-other, ra
 module _ (input target : ℕ) where
   -- the distance, and of equal distances the order, as one number
   abbrev place : PllConfig → ℕ
-  place c = distance input target c * 65536 + (65535 - key c)
+  place c = distance input target c * keys + (keys - 1 - key c)
 
   -- what holds of the nearest setting of C
   abbrev NearestOf : Kind → Answer PllConfig → Type 0
   NearestOf C (value c) = C c × ((d : PllConfig) → C d → place c ≤ place d)
   NearestOf C (refusal n) = (n ≡ 15) × ((d : PllConfig) → C d → ⊥)
 
-  nearest-right : (cs : List PllConfig) (C : Kind) → Lists C cs → NearestOf C (nearest input target cs)
+  nearest-right : (cs : List PllConfig) (C : Kind) → Lists key C cs → NearestOf C (nearest input target cs)
   unfolding Lists nearest
   nearest-right [] C l = (refl, l)
   nearest-right (c ∷ cs) C l = step (nearest input target cs) (nearest-right cs After (l .2))
@@ -62,7 +62,7 @@ module _ (input target : ℕ) where
   unfolding searchOf Lists
   search-lowest =
       hits (keep (exact input target) (candidates input))
-      (lists-keep (exact input target) (candidates input) (Candidate input) (lists-candidates input))
+      (lists-keep key (exact input target) (candidates input) (Candidate input) (lists-candidates input))
     where
       Hit : Kind
       Hit c = Candidate input c × (exact input target c ≡ true)
@@ -71,7 +71,7 @@ module _ (input target : ℕ) where
       hit d m e = (m, eq-eqb (target * postsOf d) (vcoOf d input) e)
 
       other : ((c : PllConfig) → Hit c → ⊥) → (d : PllConfig) → Candidate input d
-          → rankOf input target d ≡ (distance input target d + 1) * 65536 + (65535 - key d)
+          → rankOf input target d ≡ (distance input target d + 1) * keys + (keys - 1 - key d)
       other none d m =
           let s = score-other (vcoOf d input) target (postsOf d) (λ e. none d (hit d m e)) in
           omega (arith, rank-is input target d)
@@ -84,7 +84,7 @@ module _ (input target : ℕ) where
           }
       no-hit none (refusal n) h = h
 
-      hits : (cs : List PllConfig) → Lists Hit cs → LowestOf (firstOr (nearest input target (candidates input)) cs)
+      hits : (cs : List PllConfig) → Lists key Hit cs → LowestOf (firstOr (nearest input target (candidates input)) cs)
       hits [] l =
           no-hit l (nearest input target (candidates input))
           (nearest-right (candidates input) (Candidate input) (lists-candidates input))

@@ -12,7 +12,7 @@ use Rattle.base.specs.Choice.{pick}
 use Rattle.pll.specs.Setting.{vcoOf, postsOf}
 use Rattle.pll.specs.Search.{apart, distance}
 use Rattle.pll.specs.Law.{Candidate, Exact, Before, Chosen}
-use Rattle.pll.specs.Walk.{scoreOf, key, rankOf}
+use Rattle.pll.specs.Walk.{keys, noRank, scoreOf, key, rankOf}
 use Rattle.pll.specs.declared.PllConfig.{PllConfig}
 
 module _ (v t d : ℕ) where
@@ -48,13 +48,13 @@ module _ (input target : ℕ) where
   abbrev score : PllConfig → ℕ
   score c = scoreOf (vcoOf c input) target (postsOf c)
 
-  pub rank-is : (c : PllConfig) → rankOf input target c ≡ score c * 65536 + (65535 - key c)
+  pub rank-is : (c : PllConfig) → rankOf input target c ≡ score c * keys + (keys - 1 - key c)
   unfolding rankOf
   rank-is c = refl
 
   -- the rank of a candidate is below the one from which the walk starts
   pub rank-below : target < 4294967296 → (c : PllConfig) → Candidate input c
-      → rankOf input target c < 9223372036854775808
+      → rankOf input target c < noRank
   rank-below t c m =
       let s = score-most (vcoOf c input) target (postsOf c) in
       omega (arith, rank-is c, div-le-self (vcoOf c input) (postsOf c), m .vco .high)
@@ -71,7 +71,7 @@ module _ (input target : ℕ) where
       let least = l .least d k in
       let rc = rank-is c in
       let rd = rank-is d in
-      let high : key d ≤ 65535 = omega (arith, k .feedback-high, k .post1-high, k .post2-high) in (
+      let high : key d < keys = omega (arith, k .feedback-high, k .post1-high, k .post2-high) in (
         omega arith,
         λ s b. omega (arith, before-key c d (l .candidate .post1-high) (l .candidate .post2-high) b),
       )

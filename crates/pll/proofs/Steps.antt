@@ -5,8 +5,9 @@ use mathlib.Core.Logic.{_⊎_, inl, inr, ⊎-elim}
 use Prim.Native.Nat.{ℕ, min, _-_, _*_, _≤_, _<_}
 use native.Mathlib.Omega.{arith, min-cases}
 use native.Mathlib.Nat.{eq-or-lt-of-le}
+use Rattle.pll.specs.Ranges.{feedbackMin}
 use Rattle.pll.specs.Law.{InVco}
-use Rattle.pll.specs.Walk.{rankOf, LowestRank, CandidatesAt, CandidatesTo}
+use Rattle.pll.specs.Walk.{keys, noRank, rankOf, LowestRank, CandidatesAt, CandidatesTo}
 use Rattle.pll.specs.declared.PllConfig.{PllConfig}
 use Rattle.pll.proofs.Candidates.{vco-is}
 use Rattle.pll.proofs.Scores.{rank-is}
@@ -14,7 +15,7 @@ use Rattle.pll.proofs.Scores.{rank-is}
 module _ (input target fb : ℕ) where
   -- a feedback divider with its VCO out of range has no candidate
   pub none-here : (InVco (input * fb) → ⊥)
-      → LowestRank input target (CandidatesAt input fb) 9223372036854775808 9223372036854775808
+      → LowestRank input target (CandidatesAt input fb) noRank noRank
   none-here n =
       record {
         most = omega arith;
@@ -22,8 +23,8 @@ module _ (input target fb : ℕ) where
         least = λ c m. absurd (n (rw (vco-is input c (m .0 .reference), m .1) at (m .0 .vco)));
       }
 
-  module _ (best here : ℕ) (found : LowestRank input target (CandidatesAt input fb) 9223372036854775808 here)
-      (top : best ≤ 9223372036854775808) where
+  module _ (best here : ℕ) (found : LowestRank input target (CandidatesAt input fb) noRank here)
+      (top : best ≤ noRank) where
     abbrev now : ℕ
     now = min best here
 
@@ -55,7 +56,7 @@ module _ (input target fb : ℕ) where
     stop h = walk-on now (record { most = omega arith; one = inl refl; least = h })
 
     -- as at a rank without a remainder
-    pub stop-exact : now < 65536 → 65536 ≤ best → LowestRank input target (CandidatesTo input fb) best now
+    pub stop-exact : now < keys → keys ≤ best → LowestRank input target (CandidatesTo input fb) best now
     stop-exact n b =
         stop (λ c m. ⊎-elim (λ e. absurd (omega arith))
         (λ f.
@@ -65,5 +66,5 @@ module _ (input target fb : ℕ) where
         now-one)
 
     -- and at 16
-    pub stop-last : fb ≤ 16 → 0 < fb → LowestRank input target (CandidatesTo input fb) best now
+    pub stop-last : fb ≤ feedbackMin → 0 < fb → LowestRank input target (CandidatesTo input fb) best now
     stop-last h s = stop (λ c m. absurd (omega (arith, m .0 .feedback-low, m .1)))

@@ -4,20 +4,21 @@ use mathlib.Core.Path.{_≡_}
 use mathlib.Core.Logic.{_⊎_}
 use Prim.Native.Nat.{ℕ, _*_, _≤_, _<_}
 use Rattle.base.specs.Answer.{Answer, value, refusal}
+use Rattle.pll.specs.Ranges.{feedbackMin, feedbackMax, vcoMin, vcoMax}
 use Rattle.pll.specs.Setting.{vcoOf, postsOf}
 use Rattle.pll.specs.Search.{distance}
 use Rattle.pll.specs.declared.PllConfig.{PllConfig}
 
 -- a VCO frequency of 750 to 1600 MHz
 pub record InVco (vco : ℕ) : Type 0 where
-  pub low : 750000000 ≤ vco
-  pub high : vco ≤ 1600000000
+  pub low : vcoMin ≤ vco
+  pub high : vco ≤ vcoMax
 
 -- what the search chooses from
 pub record Candidate (input : ℕ) (c : PllConfig) : Type 0 where
   pub reference : c .refdiv ≡ 1
-  pub feedback-low : 16 ≤ c .fbdiv
-  pub feedback-high : c .fbdiv ≤ 320
+  pub feedback-low : feedbackMin ≤ c .fbdiv
+  pub feedback-high : c .fbdiv ≤ feedbackMax
   pub vco : InVco (vcoOf c input)
   pub post1-high : c .«post_div1» ≤ 7
   pub post2-low : 1 ≤ c .«post_div2»
@@ -54,4 +55,5 @@ pub record Chosen (input target : ℕ) (c : PllConfig) : Type 0 where
 -- an answer is right: a setting is the one to answer; a refusal is 15, and no feedback divider has its VCO in range
 abbrev pub RightAnswer : ℕ → ℕ → Answer PllConfig → Type 0
 RightAnswer input target (value c) = Chosen input target c
-RightAnswer input target (refusal n) = (n ≡ 15) × ((fb : ℕ) → 16 ≤ fb → fb ≤ 320 → InVco (input * fb) → ⊥)
+RightAnswer input target (refusal n) =
+    (n ≡ 15) × ((fb : ℕ) → feedbackMin ≤ fb → fb ≤ feedbackMax → InVco (input * fb) → ⊥)

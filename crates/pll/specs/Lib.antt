@@ -1,5 +1,6 @@
 -- The definitions that the contracts cite.
 -- Assumes nothing.
+pub mod Ranges
 pub mod Setting
 pub mod Search
 pub mod Law

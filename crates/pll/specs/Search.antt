@@ -6,6 +6,7 @@ use Prim.Native.Nat.{ℕ, zero, suc, _+_, _-_, _*_}
 use lib.Dec.{leb, eqb}
 use Rattle.base.specs.Choice.{pick, inRange}
 use Rattle.base.specs.Answer.{Answer, value, refusal}
+use Rattle.pll.specs.Ranges.{feedbackMin, feedbackMax, vcoMin, vcoMax}
 use Rattle.pll.specs.Setting.{vcoOf, postsOf, outputHz}
 use Rattle.pll.specs.declared.PllConfig.{PllConfig}
 use Rattle.pll.specs.declared.Found.{Found}
@@ -16,13 +17,18 @@ unfoldable pub falling : ℕ → List ℕ
 falling zero = []
 falling (suc n) = suc n ∷ falling n
 
+-- n numbers from k on: k, k + 1, ..
+unfoldable pub rising : ℕ → ℕ → List ℕ
+rising zero k = []
+rising (suc n) k = k ∷ rising n (suc k)
+
 -- the search uses reference divider 1
 abbrev pub setting : ℕ → ℕ → ℕ → PllConfig
 setting fb p1 p2 = record { refdiv = 1; fbdiv = fb; «post_div1» = p1; «post_div2» = p2 }
 
 -- the order: feedback divider, post 1, post 2, each falling, post 2 at most post 1
 unfoldable pub settings : List PllConfig
-settings = flatMap (λ fb. flatMap (λ p1. map (setting fb p1) (falling p1)) (falling 7)) (falling 320)
+settings = flatMap (λ fb. flatMap (λ p1. map (setting fb p1) (falling p1)) (falling 7)) (falling feedbackMax)
 
 -- those of the list that pass the test, in its order
 unfoldable pub keep : (PllConfig → Bool) → List PllConfig → List PllConfig
@@ -31,7 +37,7 @@ keep test (c ∷ cs) = pick (test c) (c ∷ keep test cs) (keep test cs)
 
 -- a feedback divider from 16 on, and a VCO of 750 to 1600 MHz
 abbrev pub permitted : ℕ → PllConfig → Bool
-permitted input c = leb 16 (c .fbdiv) && inRange 750000000 1600000000 (vcoOf c input)
+permitted input c = leb feedbackMin (c .fbdiv) && inRange vcoMin vcoMax (vcoOf c input)
 
 unfoldable pub candidates : ℕ → List PllConfig
 candidates input = keep (permitted input) settings

@@ -1,15 +1,26 @@
 // The PLL: whether a setting is valid, what it gives, and the search for one.
+use base::Number;
 ghost use mathlib.Core.Path.{_≡_};
 ghost use Prim.Native.Nat.{_*_, _≤_, _<_, min};
-ghost use Rattle.pll.specs.Setting.{postsOf, vcoOf, outputHz, dividersOf, validOf, outputOf, outputIs};
+ghost use Rattle.base.specs.Answer.{numberIs};
+ghost use Rattle.pll.specs.Ranges.{feedbackMin, feedbackMax, vcoMax};
+ghost use Rattle.pll.specs.Setting.{postsOf, vcoOf, outputHz, dividersOf, validOf, outputOf};
 ghost use Rattle.pll.specs.Search.{searchOf, foundIs};
 ghost use Rattle.pll.specs.Law.{InVco};
 ghost use Rattle.pll.specs.Walk.{PostCode, WantedProduct, NearestPosts, scoreOf, codeRankOf, settingOf};
-ghost use Rattle.pll.specs.Walk.{LowestRank, CandidatesAt, CandidatesTo};
+ghost use Rattle.pll.specs.Walk.{keys, noRank, LowestRank, CandidatesAt, CandidatesTo};
 
-const VCO_MIN: u64 = 750000000;
+const REFERENCE_MIN: u64 = 5000000;
 
-const VCO_MAX: u64 = 1600000000;
+const REFERENCE_MAX: u64 = 800000000;
+
+pub const FEEDBACK_MIN: u64 = 16;
+
+pub const FEEDBACK_MAX: u64 = 320;
+
+pub const VCO_MIN: u64 = 750000000;
+
+pub const VCO_MAX: u64 = 1600000000;
 
 // The four dividers of a PLL.
 pub struct PllConfig {
@@ -17,12 +28,6 @@ pub struct PllConfig {
     pub fbdiv: u16,
     pub post_div1: u8,
     pub post_div2: u8,
-}
-
-// A frequency, or the number of a refusal.
-pub enum Output {
-    Hz(u32),
-    Refused(u8),
 }
 
 // A setting, or the number of a refusal.
@@ -37,7 +42,7 @@ impl PllConfig {
         ensures { λ r. ⌜ r ≡ dividersOf self ⌝ }
     {
         base::in_range(1, 63, self.refdiv as u64)
-            & base::in_range(16, 320, self.fbdiv as u64)
+            & base::in_range(FEEDBACK_MIN, FEEDBACK_MAX, self.fbdiv as u64)
             & base::in_range(1, 7, self.post_div1 as u64)
             & base::in_range(1, 7, self.post_div2 as u64)
             & (self.post_div2 <= self.post_div1)
@@ -64,7 +69,7 @@ impl PllConfig {
     {
         let reference = base::quotient32(input_hz, self.refdiv as u32);
         self.dividers_valid()
-            & base::in_range(5000000, 800000000, reference as u64)
+            & base::in_range(REFERENCE_MIN, REFERENCE_MAX, reference as u64)
             & base::in_range(VCO_MIN, VCO_MAX, self.vco(input_hz))
     }
 
@@ -76,16 +81,16 @@ impl PllConfig {
     }
 
     // The output frequency, with no test of validity.
-    pub fn output_frequency(self, input_hz: u32) -> Output
-        ensures { λ r. ⌜ outputIs r ≡ outputOf self «input_hz» ⌝ }
+    pub fn output_frequency(self, input_hz: u32) -> Number
+        ensures { λ r. ⌜ numberIs r ≡ outputOf self «input_hz» ⌝ }
     {
         let fits = (1 <= self.refdiv)
             & base::in_range(1, 255, self.posts())
             & (self.vco(input_hz) <= 4294967295);
         if fits {
-            Output::Hz(self.output_hz(input_hz) as u32)
+            Number::Value(self.output_hz(input_hz) as u32)
         } else {
-            Output::Refused(16)
+            Number::Refused(16)
         }
     }
 }
@@ -146,15 +151,15 @@ const NEAREST_POSTS: [u16; 50] = [
     0o7777,
 ];
 
-// A rank below this one is of a setting that meets the target with no remainder.
-const INEXACT: u64 = 65536;
+// Keys are below this number. So a rank below it has score 0: a setting that meets the target with no remainder.
+const KEYS: u64 = 65536;
 
 // Above every rank.
 const NO_RANK: u64 = 1 << 63;
 
 // 0 where the target is met with no remainder, else one more than the distance in whole hertz.
 fn score(vco: u32, target: u32, product: u32) -> u32
-    requires { ⌜ (49 ≤ vco) × (vco ≤ 1600000000) × (0 < product) × (product ≤ 49) ⌝ }
+    requires { ⌜ (49 ≤ vco) × (vco ≤ vcoMax) × (0 < product) × (product ≤ 49) ⌝ }
     ensures { λ r. ⌜ r ≡ scoreOf vco target product ⌝ }
 {
     if (target as u64) * (product as u64) == vco as u64 {
@@ -171,12 +176,12 @@ fn score(vco: u32, target: u32, product: u32) -> u32
 // The rank of a setting, the lower the better: by the score, and of equals the one that stands first, with the
 // higher dividers. `posts` holds the two post dividers, three bits each.
 fn rank(vco: u32, target: u32, fbdiv: u32, posts: u32) -> u64
-    requires { ⌜ (49 ≤ vco) × (vco ≤ 1600000000) × (fbdiv ≤ 320) × PostCode posts ⌝ }
+    requires { ⌜ (49 ≤ vco) × (vco ≤ vcoMax) × (fbdiv ≤ feedbackMax) × PostCode posts ⌝ }
     ensures { λ r. ⌜ r ≡ codeRankOf vco target fbdiv posts ⌝ }
 {
     let key = fbdiv * 64 + posts;
     let s = score(vco, target, posts / 8 * (posts % 8));
-    (s as u64) * 65536 + ((65535 - key) as u64)
+    (s as u64) * KEYS + (KEYS - 1 - key as u64)
 }
 
 // The lower of two ranks.
@@ -209,8 +214,8 @@ fn posts_near(product: usize) -> u16
 // a product up to q give the target or more, and the greatest such product is nearest. Those with a product above q
 // give less, and there the least is nearest.
 fn best_posts(input_hz: u32, target: u32, fbdiv: u32) -> u64
-    requires { ⌜ (16 ≤ fbdiv) × (fbdiv ≤ 320) × InVco («input_hz» * fbdiv) ⌝ }
-    ensures { λ r. ⌜ LowestRank «input_hz» target (CandidatesAt «input_hz» fbdiv) 9223372036854775808 r ⌝ }
+    requires { ⌜ (feedbackMin ≤ fbdiv) × (fbdiv ≤ feedbackMax) × InVco («input_hz» * fbdiv) ⌝ }
+    ensures { λ r. ⌜ LowestRank «input_hz» target (CandidatesAt «input_hz» fbdiv) noRank r ⌝ }
 {
     let vco = input_hz * fbdiv;
     let posts = posts_near(wanted_product(vco, target)) as u32;
@@ -222,8 +227,8 @@ fn best_posts(input_hz: u32, target: u32, fbdiv: u32) -> u64
 
 // The lowest rank at one feedback divider, if its VCO frequency is in range.
 fn best_feedback(input_hz: u32, target: u32, fbdiv: u32) -> u64
-    requires { ⌜ (16 ≤ fbdiv) × (fbdiv ≤ 320) ⌝ }
-    ensures { λ r. ⌜ LowestRank «input_hz» target (CandidatesAt «input_hz» fbdiv) 9223372036854775808 r ⌝ }
+    requires { ⌜ (feedbackMin ≤ fbdiv) × (fbdiv ≤ feedbackMax) ⌝ }
+    ensures { λ r. ⌜ LowestRank «input_hz» target (CandidatesAt «input_hz» fbdiv) noRank r ⌝ }
 {
     let vco = (input_hz as u64) * (fbdiv as u64);
     if vco < VCO_MIN {
@@ -235,17 +240,17 @@ fn best_feedback(input_hz: u32, target: u32, fbdiv: u32) -> u64
     best_posts(input_hz, target, fbdiv)
 }
 
-// The lowest of `best` and the ranks at the feedback dividers from fbdiv down to 16: it calls itself with the next
+// The lowest of `best` and the ranks at the feedback dividers from fbdiv down to the least: it calls itself with the next
 // lower one. A rank with no remainder ends the walk, since nothing after it is lower.
 fn walk(input_hz: u32, target: u32, fbdiv: u32, best: u64) -> u64
-    requires { ⌜ (16 ≤ fbdiv) × (fbdiv ≤ 320) × (65536 ≤ best) × (best ≤ 9223372036854775808) ⌝ }
+    requires { ⌜ (feedbackMin ≤ fbdiv) × (fbdiv ≤ feedbackMax) × (keys ≤ best) × (best ≤ noRank) ⌝ }
     ensures { λ r. ⌜ LowestRank «input_hz» target (CandidatesTo «input_hz» fbdiv) best r ⌝ }
 {
     let now = lower(best, best_feedback(input_hz, target, fbdiv));
-    if now < INEXACT {
+    if now < KEYS {
         return now;
     }
-    if fbdiv <= 16 {
+    if fbdiv <= FEEDBACK_MIN as u32 {
         return now;
     }
     walk(input_hz, target, fbdiv - 1, now)
@@ -255,7 +260,7 @@ fn walk(input_hz: u32, target: u32, fbdiv: u32, best: u64) -> u64
 fn setting(rank: u64) -> PllConfig
     ensures { λ r. ⌜ r ≡ settingOf rank ⌝ }
 {
-    let key = 65535 - rank % 65536;
+    let key = KEYS - 1 - rank % KEYS;
     PllConfig {
         refdiv: 1,
         fbdiv: (key / 64) as u16,
@@ -268,7 +273,7 @@ fn setting(rank: u64) -> PllConfig
 pub fn find_pll_params(input_hz: u32, target_hz: u32) -> Found
     ensures { λ r. ⌜ foundIs r ≡ searchOf «input_hz» «target_hz» ⌝ }
 {
-    let best = walk(input_hz, target_hz, 320, NO_RANK);
+    let best = walk(input_hz, target_hz, FEEDBACK_MAX as u32, NO_RANK);
     if best < NO_RANK {
         Found::Params(setting(best))
     } else {

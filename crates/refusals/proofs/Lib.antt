@@ -1,3 +1,5 @@
 pub mod Accepted
 pub mod Numbers
 pub mod Stored
+pub mod Worded
+pub mod Default

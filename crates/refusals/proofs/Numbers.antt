@@ -2,67 +2,42 @@
 -- Assumes nothing.
 use mathlib.Core.Path.{_≡_}
 use mathlib.Core.Bool.{Bool, true, false}
+use mathlib.Core.List.{List, [], _∷_}
 use Prim.Native.Nat.{ℕ, _≤_, _<_}
 use native.Mathlib.Omega.{arith}
 use native.Mathlib.Decide.{decLe}
-use lib.Dec.{eqb}
+use lib.ListN.{drop}
 use borrow.Author.Tests.{lt-ltb, le-ltb}
-use Rattle.base.specs.Choice.{pick}
-use Rattle.voltage.specs.Voltage.{codeOf}
-use Rattle.config.specs.declared.ClockConfig.{ClockConfig}
-use Rattle.config.specs.Options.{roscOption, xoscOption, periOption, usbOption, adcOption, rtcOption}
-use Rattle.settings.specs.declared.Sources.{Sources}
-use Rattle.settings.specs.Settings.{cyclesOf}
-use Rattle.refusals.specs.Refusals.{strengthsOver, ringDividerOver, settlingOver, startupOver, sysPllInvalid}
-use Rattle.refusals.specs.Refusals.{usbPllInvalid, dividerBad, referenceBad, wholeBad, periBad, usbBad}
-use Rattle.refusals.specs.Refusals.{adcBad, rtcBad, outputRefusal, clockRefusal, oscillatorRefusal, refusalOf}
+use Rattle.settings.specs.declared.Settings.{Settings}
+use Rattle.settings.specs.Frequencies.{frequenciesOf}
+use Rattle.refusals.specs.Refusals.{testsOf, first, refusalOf}
 
-pub record Numbered (p : ClockConfig) (reading : ℕ) : Type 0 where
-  pub over : 15 < reading → refusalOf p reading ≡ 18
-  pub only-over : refusalOf p reading ≡ 18 → 15 < reading
-  pub others : reading ≤ 15 → refusalOf p reading ≤ 14
+pub record Numbered (s : Settings) (reading : ℕ) : Type 0 where
+  pub over : 15 < reading → refusalOf s reading ≡ 18
+  pub only-over : refusalOf s reading ≡ 18 → 15 < reading
+  pub others : reading ≤ 15 → refusalOf s reading ≤ 14
 
-most : (b : Bool) (n rest : ℕ) → n ≤ 14 → rest ≤ 14 → pick b n rest ≤ 14
-most true n rest h r = h
-most false n rest h r = r
+-- every number is up to 14
+abbrev Low : List (ℕ × Bool) → Type 0
+Low [] = Unit {0}
+Low ((number, test) ∷ rest) = (number ≤ 14) × Low rest
 
-output-most : (p : ClockConfig) (f : Sources) (system : ℕ) → outputRefusal p f system ≤ 14
-unfolding outputRefusal
-output-most p f system =
-    most (periBad f system (periOption (p .«peri_clk_src»))) 11 _ (omega arith)
-    (most (usbBad f (usbOption (p .«usb_clk»))) 12 _ (omega arith)
-    (most (adcBad f (adcOption (p .«adc_clk»))) 13 _ (omega arith)
-    (most (rtcBad f (rtcOption (p .«rtc_clk»))) 14 0 (omega arith) (omega arith))))
+first-low : (tests : List (ℕ × Bool)) → Low tests → first tests ≤ 14
+first-low [] h = omega arith
+first-low ((number, true) ∷ rest) h = h .0
+first-low ((number, false) ∷ rest) h = first-low rest (h .1)
 
-clock-most : (p : ClockConfig) (f : Sources) (reference system : ℕ) → clockRefusal p f reference system ≤ 14
-unfolding clockRefusal
-clock-most p f reference system =
-    most (dividerBad (p .«ref_clk» .div)) 7 _ (omega arith)
-    (most (referenceBad reference) 8 _ (omega arith)
-    (most (wholeBad (p .«sys_clk» .«div_int»)) 9 _ (omega arith)
-    (most (eqb system 0) 10 _ (omega arith) (output-most p f system))))
-
-oscillator-most : (p : ClockConfig) (reading rest : ℕ) → rest ≤ 14 → oscillatorRefusal p reading rest ≤ 14
-unfolding oscillatorRefusal
-oscillator-most p reading rest h =
-    most (strengthsOver (roscOption (p .rosc))) 1 _ (omega arith)
-    (most (ringDividerOver (roscOption (p .rosc))) 2 _ (omega arith)
-    (most (settlingOver reading (codeOf (p .«core_voltage»)) (cyclesOf p)) 3 _ (omega arith)
-    (most (startupOver (xoscOption (p .xosc))) 4 _ (omega arith)
-    (most (sysPllInvalid (xoscOption (p .xosc))) 5 _ (omega arith)
-    (most (usbPllInvalid (xoscOption (p .xosc))) 6 _ (omega arith) h)))))
-
-pub refusal-numbers : (p : ClockConfig) (reading : ℕ) → Numbered p reading
+pub refusal-numbers : (s : Settings) (reading : ℕ) → Numbered s reading
 unfolding refusalOf
-refusal-numbers p reading = record { over = over; only-over = only-over; others = others }
+refusal-numbers s reading = record { over = over; only-over = only-over; others = others }
   where
-    over : 15 < reading → refusalOf p reading ≡ 18
+    over : 15 < reading → refusalOf s reading ≡ 18
     over h = rw (lt-ltb 15 reading h)
 
-    others : reading ≤ 15 → refusalOf p reading ≤ 14
-    others h = rw (le-ltb 15 reading h) (oscillator-most p reading _ (clock-most p _ _ _))
+    others : reading ≤ 15 → refusalOf s reading ≤ 14
+    others h = rw (le-ltb 15 reading h) (first-low (drop 1 (testsOf s (frequenciesOf s) reading)) (omega arith))
 
-    only-over : refusalOf p reading ≡ 18 → 15 < reading
+    only-over : refusalOf s reading ≡ 18 → 15 < reading
     only-over e = go (decLe reading 15)
       where
         go : Dec (reading ≤ 15) → 15 < reading

@@ -1,27 +1,26 @@
--- The refusals of a plan at a reading: a test for each number, and their order.
+-- The refusals of settings at a reading: a test for each number, and their order.
 -- Assumes nothing.
-use mathlib.Core.Bool.{Bool, false, _||_, _&&_, not}
-use mathlib.Core.Option.{Option, none, some}
+use mathlib.Core.Path.{_≡_}
+use mathlib.Core.List.{List, [], _∷_}
+use mathlib.Core.Bool.{Bool, false, _||_, not}
 use Prim.Native.Nat.{ℕ}
 use lib.Dec.{ltb, leb, eqb}
 use Rattle.base.specs.Choice.{pick, inRange}
-use Rattle.voltage.specs.Voltage.{codeOf}
-use Rattle.divider.specs.Delay.{startupSum, delayOf}
-use Rattle.pll.specs.declared.PllConfig.{PllConfig}
 use Rattle.pll.specs.Setting.{validOf}
 use Rattle.config.specs.declared.DriveStrength.{DriveStrength}
-use Rattle.config.specs.declared.RoscConfig.{RoscConfig}
-use Rattle.config.specs.declared.XoscConfig.{XoscConfig}
-use Rattle.config.specs.declared.PeriClkSrc.{PeriClkSrc}
-use Rattle.config.specs.declared.UsbClkConfig.{UsbClkConfig}
-use Rattle.config.specs.declared.AdcClkConfig.{AdcClkConfig}
-use Rattle.config.specs.declared.RtcClkConfig.{RtcClkConfig}
+use Rattle.config.specs.declared.OptionRosc.{OptionRosc}
+use Rattle.config.specs.declared.OptionPll.{OptionPll}
+use Rattle.config.specs.declared.OptionPeri.{OptionPeri}
+use Rattle.config.specs.declared.OptionAux.{OptionAux}
+use Rattle.config.specs.declared.OptionRtc.{OptionRtc}
 use Rattle.config.specs.declared.ClockConfig.{ClockConfig}
-use Rattle.config.specs.Options.{roscOption, xoscOption, pllOption, periOption, usbOption, adcOption, rtcOption}
+use Rattle.settings.specs.declared.OptionCrystal.{OptionCrystal}
+use Rattle.settings.specs.declared.OptionCycles.{OptionCycles}
+use Rattle.settings.specs.declared.Settings.{Settings}
 use Rattle.settings.specs.declared.Sources.{Sources}
-use Rattle.settings.specs.Codes.{usbAux, adcAux, rtcAux}
-use Rattle.settings.specs.Settings.{crystalOf, cyclesOf}
-use Rattle.settings.specs.Frequencies.{sourcesOf, refHz, sysHz, periSource, auxSource, rtcHz}
+use Rattle.settings.specs.declared.Frequencies.{Frequencies}
+use Rattle.settings.specs.Settings.{settingsOf}
+use Rattle.settings.specs.Frequencies.{auxSource, frequenciesOf}
 use Rattle.refusals.specs.declared.Examined.{Examined}
 
 abbrev pub strengthOver : DriveStrength → Bool
@@ -30,38 +29,38 @@ strengthOver g =
     || ltb 7 (g .s4) || ltb 7 (g .s5) || ltb 7 (g .s6) || ltb 7 (g .s7)
 
 -- 1: strength over 7
-unfoldable pub strengthsOver : Option RoscConfig → Bool
-strengthsOver (some r) = strengthOver (r .«drive_strength»)
-strengthsOver none = false
+unfoldable pub strengthsOver : OptionRosc → Bool
+strengthsOver (OptionRosc.Some r) = strengthOver (r .«drive_strength»)
+strengthsOver OptionRosc.None = false
 
 -- 2: ring divider over 62815
-unfoldable pub ringDividerOver : Option RoscConfig → Bool
-ringDividerOver (some r) = ltb 62815 (r .div)
-ringDividerOver none = false
+unfoldable pub ringDividerOver : OptionRosc → Bool
+ringDividerOver (OptionRosc.Some r) = ltb 62815 (r .div)
+ringDividerOver OptionRosc.None = false
 
--- 3: settling cycles over 32 bits, where the voltage changes
-unfoldable pub settlingOver : ℕ → ℕ → ℕ → Bool
-settlingOver reading code cycles = not (eqb code reading) && ltb 4294967295 cycles
+-- 3: settling cycles over 32 bits; with no settling step the voltage stays or the cycles are 0
+unfoldable pub settlingOver : OptionCycles → Bool
+settlingOver (OptionCycles.Some n) = ltb 4294967295 n
+settlingOver OptionCycles.None = false
 
--- 4: startup sum over 32 bits or delay over 16383
-unfoldable pub startupOver : Option XoscConfig → Bool
-startupOver (some x) =
-    ltb 4294967295 (startupSum (x .hz) (x .«delay_multiplier»)) || ltb 16383 (delayOf (x .hz) (x .«delay_multiplier»))
-startupOver none = false
+-- 4: delay over 16383, as every delay of a startup sum over 32 bits is
+unfoldable pub startupOver : OptionCrystal → Bool
+startupOver (OptionCrystal.Some x) = ltb 16383 (x .delay)
+startupOver OptionCrystal.None = false
 
-abbrev pub pllInvalid : ℕ → Option PllConfig → Bool
-pllInvalid hz (some p) = not (validOf p hz)
-pllInvalid hz none = false
+abbrev pub pllInvalid : ℕ → OptionPll → Bool
+pllInvalid hz (OptionPll.Some p) = not (validOf p hz)
+pllInvalid hz OptionPll.None = false
 
 -- 5: system PLL invalid
-unfoldable pub sysPllInvalid : Option XoscConfig → Bool
-sysPllInvalid (some x) = pllInvalid (x .hz) (pllOption (x .«sys_pll»))
-sysPllInvalid none = false
+unfoldable pub sysPllInvalid : OptionCrystal → Bool
+sysPllInvalid (OptionCrystal.Some x) = pllInvalid (x .hz) (x .sys)
+sysPllInvalid OptionCrystal.None = false
 
 -- 6: USB PLL invalid
-unfoldable pub usbPllInvalid : Option XoscConfig → Bool
-usbPllInvalid (some x) = pllInvalid (x .hz) (pllOption (x .«usb_pll»))
-usbPllInvalid none = false
+unfoldable pub usbPllInvalid : OptionCrystal → Bool
+usbPllInvalid (OptionCrystal.Some x) = pllInvalid (x .hz) (x .usb)
+usbPllInvalid OptionCrystal.None = false
 
 -- 7: divider not 1 to 4
 unfoldable pub dividerBad : ℕ → Bool
@@ -76,78 +75,54 @@ unfoldable pub wholeBad : ℕ → Bool
 wholeBad whole = not (inRange 1 16777215 whole)
 
 -- 11: peripheral source 0 Hz
-unfoldable pub periBad : Sources → ℕ → Option PeriClkSrc → Bool
-periBad f system (some src) = eqb (periSource f system src) 0
-periBad f system none = false
+unfoldable pub periBad : ℕ → OptionPeri → Bool
+periBad hz (OptionPeri.Some src) = eqb hz 0
+periBad hz OptionPeri.None = false
 
--- source 0 Hz, divider not 1 to 4 or phase over 3
-unfoldable pub dividedBad : Sources → ℕ → ℕ → ℕ → Bool
-dividedBad f aux div phase = eqb (auxSource f aux) 0 || dividerBad div || ltb 3 phase
-
--- 12
-unfoldable pub usbBad : Sources → Option UsbClkConfig → Bool
-usbBad f (some u) = dividedBad f (usbAux (u .src)) (u .div) (u .phase)
-usbBad f none = false
-
--- 13
-unfoldable pub adcBad : Sources → Option AdcClkConfig → Bool
-adcBad f (some a) = dividedBad f (adcAux (a .src)) (a .div) (a .phase)
-adcBad f none = false
+-- 12 and 13: source 0 Hz, divider not 1 to 4 or phase over 3
+unfoldable pub auxBad : Sources → OptionAux → Bool
+auxBad f (OptionAux.Some a) = eqb (auxSource f (a .src)) 0 || dividerBad (a .div) || ltb 3 (a .phase)
+auxBad f OptionAux.None = false
 
 -- 14: source 0 Hz, whole part as in 9, phase over 3, or over 65535 Hz
-unfoldable pub rtcBad : Sources → Option RtcClkConfig → Bool
-rtcBad f (some r) =
-    eqb (auxSource f (rtcAux (r .src))) 0 || wholeBad (r .«div_int») || ltb 3 (r .phase) || ltb 65535 (rtcHz f (some r))
-rtcBad f none = false
+unfoldable pub rtcBad : Sources → ℕ → OptionRtc → Bool
+rtcBad f hz (OptionRtc.Some r) =
+    eqb (auxSource f (r .src)) 0 || wholeBad (r .«div_int») || ltb 3 (r .phase) || ltb 65535 hz
+rtcBad f hz OptionRtc.None = false
 
--- 11 to 14; 0: none of them
-unfoldable pub outputRefusal : ClockConfig → Sources → ℕ → ℕ
-outputRefusal p f system =
-    pick (periBad f system (periOption (p .«peri_clk_src»))) 11
-    (pick (usbBad f (usbOption (p .«usb_clk»))) 12
-    (pick (adcBad f (adcOption (p .«adc_clk»))) 13
-    (pick (rtcBad f (rtcOption (p .«rtc_clk»))) 14 0)))
+-- 18: reading over 15; then 1 to 14 rising
+abbrev pub testsOf : Settings → Frequencies → ℕ → List (ℕ × Bool)
+testsOf s f reading =
+    (18, ltb 15 reading)
+    ∷ (1, strengthsOver (s .rosc))
+    ∷ (2, ringDividerOver (s .rosc))
+    ∷ (3, settlingOver (s .settling))
+    ∷ (4, startupOver (s .xosc))
+    ∷ (5, sysPllInvalid (s .xosc))
+    ∷ (6, usbPllInvalid (s .xosc))
+    ∷ (7, dividerBad (s .reference .div))
+    ∷ (8, referenceBad (f .reference))
+    ∷ (9, wholeBad (s .sys .«div_int»))
+    ∷ (10, eqb (f .sys) 0)
+    ∷ (11, periBad (f .peri) (s .peri))
+    ∷ (12, auxBad (f .sources) (s .usb))
+    ∷ (13, auxBad (f .sources) (s .adc))
+    ∷ (14, rtcBad (f .sources) (f .rtc) (s .rtc))
+    ∷ []
 
--- 7 to 14; 10: system 0 Hz
-unfoldable pub clockRefusal : ClockConfig → Sources → ℕ → ℕ → ℕ
-clockRefusal p f reference system =
-    pick (dividerBad (p .«ref_clk» .div)) 7
-    (pick (referenceBad reference) 8
-    (pick (wholeBad (p .«sys_clk» .«div_int»)) 9
-    (pick (eqb system 0) 10
-    (outputRefusal p f system))))
+-- the number of the first test that holds; 0: none does
+abbrev pub first : List (ℕ × Bool) → ℕ
+first [] = 0
+first ((number, test) ∷ rest) = pick test number (first rest)
 
--- 1 to 6, else the rest
-unfoldable pub oscillatorRefusal : ClockConfig → ℕ → ℕ → ℕ
-oscillatorRefusal p reading rest =
-    pick (strengthsOver (roscOption (p .rosc))) 1
-    (pick (ringDividerOver (roscOption (p .rosc))) 2
-    (pick (settlingOver reading (codeOf (p .«core_voltage»)) (cyclesOf p)) 3
-    (pick (startupOver (xoscOption (p .xosc))) 4
-    (pick (sysPllInvalid (xoscOption (p .xosc))) 5
-    (pick (usbPllInvalid (xoscOption (p .xosc))) 6 rest)))))
+-- the refusal of settings at a reading; 0: accepted
+unfoldable pub refusalOf : Settings → ℕ → ℕ
+refusalOf s reading = first (testsOf s (frequenciesOf s) reading)
 
-abbrev pub planSources : ClockConfig → Sources
-planSources p = sourcesOf (roscOption (p .rosc)) (crystalOf (xoscOption (p .xosc)))
-
-abbrev pub planReference : ClockConfig → ℕ
-planReference p = refHz (planSources p) (p .«ref_clk»)
-
-abbrev pub planSystem : ClockConfig → ℕ
-planSystem p = sysHz (planSources p) (planReference p) (p .«sys_clk»)
-
--- 18: reading over 15; then 1 to 14 rising; 0: accepted
-unfoldable pub refusalOf : ClockConfig → ℕ → ℕ
-refusalOf p reading =
-    pick (ltb 15 reading) 18
-    (oscillatorRefusal p reading (clockRefusal p (planSources p) (planReference p) (planSystem p)))
+-- a plan is accepted for a reading where it gets neither 18 nor any of 1 to 14
+abbrev pub Accepted : ClockConfig → ℕ → Type 0
+Accepted p reading = refusalOf (settingsOf p reading) reading ≡ 0
 
 -- what `examine` answers
-abbrev pub examinedOf : ClockConfig → ℕ → Examined
-examinedOf p reading =
-    record {
-      number = refusalOf p reading;
-      sources = planSources p;
-      reference = planReference p;
-      system = planSystem p;
-    }
+abbrev pub examinedOf : Settings → ℕ → Examined
+examinedOf s reading = record { number = refusalOf s reading; frequencies = frequenciesOf s }

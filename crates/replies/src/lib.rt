@@ -1,7 +1,6 @@
 // The texts that answers are made of, each put into the caller's buffer.
 ghost use mathlib.Core.Path.{_≡_};
 ghost use mathlib.Core.List.{[], _∷_, _++_};
-ghost use Prim.Native.Nat.{min};
 ghost use Rattle.base.specs.Placed.{Placed};
 ghost use Rattle.text.specs.Decimal.{decimalOf};
 ghost use Rattle.replies.specs.Reply.{badCase, yesNo, refusedText, spaced, rowText, writtenText};
@@ -36,17 +35,11 @@ fn put_next(out: &mut [u8], at: usize, n: u64) -> usize
     text::put_decimal(out, end, n)
 }
 
-fn least(a: usize, b: usize) -> usize
-    ensures { λ r. ⌜ r ≡ min a b ⌝ }
-{
-    if a < b { a } else { b }
-}
-
 // Numbers, each behind a space.
 fn put_spaced(out: &mut [u8], at: usize, ns: &[u64]) -> usize
     ensures { λ r. ⌜ Placed (now (out .entry)) at (spaced (now (ns .entry))) r (now (out .exit)) ⌝ }
 {
-    let mut end = least(at, out.len());
+    let mut end = base::least(at, out.len());
     let mut i = 0;
     while i < ns.len() {
         end = put_next(out, end, ns[i]);
@@ -68,7 +61,7 @@ pub fn put_written(out: &mut [u8], n: usize, buf: &[u8]) -> usize
     ensures { λ r. ⌜ Placed (now (out .entry)) 0 (writtenText (now (buf .entry)) n) r (now (out .exit)) ⌝ }
 {
     let end = put_length(out, n);
-    let shown = least(n, buf.len());
+    let shown = base::least(n, buf.len());
     text::put_hex(out, end, &buf[..shown])
 }
 

@@ -8,46 +8,46 @@ use native.Mathlib.Omega.{arith}
 use borrow.Author.Tests.{eq-eqb, ne-eqb}
 use lib.ListN.{length, take, length-append}
 use lib.Seq.{take-append-seam}
-use Rattle.base.specs.Answer.{value, refusal}
+use Rattle.base.specs.Answer.{value, refusal, lengthIs}
+use Rattle.base.specs.declared.Length.{Length}
+use Rattle.step.specs.Sheet.{maxBytes}
 use Rattle.config.specs.declared.ClockConfig.{ClockConfig}
 use Rattle.settings.specs.Settings.{settingsOf}
-use Rattle.refusals.specs.Refusals.{refusalOf}
-use Rattle.sheet.specs.declared.Written.{Written}
-use Rattle.sheet.specs.Writer.{sheetBytes, writtenIs, Outcome}
+use Rattle.sheet.specs.Writer.{sheetBytes, refusalIn, InitCall}
 use Rattle.sheet.proofs.Ends.{refused, sheet-most}
 use Rattle.sheet.proofs.Demand3.{answers, answered}
 use Rattle.report.specs.Lines.{linesOf, reportNames, refusedLine}
 use Rattle.report.specs.Report.{reading, numbersOf, planReport}
-use Rattle.report.specs.Ran.{ranOf, numbersIn}
+use Rattle.report.specs.Ran.{ranOf, reportNumbers}
 use Rattle.report.proofs.Runs.{run-numbers}
 
-module _ (p : ClockConfig) (b b′ : List ℕ) (r : Written) (o : Outcome p reading b r b′) (n : ℕ) where
+module _ (p : ClockConfig) (b b′ : List ℕ) (r : Length) (o : InitCall p reading b r b′) (n : ℕ) where
   -- a length: the buffer's bytes up to it are the sheet, and its run has the numbers
-  pub written-fits : writtenIs r ≡ value n → n ≤ length b′
+  pub written-fits : lengthIs r ≡ value n → n ≤ length b′
   written-fits e =
       let a = answered p reading b b′ r o n e in
       rw (a .bytes) (simp length-append (omega (arith, a .count)))
 
-  pub written-report : writtenIs r ≡ value n → linesOf reportNames (numbersIn (ranOf (take n b′) (n / 8))) ≡ planReport p
+  pub written-report : lengthIs r ≡ value n → linesOf reportNames (reportNumbers (ranOf (take n b′) (n / 8))) ≡ planReport p
   unfolding planReport
   written-report e =
       let a = answered p reading b b′ r o n e in
       let sheet : take n b′ ≡ sheetBytes p reading
       = rw (a .bytes, a .count) (take-append-seam (sheetBytes p reading) _) in
-      let numbers : numbersIn (ranOf (take n b′) (n / 8)) ≡ numbersOf (settingsOf p reading)
+      let numbers : reportNumbers (ranOf (take n b′) (n / 8)) ≡ numbersOf (settingsOf p reading)
       = rw (sheet, a .count) (run-numbers p reading (a .ok) (o .typed)) in
       ap (linesOf reportNames) numbers ∙ rw (eq-eqb _ _ (a .ok))
 
-  -- a refusal: the plan's own, since 520 bytes are enough for every sheet
-  pub refused-report : length b ≡ 520 → writtenIs r ≡ refusal n → refusedLine n ≡ planReport p
+  -- a refusal: the plan's own, since the buffer is enough for every sheet
+  pub refused-report : length b ≡ maxBytes → lengthIs r ≡ refusal n → refusedLine n ≡ planReport p
   unfolding planReport
-  refused-report size e = elim (ℕ-discrete (refusalOf p reading) 0) [
+  refused-report size e = elim (ℕ-discrete (refusalIn p reading) 0) [
     | yes h ↦
         let room : length (sheetBytes p reading) ≤ length b = omega (arith, sheet-most p reading) in
         let found = answers p reading b b′ r o h room in
         let z : _≡_ {A = ℕ} 0 1 = cc in
         absurd (omega arith)
     | no h ↦
-        let number : n ≡ refusalOf p reading = let own = o .answer ∙ sym (refused p reading b (o .typed) h .answer) in cc in
+        let number : n ≡ refusalIn p reading = let own = o .answer ∙ sym (refused p reading b (o .typed) h .answer) in cc in
         rw (number, ne-eqb _ _ h)
   ]

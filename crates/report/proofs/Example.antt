@@ -1,4 +1,4 @@
--- Document 01's example: the report of `125000000`.
+-- The example of docs/FORMAT.md, Program clocks: the report of `125000000`.
 -- Assumes nothing.
 use mathlib.Core.List.{List, [], _∷_, _++_}
 use mathlib.Core.Path.{_≡_}
@@ -10,10 +10,10 @@ use Rattle.text.specs.Ascii.{ascii}
 use Rattle.text.specs.Decimal.{decimalOf, valueOf, isNumber, numberOf}
 use Rattle.divider.specs.Clock.{dividedHz}
 use Rattle.config.specs.Presets.{crystalPlan, systemPlan}
-use Rattle.settings.specs.Frequencies.{pllHz, sourcesOf, refHz, sysHz, auxSource, storedOf}
-use Rattle.refusals.specs.Refusals.{refusalOf}
-use Rattle.parts.specs.Parts.{releaseMask}
-use Rattle.parts.proofs.Examples.{crystal-steps}
+use Rattle.settings.specs.Frequencies.{pllHz, sourcesOf, refHz, sysHz, storedOf}
+use Rattle.sheet.specs.Writer.{refusalIn}
+use Rattle.sheet.specs.Steps.{releaseMask}
+use Rattle.sheet.proofs.Examples.{crystal-steps}
 use Rattle.report.specs.Lines.{lineOf}
 use Rattle.report.specs.Report.{reading, planReport, reportOf}
 
@@ -40,5 +40,5 @@ pub example : reportOf (texts ("125000000" ∷ []))
     ∷ "released 25"
     ∷ [])
 unfolding lineOf decimalOf reportOf numberOf isNumber valueOf systemPlan planReport
-    dividedHz pllHz sourcesOf refHz sysHz auxSource storedOf releaseMask
-example = rw (eq-eqb (refusalOf (crystalPlan 12000000) reading) 0 (crystal-steps .accepted), all-released)
+    dividedHz pllHz sourcesOf refHz sysHz storedOf releaseMask
+example = rw (eq-eqb (refusalIn (crystalPlan 12000000) reading) 0 (crystal-steps .accepted), all-released)

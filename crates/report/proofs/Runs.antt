@@ -1,38 +1,35 @@
--- A run, call by call, and what the run of an accepted plan's sheet leaves: the stored values and the last release mask.
+-- A run, call by call, and the numbers that the run of an accepted plan's sheet leaves.
 -- Assumes nothing.
 use mathlib.Core.Bool.{Bool, true, false}
 use mathlib.Core.List.{List, [], _∷_, _++_, map}
 use mathlib.Core.Path.{_≡_, refl, sym, ap, _∙_}
-use Prim.Native.Nat.{ℕ, zero, suc, _+_, _-_, _/_, _≤_, _<_}
+use Prim.Native.Nat.{ℕ, zero, suc, _-_, _/_, _≤_, _<_}
 use native.Mathlib.Numerals.{add-one}
 use native.Mathlib.Omega.{arith}
 use borrow.Author.Tests.{eqb-true}
 use lib.Dec.{eqb}
 use lib.ListN.{length, take, replicate, length-map}
 use lib.Seq.{take-append-seam}
-use Rattle.base.specs.Answer.{Answer, value}
-use Rattle.base.specs.Choice.{pick}
+use Rattle.base.specs.Answer.{Answer}
 use Rattle.step.specs.declared.Step.{Step}
-use Rattle.step.specs.Sheet.{encoded, AllFormed}
+use Rattle.step.specs.Kinds as kind
 use Rattle.step.proofs.Sheets.{length-encoded}
 use Rattle.config.specs.declared.ClockConfig.{ClockConfig}
-use Rattle.settings.specs.Settings.{Settings, settingsOf}
+use Rattle.settings.specs.declared.Settings.{Settings}
+use Rattle.settings.specs.Settings.{settingsOf}
 use Rattle.settings.specs.Frequencies.{storedOf}
-use Rattle.refusals.specs.Refusals.{refusalOf}
-use Rattle.refusals.specs.Typed.{Typed}
-use Rattle.parts.specs.Parts.{releaseMask, clocksPart, stepsWith, stepsOf}
-use Rattle.parts.specs.Stores.{storesIn}
-use Rattle.parts.proofs.Stores.{sheet-stores}
-use Rattle.parts.proofs.Counts.{steps-few}
-use Rattle.parts.proofs.Sheets.{steps-formed}
+use Rattle.settings.specs.Typed.{Typed}
+use Rattle.refusals.specs.Refusals.{Accepted}
+use Rattle.sheet.specs.Steps.{releaseMask, clocksPart, stepsWith, stepsOf}
 use Rattle.sheet.specs.Writer.{sheetBytes}
 use Rattle.runner.specs.declared.Runner.{Runner}
 use Rattle.runner.specs.declared.Stepped.{Stepped}
-use Rattle.runner.specs.Run.{Progress, done, Outcome, replyIs, steppedIs, fresh, isWait, storedBy, advanceOf}
-use Rattle.runner.specs.Calls.{answers, readyAnswer, storesOf, runnerAt}
-use Rattle.runner.proofs.Ready.{ready-answers, ready-stores}
+use Rattle.runner.specs.Run.{Progress, Outcome, replyIs, steppedIs, fresh, isWait, advanceOf}
+use Rattle.runner.specs.Calls.{answers, readyAnswer}
+use Rattle.up.specs.Up.{planSteps}
+use Rattle.up.proofs.Run.{sheet-answers, sheet-run}
 use Rattle.report.specs.Report.{numbersOf}
-use Rattle.report.specs.Ran.{releasedIn, releasedBy, lastReleased, runs, ranOf, numbersIn}
+use Rattle.report.specs.Ran.{releasedIn, releasedBy, lastReleased, runs, ranOf, reportNumbers}
 
 -- one call, then the others
 pub runs-next : (sheet : List ℕ) (left : ℕ) (r : Runner) (mask : ℕ) (s : Stepped) → 0 < left
@@ -51,27 +48,6 @@ unfolding runs
 runs-none sheet zero r mask none = refl
 runs-none sheet (suc n) r mask none = absurd (omega arith)
 
--- only stores set frequencies
-no-store : (x : Step) (freqs : List ℕ) → eqb (x .kind) 37 ≡ false → storedBy x freqs ≡ freqs
-unfolding storedBy
-no-store x freqs k = simp k
-
-stores-alone : (xs : List Step) (freqs : List ℕ) → storesOf xs freqs ≡ storesOf (storesIn xs) freqs
-stores-alone [] freqs = refl
-stores-alone (x ∷ xs) freqs = go (eqb (x .kind) 37) refl (stores-alone xs (storedBy x freqs))
-  where
-    go : (b : Bool) → eqb (x .kind) 37 ≡ b → storesOf xs (storedBy x freqs) ≡ storesOf (storesIn xs) (storedBy x freqs)
-        → storesOf xs (storedBy x freqs) ≡ storesOf (pick b (x ∷ storesIn xs) (storesIn xs)) freqs
-    go true k rest = rest
-    go false k rest = rest ∙ ap (storesOf (storesIn xs)) (no-store x freqs k)
-
--- the frequencies after a sheet's steps are its stored values
-stored : (reading : ℕ) (s : Settings) → storesOf (stepsOf reading s) (replicate 10 0) ≡ storedOf s
-unfolding storedOf storedBy
-stored reading s =
-    stores-alone (stepsOf reading s) (replicate 10 0)
-    ∙ ap (λ (xs : List Step). storesOf xs (replicate 10 0)) (sheet-stores reading s)
-
 -- the mask of the last release among steps
 abbrev releases : List Step → ℕ → ℕ
 releases [] mask = mask
@@ -89,14 +65,14 @@ last-release reading s mask = simp releases-append
 -- a wait is no release
 ready-releases : (step : Step) (mask : ℕ) → releasedBy (readyAnswer step) mask ≡ releasedIn step mask
 unfolding releasedIn
-ready-releases step mask = go (isWait (step .kind)) (eqb (step .kind) 2) refl refl
+ready-releases step mask = go (isWait (step .kind)) (eqb (step .kind) kind.release) refl refl
   where
-    go : (w b : Bool) → isWait (step .kind) ≡ w → eqb (step .kind) 2 ≡ b
+    go : (w b : Bool) → isWait (step .kind) ≡ w → eqb (step .kind) kind.release ≡ b
         → releasedBy (readyAnswer step) mask ≡ releasedIn step mask
     go false b e k = simp e
     go true false e k = simp (e, k)
     go true true e k =
-        let wait2 : isWait 2 ≡ true = rw (eqb-true (step .kind) 2 k) at e in
+        let waits : isWait kind.release ≡ true = rw (eqb-true (step .kind) kind.release k) at e in
         let z : _≡_ {A = ℕ} 0 1 = cc in
         absurd (omega arith)
 
@@ -113,44 +89,26 @@ answers-first sheet (suc n) r =
     let call = advanceOf r sheet true in
     ap (λ (l : List (Answer Progress)). call .answer ∷ l) (answers-first sheet n (call .next))
 
-module _ (xs : List Step) (f : AllFormed xs) (few : length xs ≤ 65) where
-  -- as many calls as steps answer every step
-  all-answers : answers fresh (encoded xs) (replicate (length xs) true) ≡ map readyAnswer xs
+-- an accepted plan's sheet, at any reading: after as many calls as there are steps the numbers are the report's
+module _ (p : ClockConfig) (r : ℕ) (ok : Accepted p r) (t : Typed (settingsOf p r)) where
+  all-answers : answers fresh (sheetBytes p r) (replicate (length (planSteps p r)) true) ≡ map readyAnswer (planSteps p r)
   all-answers =
-      sym (answers-first (encoded xs) (length xs) fresh)
-      ∙ ap (take (length xs)) (rw add-one at (ready-answers xs f few))
-      ∙ rw (← length-map xs readyAnswer) (take-append-seam (map readyAnswer xs) _)
+      let n = length (planSteps p r) in
+      sym (answers-first (sheetBytes p r) n fresh)
+      ∙ ap (take n) (rw add-one at (sheet-answers p r ok t))
+      ∙ rw (← length-map (planSteps p r) readyAnswer) (take-append-seam (map readyAnswer (planSteps p r)) _)
 
-  run-leaves : ranOf (encoded xs) (length xs)
-      ≡ record { runner = runnerAt (length xs) (storesOf xs (replicate 10 0)); mask = releases xs 0 }
-  unfolding runs
-  run-leaves = rw (ready-stores xs f few, all-answers, answers-release xs 0)
-
--- an accepted plan's sheet, at any reading, under a fresh runner that hears ready each time
-module _ (p : ClockConfig) (r : ℕ) (ok : refusalOf p r ≡ 0) (t : Typed p) where
-  abbrev steps : List Step
-  steps = stepsOf r (settingsOf p r)
-
-  -- it answers every step in order, then done
-  pub sheet-answers : answers fresh (sheetBytes p r) (replicate (length steps + 1) true)
-      ≡ map readyAnswer steps ++ (value done ∷ [])
+  calls : length (sheetBytes p r) / 8 ≡ length (planSteps p r)
   unfolding sheetBytes
-  sheet-answers = ready-answers steps (steps-formed p r ok t) (steps-few r (settingsOf p r))
+  calls = omega (arith, length-encoded (planSteps p r))
 
-  -- after as many calls as there are steps it holds the stored values, and the last release had the plan's mask
-  pub sheet-run : let s = settingsOf p r in
-      ranOf (sheetBytes p r) (length (sheetBytes p r) / 8)
-      ≡ record {
-        runner = runnerAt (length steps) (storedOf s);
-        mask = releaseMask (s .peri) (s .usb) (s .adc) (s .rtc);
-      }
-  unfolding sheetBytes
-  sheet-run =
-      let s = settingsOf p r in
-      let calls : length (encoded steps) / 8 ≡ length steps = omega (arith, length-encoded steps) in
-      let left = run-leaves steps (steps-formed p r ok t) (steps-few r s) in
-      rw (calls, left, stored r s, last-release r s 0)
-
-  pub run-numbers : numbersIn (ranOf (sheetBytes p r) (length (sheetBytes p r) / 8)) ≡ numbersOf (settingsOf p r)
-  unfolding storedOf
-  run-numbers = rw sheet-run
+  pub run-numbers : reportNumbers (ranOf (sheetBytes p r) (length (sheetBytes p r) / 8)) ≡ numbersOf (settingsOf p r)
+  unfolding storedOf runs
+  run-numbers =
+      rw (
+        calls,
+        sheet-run p r ok t,
+        all-answers,
+        answers-release (planSteps p r) 0,
+        last-release r (settingsOf p r) 0,
+      )

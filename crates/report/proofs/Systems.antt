@@ -1,7 +1,6 @@
 -- The `system_freq` plan of every target is accepted at reading 11.
 -- Assumes nothing.
 use mathlib.Core.Bool.{Bool, true, false, not}
-use mathlib.Core.Option.{some}
 use mathlib.Core.Path.{_≡_, refl, ap, _∙_}
 use Prim.Native.Nat.{ℕ}
 use native.Mathlib.Omega.{arith}
@@ -10,7 +9,7 @@ use Rattle.base.specs.Choice.{pick}
 use Rattle.base.specs.Answer.{value}
 use Rattle.voltage.specs.declared.CoreVoltage.{CoreVoltage}
 use Rattle.voltage.specs.declared.CoreVoltage.the-variants.{V1_10, V1_15}
-use Rattle.voltage.specs.Voltage.{codeOf}
+use Rattle.config.specs.declared.OptionPll.the-variants.{Some as pll}
 use Rattle.divider.specs.Clock.{dividedHz}
 use Rattle.divider.specs.Delay.{startupSum, settlingCycles}
 use Rattle.pll.specs.declared.PllConfig.{PllConfig}
@@ -20,38 +19,15 @@ use Rattle.pll.proofs.Inputs.{found-valid, search-finds}
 use Rattle.config.specs.declared.RoscRange.the-variants.{Medium}
 use Rattle.config.specs.declared.ClockConfig.{ClockConfig}
 use Rattle.config.specs.Presets.{ringConfig, feeding, fromPlls, crystalPlan, systemVoltage, systemPlan}
-use Rattle.settings.specs.Settings.{cyclesOf}
-use Rattle.settings.specs.Frequencies.{pllHz, sourcesOf, refHz, sysHz, auxSource}
+use Rattle.settings.specs.declared.Settings.{Settings}
+use Rattle.settings.specs.Settings.{settlingStep, settingsOf}
+use Rattle.settings.specs.Frequencies.{pllHz, sourcesOf, refHz, sysHz, sysIn}
 use Rattle.settings.proofs.Plls.{pll-silent}
 use Rattle.refusals.specs.Refusals.{strengthsOver, ringDividerOver, settlingOver, startupOver, sysPllInvalid}
-use Rattle.refusals.specs.Refusals.{usbPllInvalid, dividerBad, referenceBad, wholeBad, periBad, dividedBad, usbBad}
-use Rattle.refusals.specs.Refusals.{adcBad, rtcBad, outputRefusal, clockRefusal, oscillatorRefusal}
-use Rattle.refusals.specs.Refusals.{planSystem, refusalOf}
-use Rattle.refusals.specs.Typed.{Typed}
-use Rattle.refusals.proofs.Accepted.{Accepted}
+use Rattle.refusals.specs.Refusals.{usbPllInvalid, dividerBad, referenceBad, wholeBad, periBad, auxBad, rtcBad}
+use Rattle.refusals.specs.Refusals.{refusalOf, Accepted}
+use Rattle.settings.specs.Typed.{Typed}
 use Rattle.report.specs.Report.{reading}
-
--- none of the tests holds: there is no refusal
-accepts : (p : ClockConfig) (r : ℕ) → Accepted p r → refusalOf p r ≡ 0
-unfolding refusalOf oscillatorRefusal clockRefusal outputRefusal
-accepts p r a =
-    rw (
-      a .reading-known,
-      a .strengths,
-      a .ring-divider,
-      a .settling,
-      a .startup,
-      a .sys-pll,
-      a .usb-pll,
-      a .ref-divider,
-      a .reference,
-      a .sys-whole,
-      a .system,
-      a .peri,
-      a .usb,
-      a .adc,
-      a .rtc,
-    )
 
 -- undivided, a frequency stays as it is
 undivided : (hz : ℕ) → dividedHz hz 1 0 ≡ hz
@@ -62,49 +38,34 @@ module _ (c : PllConfig) (v : CoreVoltage) where
   abbrev plan : ClockConfig
   plan = fromPlls (ringConfig 6500000 Medium 16) (feeding 12000000 c) v
 
-  sounds : validOf c 12000000 ≡ true → eqb (planSystem plan) 0 ≡ false
+  abbrev set : Settings
+  set = settingsOf plan reading
+
+  sounds : validOf c 12000000 ≡ true → eqb (sysIn set) 0 ≡ false
   unfolding sysHz sourcesOf
   sounds ok =
-      ap (λ (hz : ℕ). eqb hz 0) (undivided (pllHz 12000000 (some c))) ∙ pll-silent 12000000 c ∙ ap not ok
+      ap (λ (hz : ℕ). eqb hz 0) (undivided (pllHz 12000000 (pll c))) ∙ pll-silent 12000000 c ∙ ap not ok
 
-  plan-accepted : validOf c 12000000 ≡ true → settlingOver reading (codeOf v) (cyclesOf plan) ≡ false
-      → refusalOf plan reading ≡ 0
-  unfolding startupSum dividedHz pllHz sourcesOf refHz auxSource strengthsOver ringDividerOver startupOver sysPllInvalid
-      usbPllInvalid dividerBad referenceBad wholeBad periBad dividedBad usbBad adcBad rtcBad
-  plan-accepted ok calm =
-      accepts plan reading
-      (record {
-        reading-known = refl;
-        strengths = refl;
-        ring-divider = refl;
-        settling = calm;
-        startup = refl;
-        sys-pll = ap not ok;
-        usb-pll = refl;
-        ref-divider = refl;
-        reference = refl;
-        sys-whole = refl;
-        system = sounds ok;
-        peri = sounds ok;
-        usb = refl;
-        adc = refl;
-        rtc = refl;
-      })
+  plan-accepted : validOf c 12000000 ≡ true → settlingOver (set .settling) ≡ false → Accepted plan reading
+  unfolding startupSum dividedHz pllHz sourcesOf refHz strengthsOver ringDividerOver startupOver sysPllInvalid
+      usbPllInvalid dividerBad referenceBad wholeBad periBad auxBad rtcBad refusalOf
+  plan-accepted ok calm = rw (calm, sounds ok, ok)
 
 -- the settling time at 1.15 V fits, and at 1.10 V nothing settles
 settles : (b : Bool) (c : PllConfig)
-    → let v = pick b V1_15 V1_10 in settlingOver reading (codeOf v) (cyclesOf (plan c v)) ≡ false
-unfolding settlingOver settlingCycles
+    → let v = pick b V1_15 V1_10 in settlingOver (set c v .settling) ≡ false
+unfolding settlingOver settlingStep settlingCycles
 settles true c = refl
 settles false c = refl
 
 -- a target's plan, accepted at the reading, with numbers of their types
 pub record Served (hz : ℕ) (p : ClockConfig) : Type 0 where
   pub planned : systemPlan hz ≡ value p
-  pub accepted : refusalOf p reading ≡ 0
-  pub typed : Typed p
+  pub accepted : Accepted p reading
+  pub typed : Typed (settingsOf p reading)
 
-plan-typed : (c : PllConfig) (v : CoreVoltage) → Typed (plan c v)
+plan-typed : (c : PllConfig) (v : CoreVoltage) → Typed (set c v)
+unfolding sourcesOf
 plan-typed c v = record { rosc = omega arith; xosc = omega arith; sys = omega arith; rtc = omega arith }
 
 pub system-accepted : (hz : ℕ) → (p : ClockConfig) × Served hz p
@@ -115,7 +76,7 @@ system-accepted hz = go (eqb hz 125000000) refl
     found = search-finds 12000000 hz (omega arith) (omega arith)
 
     valid : validOf (found .0) 12000000 ≡ true
-    valid = found-valid 12000000 hz (found .0) (found .1) (omega arith) (omega arith)
+    valid = found-valid 12000000 hz (found .0) (found .1) (omega arith)
 
     go : (b : Bool) → eqb hz 125000000 ≡ b → (p : ClockConfig) × Served hz p
     go true e = (

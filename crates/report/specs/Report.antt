@@ -1,18 +1,21 @@
 -- The whole output of program `clocks`, for its input.
 -- Assumes nothing.
 use mathlib.Core.List.{List, [], _∷_, _++_}
-use Prim.Native.Nat.{ℕ}
+use mathlib.Core.Path.{_≡_}
+use Prim.Native.Nat.{ℕ, _≤_}
 use lib.Count.{ones}
 use lib.Dec.{eqb}
+use lib.ListN.{length, take, drop}
 use Rattle.base.specs.Answer.{Answer, value, refusal}
 use Rattle.base.specs.Choice.{pick}
 use Rattle.text.specs.Words.{lineNumberOf}
 use Rattle.config.specs.declared.ClockConfig.{ClockConfig}
 use Rattle.config.specs.Presets.{systemPlan}
-use Rattle.settings.specs.Settings.{Settings, settingsOf}
+use Rattle.settings.specs.declared.Settings.{Settings}
+use Rattle.settings.specs.Settings.{settingsOf}
 use Rattle.settings.specs.Frequencies.{storedOf}
-use Rattle.refusals.specs.Refusals.{refusalOf}
-use Rattle.parts.specs.Parts.{releaseMask}
+use Rattle.sheet.specs.Steps.{releaseMask}
+use Rattle.sheet.specs.Writer.{refusalIn}
 use Rattle.report.specs.Lines.{linesOf, reportNames, refusedLine}
 
 -- the program's reading
@@ -26,8 +29,8 @@ numbersOf s = storedOf s ++ (ones (releaseMask (s .peri) (s .usb) (s .adc) (s .r
 -- a plan that is refused at the reading has no sheet
 unfoldable pub planReport : ClockConfig → List ℕ
 planReport p =
-    pick (eqb (refusalOf p reading) 0) (linesOf reportNames (numbersOf (settingsOf p reading)))
-    (refusedLine (refusalOf p reading))
+    pick (eqb (refusalIn p reading) 0) (linesOf reportNames (numbersOf (settingsOf p reading)))
+    (refusedLine (refusalIn p reading))
 
 abbrev pub plannedReport : Answer ClockConfig → List ℕ
 plannedReport (value p) = planReport p
@@ -40,3 +43,14 @@ targetReport (refusal n) = refusedLine n
 -- the number on the first line is the target of the `system_freq` plan
 unfoldable pub reportOf : List ℕ → List ℕ
 reportOf input = targetReport (lineNumberOf input)
+
+-- the whole output finds room, and what is behind it keeps its values
+pub record Whole (output before : List ℕ) (size : ℕ) (after : List ℕ) : Type 0 where
+  pub fits : size ≤ length after
+  pub size-is : size ≡ length output
+  pub bytes : after ≡ output ++ drop size before
+
+-- a call that is given the first n bytes of an input, or as many as start has: the output of every such input
+pub record Printed (start : List ℕ) (n : ℕ) (before : List ℕ) (size : ℕ) (after : List ℕ) : Type 0 where
+  pub fits : size ≤ length after
+  pub prints : (input : List ℕ) → take (length start) input ≡ take n start → Whole (reportOf input) before size after

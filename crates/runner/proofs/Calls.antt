@@ -10,21 +10,20 @@ use lib.Dec.{eqb, ltb, leb}
 use lib.ListN.{length}
 use Rattle.base.specs.Answer.{Answer, value, refusal}
 use Rattle.base.specs.Choice.{pick}
-use Rattle.base.proofs.Bools.{or-false}
+use Rattle.base.proofs.Bools.{both-false}
 use Rattle.step.specs.declared.Step.{Step}
+use Rattle.step.specs.Kinds as kind
 use Rattle.step.specs.Access.{readAt}
+use Rattle.step.specs.Sheet.{maxSteps}
 use Rattle.runner.specs.declared.State.{State}
 use Rattle.runner.specs.Run.{Outcome, outcome, done, handed, passed, movedOn, polled, waits, isWait, unready}
 use Rattle.runner.specs.Run.{takeStep, takeRead, outside, badLength, turnOf}
 
-pub inside : (s : State) → outside s ≡ false → (s .position < 66) × (s .«lock_polls» < 1000000)
+pub inside : (s : State) → outside s ≡ false → (s .position ≤ maxSteps) × (s .«lock_polls» < 1000000)
 unfolding outside
 inside s e =
-    let both = or-false (ltb 65 (s .position)) (ltb 999999 (s .«lock_polls»)) e in (
-      omega (arith, ltb-false 65 (s .position) (both .0)),
-      omega
-          (arith, ltb-false 999999 (s .«lock_polls») (both .1)),
-    )
+    let both = both-false (ltb maxSteps (s .position)) (ltb 999999 (s .«lock_polls»)) e in
+    (ltb-false maxSteps (s .position) (both .0), omega (arith, ltb-false 999999 (s .«lock_polls») (both .1)))
 
 module _ (s : State) (sheet : List ℕ) (ready : Bool) where
   pub call-outside : outside s ≡ true → outcome (refusal 21) s ≡ turnOf s sheet ready
@@ -62,10 +61,11 @@ module _ (P : Outcome State → Type 0) (s : State) (sheet : List ℕ) (ready : 
     (stays : (polls : ℕ) → P (waits s polls)) (stops : P (outcome (refusal 22) (polled s (s .«lock_polls») true)))
     (hands : (step : Step) → readAt sheet (8 * s .position) ≡ value step
     → P (outcome (value (handed step)) (movedOn s (s .«lock_polls»)))) where
-  polls : (kind : ℕ) → P (unready s kind)
+  polls : (wait : ℕ) → P (unready s wait)
   unfolding unready
-  polls kind =
-      both P (not (eqb kind 22)) _ _ (stays _) (both P (ltb (s .«lock_polls» + 1) 1000000) _ _ (stays _) stops)
+  polls wait =
+      both P (not (eqb wait kind.wait-lock)) _ _ (stays _)
+      (both P (ltb (s .«lock_polls» + 1) 1000000) _ _ (stays _) stops)
 
   reads : (a : Answer Step) → readAt sheet (8 * s .position) ≡ a → P (takeRead s a ready)
   unfolding takeRead takeStep

@@ -12,34 +12,35 @@ use lib.Dec.{eqb}
 use lib.ListN.{length, getD, replicate}
 use Rattle.base.specs.Answer.{Answer, value}
 use Rattle.step.specs.declared.Step.{Step}
+use Rattle.step.specs.Kinds as kind
 use Rattle.step.specs.Access.{readAt}
-use Rattle.step.specs.Sheet.{encoded, AllFormed}
+use Rattle.step.specs.Sheet.{maxSteps, maxBytes, encoded, AllFormed}
 use Rattle.step.proofs.Sheets.{length-encoded, read-encoded}
 use Rattle.runner.specs.declared.Runner.{Runner}
-use Rattle.runner.specs.Run.{Progress, done, Outcome, outcome, maxSteps, fresh, isWait, takeStep, takeRead}
+use Rattle.runner.specs.Run.{Progress, done, Outcome, outcome, fresh, isWait, takeStep, takeRead}
 use Rattle.runner.specs.Run.{outside, badLength, storedBy, freqsAfter, advanceOf}
-use Rattle.runner.specs.Calls.{answers, after, readyAnswer, storesOf, stateAt, runnerAt}
+use Rattle.runner.specs.Calls.{answers, after, readyAnswer, storesOf, readyState, readyAt}
 use Rattle.runner.proofs.Calls.{call-done, call-read}
 
 -- a wait is no store
 wait-stores : (step : Step) (freqs : List ℕ) → isWait (step .kind) ≡ true → storedBy step freqs ≡ freqs
 unfolding storedBy
-wait-stores step freqs w = go (eqb (step .kind) 37) refl
+wait-stores step freqs w = go (eqb (step .kind) kind.store) refl
   where
-    go : (b : Bool) → eqb (step .kind) 37 ≡ b → storedBy step freqs ≡ freqs
+    go : (b : Bool) → eqb (step .kind) kind.store ≡ b → storedBy step freqs ≡ freqs
     go true k =
-        let wait37 : isWait 37 ≡ true = rw (eqb-true (step .kind) 37 k) at w in
+        let waits : isWait kind.store ≡ true = rw (eqb-true (step .kind) kind.store k) at w in
         let z : _≡_ {A = ℕ} 0 1 = cc in
         absurd (omega arith)
     go false k = simp k
 
 -- a ready call at a step
-takes : (step : Step) (p : ℕ) → takeStep (stateAt p) step true ≡ outcome (readyAnswer step) (stateAt (p + 1))
+takes : (step : Step) (p : ℕ) → takeStep (readyState p) step true ≡ outcome (readyAnswer step) (readyState (p + 1))
 unfolding takeStep
 takes step p = go (isWait (step .kind)) refl
   where
     go : (b : Bool) → isWait (step .kind) ≡ b
-        → takeStep (stateAt p) step true ≡ outcome (readyAnswer step) (stateAt (p + 1))
+        → takeStep (readyState p) step true ≡ outcome (readyAnswer step) (readyState (p + 1))
     go true w = simp w
     go false w = simp w
 
@@ -51,33 +52,33 @@ stores step freqs = go (isWait (step .kind)) refl
     go false w = simp w
 
 module _ (sheet : List ℕ) (n : ℕ) (few : n ≤ maxSteps) (size : length sheet ≡ 8 * n) where
-  within : (p : ℕ) → p ≤ n → outside (stateAt p) ≡ false
+  within : (p : ℕ) → p ≤ n → outside (readyState p) ≡ false
   unfolding outside
-  within p h = simp (le-ltb 65 p (omega arith))
+  within p h = simp (le-ltb maxSteps p (omega arith))
 
   good-length : badLength sheet ≡ false
   unfolding badLength
-  good-length = simp (le-ltb 520 (length sheet) (omega arith), eq-eqb (length sheet % 8) 0 (omega arith))
+  good-length = simp (le-ltb maxBytes (length sheet) (omega arith), eq-eqb (length sheet % 8) 0 (omega arith))
 
-  done-at : (freqs : List ℕ) → advanceOf (runnerAt n freqs) sheet true ≡ outcome (value done) (runnerAt n freqs)
+  done-at : (freqs : List ℕ) → advanceOf (readyAt n freqs) sheet true ≡ outcome (value done) (readyAt n freqs)
   unfolding advanceOf
   done-at freqs =
-      rw (sym (call-done (stateAt n) sheet true (within n (omega arith)) refl good-length (omega arith)))
+      rw (sym (call-done (readyState n) sheet true (within n (omega arith)) refl good-length (omega arith)))
 
   step-at : (step : Step) (p : ℕ) (freqs : List ℕ) → p < n → readAt sheet (8 * p) ≡ value step
-      → advanceOf (runnerAt p freqs) sheet true
-      ≡ outcome (readyAnswer step) (runnerAt (p + 1) (storedBy step freqs))
+      → advanceOf (readyAt p freqs) sheet true
+      ≡ outcome (readyAnswer step) (readyAt (p + 1) (storedBy step freqs))
   unfolding advanceOf takeRead
   step-at step p freqs h read =
       let fine = within p (omega arith) in
-      let taken = call-read (stateAt p) sheet true fine refl good-length (omega arith) (value step) read in
+      let taken = call-read (readyState p) sheet true fine refl good-length (omega arith) (value step) read in
       rw (sym taken ∙ takes step p, stores step freqs)
 
   -- a runner with the steps ts before it takes them all, then is done
   record Through (p : ℕ) (freqs : List ℕ) (ts : List Step) : Type 0 where
-    answered : answers (runnerAt p freqs) sheet (replicate (suc (length ts)) true)
+    answered : answers (readyAt p freqs) sheet (replicate (suc (length ts)) true)
         ≡ map readyAnswer ts ++ (value done ∷ [])
-    left : after (runnerAt p freqs) sheet (replicate (length ts) true) ≡ runnerAt n (storesOf ts freqs)
+    left : after (readyAt p freqs) sheet (replicate (length ts) true) ≡ readyAt n (storesOf ts freqs)
 
   through : (d : Step) (ts : List Step) (p : ℕ) (freqs : List ℕ) → p + length ts ≡ n
       → ((i : ℕ) → i < length ts → readAt sheet (8 * (p + i)) ≡ value (getD ts i d)) → Through p freqs ts
@@ -107,5 +108,5 @@ ready-answers xs f few = rw add-one (all xs f few .answered)
 
 -- after as many calls as there are steps the frequencies are what the sheet stores
 pub ready-stores : (xs : List Step) → AllFormed xs → length xs ≤ maxSteps
-    → after fresh (encoded xs) (replicate (length xs) true) ≡ runnerAt (length xs) (storesOf xs (replicate 10 0))
+    → after fresh (encoded xs) (replicate (length xs) true) ≡ readyAt (length xs) (storesOf xs (replicate 10 0))
 ready-stores xs f few = all xs f few .left

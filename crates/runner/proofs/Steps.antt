@@ -8,6 +8,7 @@ use native.Mathlib.Omega.{arith}
 use lib.Dec.{T, leb, leb→le}
 use Rattle.base.specs.Answer.{value}
 use Rattle.step.specs.declared.Step.{Step}
+use Rattle.step.specs.Kinds as kind
 use Rattle.step.specs.Access.{readAt}
 use Rattle.step.specs.Layout.{rows, width, widths}
 use Rattle.step.specs.Steps.{storable, WellFormed}
@@ -24,11 +25,11 @@ left true b t = tt
 left false b t = t
 
 -- a store names one of the ten clocks, and its Hz fit 32 bits
-pub store-fits : (s : Step) → WellFormed s → s .kind ≡ 37 → (s .f0 < 10) × (s .f1 < 4294967296)
+pub store-fits : (s : Step) → WellFormed s → s .kind ≡ kind.store → (s .f0 < 10) × (s .f1 < 4294967296)
 unfolding rows width widths storable
 store-fits s w k =
     let fill = rw k at (w .fill) in
-    let stores : T (storable 37 (s .f0) (s .f1)) = rw k at (w .stores) in
+    let stores : T (storable kind.store (s .f0) (s .f1)) = rw k at (w .stores) in
     (omega (arith, leb→le (s .f0) 9 (left (leb (s .f0) 9) _ stores)), fill .1 .1 .0)
 
 pub turn-formed : (s : State) (sheet : List ℕ) (ready : Bool) → HandsFormed (turnOf s sheet ready .answer)

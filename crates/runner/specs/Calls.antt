@@ -1,4 +1,4 @@
--- Calls over one sheet, one for each ready flag, and what is expected of them where all are ready.
+-- Inside: calls over one sheet, one for each ready flag, and what is expected of them where all are ready.
 -- Assumes nothing.
 use Prim.Native.Nat.{ℕ}
 use mathlib.Core.Bool.{Bool, true, false}
@@ -34,11 +34,11 @@ storesOf [] freqs = freqs
 storesOf (step ∷ steps) freqs = storesOf steps (storedBy step freqs)
 
 -- a runner at a position that heard ready each time
-abbrev pub stateAt : ℕ → State
-stateAt position = record { position = position; «lock_polls» = 0; total = 0; stopped = false }
+abbrev pub readyState : ℕ → State
+readyState position = record { position = position; «lock_polls» = 0; total = 0; stopped = false }
 
-abbrev pub runnerAt : ℕ → List ℕ → Runner
-runnerAt position freqs = record { state = stateAt position; freqs = freqs }
+abbrev pub readyAt : ℕ → List ℕ → Runner
+readyAt position freqs = record { state = readyState position; freqs = freqs }
 
 -- where the answer is a refusal nothing has changed, or it is the lock timeout, 22, and what is left is timedOut
 abbrev pub Untouched : {A : Type 0} → A → A → Outcome A → Type 0

@@ -8,18 +8,15 @@ use lib.ListN.{length, getD, set, replicate}
 use Rattle.base.specs.Answer.{Answer, value, refusal}
 use Rattle.base.specs.Choice.{pick}
 use Rattle.step.specs.declared.Step.{Step}
+use Rattle.step.specs.Kinds as kind
 use Rattle.step.specs.Access.{readAt}
+use Rattle.step.specs.Sheet.{maxSteps, maxBytes}
 use Rattle.step.specs.Steps.{WellFormed}
 use Rattle.runner.specs.declared.Reply.{Reply}
-use Rattle.runner.specs.declared.Reply.the-variants.{Done, Handed, Passed, Waiting, Refused}
 use Rattle.runner.specs.declared.State.{State}
 use Rattle.runner.specs.declared.Runner.{Runner}
 use Rattle.runner.specs.declared.Turned.{Turned}
 use Rattle.runner.specs.declared.Stepped.{Stepped}
-
--- a sheet has at most this many steps
-abbrev pub maxSteps : ℕ
-maxSteps = 65
 
 -- what a call that is not refused answers
 pub data Progress : Type 0 where
@@ -38,11 +35,11 @@ outcome a x = record { answer = a; next = x }
 
 -- the code's answers
 abbrev pub replyIs : Reply → Answer Progress
-replyIs Done = value done
-replyIs (Handed s) = value (handed s)
-replyIs Passed = value passed
-replyIs Waiting = value waiting
-replyIs (Refused n) = refusal n
+replyIs Reply.Done = value done
+replyIs (Reply.Handed s) = value (handed s)
+replyIs Reply.Passed = value passed
+replyIs Reply.Waiting = value waiting
+replyIs (Reply.Refused n) = refusal n
 
 abbrev pub turnedIs : Turned → Outcome State
 turnedIs t = outcome (replyIs (t .reply)) (t .state)
@@ -64,7 +61,8 @@ freqOf r clock = getD (r .freqs) clock 0
 
 -- the waits
 abbrev pub isWait : ℕ → Bool
-isWait kind = eqb kind 3 || eqb kind 6 || eqb kind 8 || eqb kind 18 || eqb kind 22
+isWait of =
+    eqb of kind.wait-released || eqb of kind.wait-sys || eqb of kind.wait-ref || eqb of kind.wait-stable || eqb of kind.wait-lock
 
 -- one more, up to the top of 32 bits
 unfoldable pub oneMore : ℕ → ℕ
@@ -83,10 +81,10 @@ polled s polls stopped =
 abbrev pub waits : State → ℕ → Outcome State
 waits s polls = outcome (value waiting) (polled s polls (s .stopped))
 
--- unready is waiting, and at kind 22 one lock poll more; the 1000000th of these is refused and stops the runner
+-- unready is waiting, and at the wait for lock one lock poll more; the 1000000th of these is refused and stops the runner
 unfoldable pub unready : State → ℕ → Outcome State
-unready s kind =
-    pick (not (eqb kind 22)) (waits s (s .«lock_polls»))
+unready s wait =
+    pick (not (eqb wait kind.wait-lock)) (waits s (s .«lock_polls»))
     (pick (ltb (s .«lock_polls» + 1) 1000000) (waits s (s .«lock_polls» + 1))
     (outcome (refusal 22) (polled s (s .«lock_polls») true)))
 
@@ -102,13 +100,13 @@ unfoldable pub takeRead : State → Answer Step → Bool → Outcome State
 takeRead s (value step) ready = takeStep s step ready
 takeRead s (refusal n) ready = outcome (refusal n) s
 
--- refusal 21: position over 65 or lock polls over 999999
+-- refusal 21: position over the greatest number of steps, or lock polls over 999999
 unfoldable pub outside : State → Bool
 outside s = ltb maxSteps (s .position) || ltb 999999 (s .«lock_polls»)
 
--- refusal 20 for a sheet's length: over 520, or no multiple of 8
+-- refusal 20 for a sheet's length: over that of the most steps, or no multiple of 8
 unfoldable pub badLength : List ℕ → Bool
-badLength sheet = ltb (8 * maxSteps) (length sheet) || not (eqb (length sheet % 8) 0)
+badLength sheet = ltb maxBytes (length sheet) || not (eqb (length sheet % 8) 0)
 
 -- a call: 21, then 22, then 20 for the length, then done, then the step
 unfoldable pub turnOf : State → List ℕ → Bool → Outcome State
@@ -121,7 +119,7 @@ turnOf s sheet ready =
 
 -- the ten frequencies after a step: a store sets its clock's
 unfoldable pub storedBy : Step → List ℕ → List ℕ
-storedBy step freqs = pick (eqb (step .kind) 37) (set freqs (step .f0) (step .f1)) freqs
+storedBy step freqs = pick (eqb (step .kind) kind.store) (set freqs (step .f0) (step .f1)) freqs
 
 -- the ten frequencies after an answer: a step stores when it is handed out
 abbrev pub freqsAfter : Answer Progress → List ℕ → List ℕ

@@ -1,15 +1,16 @@
 // The runner over a sheet: each call takes one step. `turn` does the work on the runner's state, `advance` on a whole
 // runner by value, and `poll` changes a runner in place.
 ghost use mathlib.Core.Path.{_≡_};
-ghost use Prim.Native.Nat.{_<_};
+ghost use Prim.Native.Nat.{_<_, _≤_};
 ghost use Rattle.base.specs.Answer.{refusal};
+ghost use Rattle.step.specs.Sheet.{maxSteps};
 ghost use Rattle.runner.specs.Run.{outcome, replyIs, turnedIs, steppedIs, fresh, freqOf, isWait, oneMore};
 ghost use Rattle.runner.specs.Run.{unready, takeStep, turnOf, HandsFormed, freqsAfter, advanceOf};
+use step::MAX_BYTES;
+use step::MAX_STEPS;
 use step::Step;
 use step::Unpacked;
-
-// A sheet has at most this many steps.
-const MAX_STEPS: usize = 65;
+use step::kind;
 
 // What a runner holds besides the frequencies.
 pub struct State {
@@ -58,10 +59,14 @@ impl Runner {
     }
 }
 
-fn is_wait(kind: u8) -> bool
-    ensures { λ r. ⌜ r ≡ isWait kind ⌝ }
+fn is_wait(of: u8) -> bool
+    ensures { λ r. ⌜ r ≡ isWait of ⌝ }
 {
-    (kind == 3) | (kind == 6) | (kind == 8) | (kind == 18) | (kind == 22)
+    (of == kind::WAIT_RELEASED)
+        | (of == kind::WAIT_SYS)
+        | (of == kind::WAIT_REF)
+        | (of == kind::WAIT_STABLE)
+        | (of == kind::WAIT_LOCK)
 }
 
 // One more, up to the top of 32 bits.
@@ -80,13 +85,13 @@ fn refused(unmoved: State, number: u8) -> Turned
     }
 }
 
-fn wait_unready(s: State, kind: u8) -> Turned
+fn wait_unready(s: State, wait: u8) -> Turned
     requires { ⌜ s .«lock_polls» < 1000000 ⌝ }
-    ensures { λ t. ⌜ turnedIs t ≡ unready s kind ⌝ }
+    ensures { λ t. ⌜ turnedIs t ≡ unready s wait ⌝ }
 {
     let mut next = s;
     next.total = one_more(s.total);
-    if kind != 22 {
+    if wait != kind::WAIT_LOCK {
         return Turned {
             reply: Reply::Waiting,
             state: next,
@@ -107,13 +112,13 @@ fn wait_unready(s: State, kind: u8) -> Turned
 }
 
 fn take_step(s: State, step: Step, ready: bool) -> Turned
-    requires { ⌜ (s .position < 66) × (s .«lock_polls» < 1000000) ⌝ }
+    requires { ⌜ (s .position ≤ maxSteps) × (s .«lock_polls» < 1000000) ⌝ }
     ensures { λ t. ⌜ turnedIs t ≡ takeStep s step ready ⌝ }
 {
-    let kind = step.kind;
+    let of = step.kind;
     let mut next = s;
     next.position = s.position + 1;
-    if is_wait(kind) {
+    if is_wait(of) {
         if ready {
             next.lock_polls = 0;
             return Turned {
@@ -121,7 +126,7 @@ fn take_step(s: State, step: Step, ready: bool) -> Turned
                 state: next,
             };
         }
-        return wait_unready(s, kind);
+        return wait_unready(s, of);
     }
     Turned {
         reply: Reply::Handed(step),
@@ -141,7 +146,7 @@ pub fn turn(s: State, sheet: &[u8], ready: bool) -> Turned
         return refused(s, 22);
     }
     let n = sheet.len();
-    if (n > 8 * MAX_STEPS) | (n % 8 != 0) {
+    if (n > MAX_BYTES) | (n % 8 != 0) {
         return refused(s, 20);
     }
     let at = 8 * position;
@@ -165,7 +170,7 @@ fn freqs_after(reply: Reply, freqs: [u32; 10]) -> [u32; 10]
     let Reply::Handed(step) = reply else {
         return freqs;
     };
-    if step.kind != 37 {
+    if step.kind != kind::STORE {
         return freqs;
     }
     let clock = step.f0 as usize;
@@ -198,7 +203,7 @@ pub fn advance(r: Runner, sheet: &[u8], ready: bool) -> Stepped
 
 // The same in place: answers, and leaves the runner after the call.
 pub fn poll(r: &mut Runner, sheet: &[u8], ready: bool) -> Reply
-    ensures { λ a. ⌜ (replyIs a ≡ advanceOf (now (r .entry)) (now (sheet .entry)) ready .answer) × (now (r .exit) ≡ advanceOf (now (r .entry)) (now (sheet .entry)) ready .next) ⌝ }
+    ensures { λ a. ⌜ outcome (replyIs a) (now (r .exit)) ≡ advanceOf (now (r .entry)) (now (sheet .entry)) ready ⌝ }
 {
     let s = advance(*r, sheet, ready);
     *r = s.runner;

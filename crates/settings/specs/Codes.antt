@@ -1,78 +1,91 @@
--- The codes that steps hold for a plan's ranges and sources, as document 01 lists them.
+-- The codes that steps hold for a plan's ranges and sources, and what each code stands for (docs/FORMAT.md, Codes).
 -- Assumes nothing.
 use Prim.Native.Nat.{ℕ}
+use lib.Dec.{eqb}
+use Rattle.base.specs.Choice.{pick}
+use Rattle.base.specs.Answer.{Answer, value, refusal}
+use Rattle.voltage.specs.declared.CoreVoltage.{CoreVoltage}
+use Rattle.voltage.specs.Voltage.{coreVoltageOf}
 use Rattle.config.specs.declared.RoscRange.{RoscRange}
-use Rattle.config.specs.declared.RoscRange.the-variants.{Low, Medium, High, TooHigh}
 use Rattle.config.specs.declared.RefClkSrc.{RefClkSrc}
-use Rattle.config.specs.declared.RefClkSrc.the-variants.{Xosc as refXosc, Rosc as refRosc, PllUsb as refPllUsb}
 use Rattle.config.specs.declared.SysClkSrc.{SysClkSrc}
-use Rattle.config.specs.declared.SysClkSrc.the-variants.{Ref as sysRef, PllSys as sysPllSys, PllUsb as sysPllUsb}
-use Rattle.config.specs.declared.SysClkSrc.the-variants.{Rosc as sysRosc, Xosc as sysXosc}
 use Rattle.config.specs.declared.PeriClkSrc.{PeriClkSrc}
-use Rattle.config.specs.declared.PeriClkSrc.the-variants.{Sys as periSys, PllSys as periPllSys, PllUsb as periPllUsb}
-use Rattle.config.specs.declared.PeriClkSrc.the-variants.{Rosc as periRosc, Xosc as periXosc}
-use Rattle.config.specs.declared.UsbClkSrc.{UsbClkSrc}
-use Rattle.config.specs.declared.UsbClkSrc.the-variants.{PllUsb as usbPllUsb, PllSys as usbPllSys, Rosc as usbRosc}
-use Rattle.config.specs.declared.UsbClkSrc.the-variants.{Xosc as usbXosc}
-use Rattle.config.specs.declared.AdcClkSrc.{AdcClkSrc}
-use Rattle.config.specs.declared.AdcClkSrc.the-variants.{PllUsb as adcPllUsb, PllSys as adcPllSys, Rosc as adcRosc}
-use Rattle.config.specs.declared.AdcClkSrc.the-variants.{Xosc as adcXosc}
-use Rattle.config.specs.declared.RtcClkSrc.{RtcClkSrc}
-use Rattle.config.specs.declared.RtcClkSrc.the-variants.{PllUsb as rtcPllUsb, PllSys as rtcPllSys, Rosc as rtcRosc}
-use Rattle.config.specs.declared.RtcClkSrc.the-variants.{Xosc as rtcXosc}
+use Rattle.config.specs.declared.AuxClkSrc.{AuxClkSrc}
 
 -- step 12
 abbrev pub rangeCode : RoscRange → ℕ
-rangeCode Low = 0
-rangeCode Medium = 1
-rangeCode High = 2
-rangeCode TooHigh = 3
+rangeCode RoscRange.Low = 0
+rangeCode RoscRange.Medium = 1
+rangeCode RoscRange.High = 2
+rangeCode RoscRange.TooHigh = 3
 
 -- steps 7, 8 and 25: 0 ring, 1 aux, which is the USB PLL, 2 crystal
 abbrev pub refCode : RefClkSrc → ℕ
-refCode refRosc = 0
-refCode refPllUsb = 1
-refCode refXosc = 2
+refCode RefClkSrc.Rosc = 0
+refCode RefClkSrc.PllUsb = 1
+refCode RefClkSrc.Xosc = 2
 
 -- steps 5, 6 and 28: 0 the reference clock, 1 aux
 abbrev pub sysSelect : SysClkSrc → ℕ
-sysSelect sysRef = 0
-sysSelect sysPllSys = 1
-sysSelect sysPllUsb = 1
-sysSelect sysRosc = 1
-sysSelect sysXosc = 1
+sysSelect SysClkSrc.Ref = 0
+sysSelect SysClkSrc.PllSys = 1
+sysSelect SysClkSrc.PllUsb = 1
+sysSelect SysClkSrc.Rosc = 1
+sysSelect SysClkSrc.Xosc = 1
 
 -- step 28: 0 PLL sys, 1 PLL USB, 2 ring, 3 crystal; 0 too where aux is not selected
 abbrev pub sysAux : SysClkSrc → ℕ
-sysAux sysRef = 0
-sysAux sysPllSys = 0
-sysAux sysPllUsb = 1
-sysAux sysRosc = 2
-sysAux sysXosc = 3
+sysAux SysClkSrc.Ref = 0
+sysAux SysClkSrc.PllSys = 0
+sysAux SysClkSrc.PllUsb = 1
+sysAux SysClkSrc.Rosc = 2
+sysAux SysClkSrc.Xosc = 3
 
 -- step 30: 0 the system clock, then the same four
 abbrev pub periAux : PeriClkSrc → ℕ
-periAux periSys = 0
-periAux periPllSys = 1
-periAux periPllUsb = 2
-periAux periRosc = 3
-periAux periXosc = 4
+periAux PeriClkSrc.Sys = 0
+periAux PeriClkSrc.PllSys = 1
+periAux PeriClkSrc.PllUsb = 2
+periAux PeriClkSrc.Rosc = 3
+periAux PeriClkSrc.Xosc = 4
 
 -- steps 32, 34 and 36: 0 PLL USB, 1 PLL sys, 2 ring, 3 crystal
-abbrev pub usbAux : UsbClkSrc → ℕ
-usbAux usbPllUsb = 0
-usbAux usbPllSys = 1
-usbAux usbRosc = 2
-usbAux usbXosc = 3
+abbrev pub auxCode : AuxClkSrc → ℕ
+auxCode AuxClkSrc.PllUsb = 0
+auxCode AuxClkSrc.PllSys = 1
+auxCode AuxClkSrc.Rosc = 2
+auxCode AuxClkSrc.Xosc = 3
 
-abbrev pub adcAux : AdcClkSrc → ℕ
-adcAux adcPllUsb = 0
-adcAux adcPllSys = 1
-adcAux adcRosc = 2
-adcAux adcXosc = 3
+-- the other way: what a code stands for
 
-abbrev pub rtcAux : RtcClkSrc → ℕ
-rtcAux rtcPllUsb = 0
-rtcAux rtcPllSys = 1
-rtcAux rtcRosc = 2
-rtcAux rtcXosc = 3
+-- by a code of 0, 1, 2, 3 or more
+abbrev pub choose4 : {A : Type 0} → ℕ → A → A → A → A → A
+choose4 n a b c d = pick (eqb n 0) a (pick (eqb n 1) b (pick (eqb n 2) c d))
+
+abbrev pub rangeFrom : ℕ → RoscRange
+rangeFrom n = choose4 n RoscRange.Low RoscRange.Medium RoscRange.High RoscRange.TooHigh
+
+abbrev pub refFrom : ℕ → RefClkSrc
+refFrom n = choose4 n RefClkSrc.Rosc RefClkSrc.PllUsb RefClkSrc.Xosc RefClkSrc.Xosc
+
+-- by the aux code, where aux is selected
+abbrev pub sysFrom : ℕ → SysClkSrc
+sysFrom n = choose4 n SysClkSrc.PllSys SysClkSrc.PllUsb SysClkSrc.Rosc SysClkSrc.Xosc
+
+abbrev pub periFrom : ℕ → PeriClkSrc
+periFrom n = pick (eqb n 4) PeriClkSrc.Xosc (choose4 n PeriClkSrc.Sys PeriClkSrc.PllSys PeriClkSrc.PllUsb PeriClkSrc.Rosc)
+
+abbrev pub auxFrom : ℕ → AuxClkSrc
+auxFrom n = choose4 n AuxClkSrc.PllUsb AuxClkSrc.PllSys AuxClkSrc.Rosc AuxClkSrc.Xosc
+
+-- a divider of two bits holds 4 as 0
+abbrev pub divFrom : ℕ → ℕ
+divFrom n = pick (eqb n 0) 4 n
+
+abbrev pub voltageIn : Answer CoreVoltage → CoreVoltage
+voltageIn (value v) = v
+voltageIn (refusal n) = CoreVoltage.V1_10
+
+-- the voltage of a code; 1.10 V for a number that is none
+abbrev pub voltageFrom : ℕ → CoreVoltage
+voltageFrom code = voltageIn (coreVoltageOf code)

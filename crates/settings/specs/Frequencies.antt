@@ -1,92 +1,86 @@
 -- The frequency of each clock in Hz, 0 where it is absent: the ten values that a sheet stores.
 -- Assumes nothing.
 use Prim.Native.Nat.{ℕ, _/_}
-use mathlib.Core.Option.{Option, none, some}
 use mathlib.Core.List.{List, [], _∷_}
-use lib.Dec.{eqb}
 use Rattle.base.specs.Choice.{pick}
 use Rattle.divider.specs.Clock.{dividedHz}
-use Rattle.pll.specs.declared.PllConfig.{PllConfig}
 use Rattle.pll.specs.Setting.{validOf, outputHz}
-use Rattle.config.specs.declared.RoscConfig.{RoscConfig}
+use Rattle.config.specs.declared.OptionRosc.{OptionRosc}
+use Rattle.config.specs.declared.OptionPll.{OptionPll}
 use Rattle.config.specs.declared.RefClkSrc.{RefClkSrc}
-use Rattle.config.specs.declared.RefClkSrc.the-variants.{Xosc as refXosc, Rosc as refRosc, PllUsb as refPllUsb}
 use Rattle.config.specs.declared.SysClkSrc.{SysClkSrc}
-use Rattle.config.specs.declared.SysClkSrc.the-variants.{Ref as sysRef, PllSys as sysPllSys, PllUsb as sysPllUsb}
-use Rattle.config.specs.declared.SysClkSrc.the-variants.{Rosc as sysRosc, Xosc as sysXosc}
 use Rattle.config.specs.declared.PeriClkSrc.{PeriClkSrc}
-use Rattle.config.specs.declared.PeriClkSrc.the-variants.{Sys as periSys, PllSys as periPllSys, PllUsb as periPllUsb}
-use Rattle.config.specs.declared.PeriClkSrc.the-variants.{Rosc as periRosc, Xosc as periXosc}
 use Rattle.config.specs.declared.RefClkConfig.{RefClkConfig}
 use Rattle.config.specs.declared.SysClkConfig.{SysClkConfig}
-use Rattle.config.specs.declared.UsbClkConfig.{UsbClkConfig}
-use Rattle.config.specs.declared.AdcClkConfig.{AdcClkConfig}
-use Rattle.config.specs.declared.RtcClkConfig.{RtcClkConfig}
+use Rattle.config.specs.declared.OptionPeri.{OptionPeri}
+use Rattle.config.specs.declared.AuxClkSrc.{AuxClkSrc}
+use Rattle.config.specs.declared.OptionAux.{OptionAux}
+use Rattle.config.specs.declared.OptionRtc.{OptionRtc}
+use Rattle.settings.specs.declared.OptionCrystal.{OptionCrystal}
+use Rattle.settings.specs.declared.Settings.{Settings}
 use Rattle.settings.specs.declared.Sources.{Sources}
-use Rattle.settings.specs.Codes.{usbAux, adcAux, rtcAux}
-use Rattle.settings.specs.Settings.{Crystal, Settings, ringHz}
+use Rattle.settings.specs.declared.Frequencies.{Frequencies}
+use Rattle.settings.specs.Settings.{ringHz}
 
 -- a plan with an invalid PLL is refused: its 0 Hz reaches no sheet
-unfoldable pub pllHz : ℕ → Option PllConfig → ℕ
-pllHz hz (some p) = pick (validOf p hz) (outputHz p hz) 0
-pllHz hz none = 0
+unfoldable pub pllHz : ℕ → OptionPll → ℕ
+pllHz hz (OptionPll.Some p) = pick (validOf p hz) (outputHz p hz) 0
+pllHz hz OptionPll.None = 0
 
 -- what the clocks are made of
-unfoldable pub sourcesOf : Option RoscConfig → Option Crystal → Sources
-sourcesOf r (some x) =
+unfoldable pub sourcesOf : OptionRosc → OptionCrystal → Sources
+sourcesOf r (OptionCrystal.Some x) =
     record {
       rosc = ringHz r;
       xosc = x .hz;
       «pll_sys» = pllHz (x .hz) (x .sys);
       «pll_usb» = pllHz (x .hz) (x .usb);
     }
-sourcesOf r none = record { rosc = ringHz r; xosc = 0; «pll_sys» = 0; «pll_usb» = 0 }
+sourcesOf r OptionCrystal.None = record { rosc = ringHz r; xosc = 0; «pll_sys» = 0; «pll_usb» = 0 }
 
 abbrev pub refSource : Sources → RefClkSrc → ℕ
-refSource f refXosc = f .xosc
-refSource f refRosc = f .rosc
-refSource f refPllUsb = f .«pll_usb»
+refSource f RefClkSrc.Xosc = f .xosc
+refSource f RefClkSrc.Rosc = f .rosc
+refSource f RefClkSrc.PllUsb = f .«pll_usb»
 
 unfoldable pub refHz : Sources → RefClkConfig → ℕ
 refHz f c = refSource f (c .src) / c .div
 
 abbrev pub sysSource : Sources → ℕ → SysClkSrc → ℕ
-sysSource f reference sysRef = reference
-sysSource f reference sysPllSys = f .«pll_sys»
-sysSource f reference sysPllUsb = f .«pll_usb»
-sysSource f reference sysRosc = f .rosc
-sysSource f reference sysXosc = f .xosc
+sysSource f reference SysClkSrc.Ref = reference
+sysSource f reference SysClkSrc.PllSys = f .«pll_sys»
+sysSource f reference SysClkSrc.PllUsb = f .«pll_usb»
+sysSource f reference SysClkSrc.Rosc = f .rosc
+sysSource f reference SysClkSrc.Xosc = f .xosc
 
 unfoldable pub sysHz : Sources → ℕ → SysClkConfig → ℕ
 sysHz f reference c = dividedHz (sysSource f reference (c .src)) (c .«div_int») (c .«div_frac»)
 
 abbrev pub periSource : Sources → ℕ → PeriClkSrc → ℕ
-periSource f system periSys = system
-periSource f system periPllSys = f .«pll_sys»
-periSource f system periPllUsb = f .«pll_usb»
-periSource f system periRosc = f .rosc
-periSource f system periXosc = f .xosc
+periSource f system PeriClkSrc.Sys = system
+periSource f system PeriClkSrc.PllSys = f .«pll_sys»
+periSource f system PeriClkSrc.PllUsb = f .«pll_usb»
+periSource f system PeriClkSrc.Rosc = f .rosc
+periSource f system PeriClkSrc.Xosc = f .xosc
 
-abbrev pub periHz : Sources → ℕ → Option PeriClkSrc → ℕ
-periHz f system (some src) = periSource f system src
-periHz f system none = 0
+abbrev pub periHz : Sources → ℕ → OptionPeri → ℕ
+periHz f system (OptionPeri.Some src) = periSource f system src
+periHz f system OptionPeri.None = 0
 
--- the source of USB, ADC and RTC, by its aux code
-unfoldable pub auxSource : Sources → ℕ → ℕ
-auxSource f aux =
-    pick (eqb aux 0) (f .«pll_usb») (pick (eqb aux 1) (f .«pll_sys») (pick (eqb aux 2) (f .rosc) (f .xosc)))
+-- the source of USB, ADC and RTC
+abbrev pub auxSource : Sources → AuxClkSrc → ℕ
+auxSource f AuxClkSrc.PllUsb = f .«pll_usb»
+auxSource f AuxClkSrc.PllSys = f .«pll_sys»
+auxSource f AuxClkSrc.Rosc = f .rosc
+auxSource f AuxClkSrc.Xosc = f .xosc
 
-abbrev pub usbHz : Sources → Option UsbClkConfig → ℕ
-usbHz f (some u) = auxSource f (usbAux (u .src)) / u .div
-usbHz f none = 0
+abbrev pub auxHz : Sources → OptionAux → ℕ
+auxHz f (OptionAux.Some a) = auxSource f (a .src) / a .div
+auxHz f OptionAux.None = 0
 
-abbrev pub adcHz : Sources → Option AdcClkConfig → ℕ
-adcHz f (some a) = auxSource f (adcAux (a .src)) / a .div
-adcHz f none = 0
-
-abbrev pub rtcHz : Sources → Option RtcClkConfig → ℕ
-rtcHz f (some r) = dividedHz (auxSource f (rtcAux (r .src))) (r .«div_int») (r .«div_frac»)
-rtcHz f none = 0
+abbrev pub rtcHz : Sources → OptionRtc → ℕ
+rtcHz f (OptionRtc.Some r) = dividedHz (auxSource f (r .src)) (r .«div_int») (r .«div_frac»)
+rtcHz f OptionRtc.None = 0
 
 -- of settings
 
@@ -99,17 +93,32 @@ refIn s = refHz (sourcesIn s) (s .reference)
 abbrev pub sysIn : Settings → ℕ
 sysIn s = sysHz (sourcesIn s) (refIn s) (s .sys)
 
+abbrev pub frequenciesOf : Settings → Frequencies
+frequenciesOf s =
+    record {
+      sources = sourcesIn s;
+      reference = refIn s;
+      sys = sysIn s;
+      peri = periHz (sourcesIn s) (sysIn s) (s .peri);
+      usb = auxHz (sourcesIn s) (s .usb);
+      adc = auxHz (sourcesIn s) (s .adc);
+      rtc = rtcHz (sourcesIn s) (s .rtc);
+    }
+
 -- the ten, in the order of the clocks
-unfoldable pub storedOf : Settings → List ℕ
-storedOf s =
-    sourcesIn s .rosc
-    ∷ sourcesIn s .xosc
-    ∷ sourcesIn s .«pll_sys»
-    ∷ sourcesIn s .«pll_usb»
-    ∷ refIn s
-    ∷ sysIn s
-    ∷ periHz (sourcesIn s) (sysIn s) (s .peri)
-    ∷ usbHz (sourcesIn s) (s .usb)
-    ∷ adcHz (sourcesIn s) (s .adc)
-    ∷ rtcHz (sourcesIn s) (s .rtc)
+abbrev pub tenOf : Frequencies → List ℕ
+tenOf f =
+    f .sources .rosc
+    ∷ f .sources .xosc
+    ∷ f .sources .«pll_sys»
+    ∷ f .sources .«pll_usb»
+    ∷ f .reference
+    ∷ f .sys
+    ∷ f .peri
+    ∷ f .usb
+    ∷ f .adc
+    ∷ f .rtc
     ∷ []
+
+unfoldable pub storedOf : Settings → List ℕ
+storedOf s = tenOf (frequenciesOf s)

@@ -1,5 +1,5 @@
--- Demand 3: the sheets of two accepted plans at one reading are equal exactly when the plans agree in every setting;
--- first of the definitions, then of any two calls of the writer, from what it promises alone.
+-- Demand 3, first of the definitions, then of any two calls of the writer, from what it promises alone: the settings of an
+-- accepted plan are read back from its steps, and its steps from its bytes.
 -- Assumes nothing.
 use mathlib.Core.Path.{_≡_, sym, ap, _∙_}
 use mathlib.Core.Logic.{_↔_}
@@ -10,24 +10,26 @@ use native.Mathlib.Nat.{lt-of-not-le}
 use native.Mathlib.Decide.{decLe, ℕ-discrete}
 use lib.ListN.{length, drop, getD, List·getD-append}
 use lib.Seq.{ext-getD}
-use Rattle.base.specs.Answer.{Answer, value, refusal}
+use Rattle.base.specs.Answer.{Answer, value, refusal, lengthIs}
+use Rattle.base.specs.declared.Length.{Length}
+use Rattle.base.specs.declared.Length.the-variants.{Refused}
 use Rattle.step.specs.Sheet.{encoded}
 use Rattle.step.proofs.Sheets.{encoded-injective}
 use Rattle.config.specs.declared.ClockConfig.{ClockConfig}
-use Rattle.settings.specs.Settings.{Settings, settingsOf}
-use Rattle.refusals.specs.Refusals.{refusalOf}
-use Rattle.refusals.specs.Typed.{Typed}
-use Rattle.parts.specs.Parts.{stepsOf}
-use Rattle.parts.specs.Read.{settingsFrom}
-use Rattle.parts.proofs.Sheets.{settings-back, steps-formed}
-use Rattle.sheet.specs.declared.Written.{Written}
-use Rattle.sheet.specs.declared.Written.the-variants.{Refused}
-use Rattle.sheet.specs.Writer.{sheetBytes, writtenIs, Outcome}
+use Rattle.settings.specs.declared.Settings.{Settings}
+use Rattle.settings.specs.Settings.{settingsOf}
+use Rattle.settings.specs.Typed.{Typed}
+use Rattle.refusals.specs.Refusals.{Accepted}
+use Rattle.sheet.specs.Steps.{stepsOf}
+use Rattle.sheet.specs.Read.{settingsFrom}
+use Rattle.sheet.proofs.Sheets.{settings-back, steps-formed}
+use Rattle.sheet.specs.Writer.{sheetBytes, refusalIn, InitCall}
+use Rattle.sheet.specs.Demand3.{SameUpTo, Demand3}
 use Rattle.sheet.proofs.Ends.{accepted, refused, too-short}
 
 -- of the definitions
-pub same-sheets : (p q : ClockConfig) (reading : ℕ) → Typed p → Typed q
-    → refusalOf p reading ≡ 0 → refusalOf q reading ≡ 0
+pub same-sheets : (p q : ClockConfig) (reading : ℕ) → Typed (settingsOf p reading) → Typed (settingsOf q reading)
+    → Accepted p reading → Accepted q reading
     → (sheetBytes p reading ≡ sheetBytes q reading) ↔ (settingsOf p reading ≡ settingsOf q reading)
 unfolding sheetBytes
 same-sheets p q reading tp tq ep eq = (
@@ -35,7 +37,7 @@ same-sheets p q reading tp tq ep eq = (
       sym (settings-back p reading ep)
       ∙ ap (settingsFrom reading)
       (encoded-injective (stepsOf reading (settingsOf p reading)) (stepsOf reading (settingsOf q reading))
-      (steps-formed p reading ep tp) (steps-formed q reading eq tq) e)
+      (steps-formed (settingsOf p reading) reading ep tp) (steps-formed (settingsOf q reading) reading eq tq) e)
       ∙ settings-back q reading eq),
   λ e. ap (λ (s : Settings). encoded (stepsOf reading s)) e,
 )
@@ -47,33 +49,33 @@ never {m} {n} e = let z : _≡_ {A = ℕ} 0 1 = cc in omega arith
 
 -- a call that answered a length: its plan is accepted, the length is the sheet's, and the buffer starts with the sheet
 pub record Answered (p : ClockConfig) (reading : ℕ) (before : List ℕ) (n : ℕ) (after : List ℕ) : Type 0 where
-  pub ok : refusalOf p reading ≡ 0
+  pub ok : Accepted p reading
   pub room : length (sheetBytes p reading) ≤ length before
   pub count : n ≡ length (sheetBytes p reading)
   pub bytes : after ≡ sheetBytes p reading ++ drop n before
 
-module _ (p : ClockConfig) (reading : ℕ) (b b′ : List ℕ) (r : Written) (o : Outcome p reading b r b′) where
+module _ (p : ClockConfig) (reading : ℕ) (b b′ : List ℕ) (r : Length) (o : InitCall p reading b r b′) where
   -- an accepted plan whose sheet finds room is answered
-  pub answers : refusalOf p reading ≡ 0 → length (sheetBytes p reading) ≤ length b
-      → writtenIs r ≡ value (length (sheetBytes p reading))
+  pub answers : Accepted p reading → length (sheetBytes p reading) ≤ length b
+      → lengthIs r ≡ value (length (sheetBytes p reading))
   answers h l = o .answer ∙ sym (accepted p reading b (o .typed) h l .answer)
 
-  pub answered : (n : ℕ) → writtenIs r ≡ value n → Answered p reading b n b′
+  pub answered : (n : ℕ) → lengthIs r ≡ value n → Answered p reading b n b′
   answered n e =
-      elim (ℕ-discrete (refusalOf p reading) 0)
+      elim (ℕ-discrete (refusalIn p reading) 0)
       [ yes h ↦ fits h | no h ↦ absurd (unlike (refused p reading b (o .typed) h)) ]
     where
       -- no other end of the writer answers a length
-      unlike : {k : ℕ} {after : List ℕ} → Outcome p reading b (Refused k) after → ⊥
+      unlike : {k : ℕ} {after : List ℕ} → InitCall p reading b (Refused k) after → ⊥
       unlike other = never (other .answer ∙ sym (o .answer) ∙ e)
 
-      written : refusalOf p reading ≡ 0 → length (sheetBytes p reading) ≤ length b → Answered p reading b n b′
+      written : Accepted p reading → length (sheetBytes p reading) ≤ length b → Answered p reading b n b′
       written h l =
           let same : n ≡ length (sheetBytes p reading) = let a = answers h l in cc in
           let end = accepted p reading b (o .typed) h l in
           record { ok = h; room = l; count = same; bytes = rw same (o .bytes ∙ sym (end .bytes)) }
 
-      fits : refusalOf p reading ≡ 0 → Answered p reading b n b′
+      fits : Accepted p reading → Answered p reading b n b′
       fits h =
           elim (decLe (length (sheetBytes p reading)) (length b))
           [ yes l ↦ written h l | no l ↦ absurd (unlike (too-short p reading b (o .typed) h (lt-of-not-le l))) ]
@@ -84,12 +86,7 @@ byte-at : {p : ClockConfig} {reading : ℕ} {b : List ℕ} {n : ℕ} {b′ : Lis
 byte-at {p} {reading} {b} {n} {b′} a i h =
     rw (a .bytes) (List·getD-append (sheetBytes p reading) (drop n b) 0 i (let same = a .count in omega arith))
 
--- Two calls at one reading, of any two plans, with any two buffers, that answered lengths: the lengths are equal and every
--- byte up to the length is equal, exactly when the plans agree in every setting.
-pub demand-3 : (p q : ClockConfig) (reading : ℕ) (b b′ c c′ : List ℕ) (r s : Written) (m n : ℕ)
-    → Outcome p reading b r b′ → writtenIs r ≡ value m
-    → Outcome q reading c s c′ → writtenIs s ≡ value n
-    → ((m ≡ n) × ((i : ℕ) → i < m → getD b′ i 0 ≡ getD c′ i 0)) ↔ (settingsOf p reading ≡ settingsOf q reading)
+pub demand-3 : Demand3
 demand-3 p q reading b b′ c c′ r s m n op er oq es = (
   (λ e. d .0 (ext-getD 0 (sheetBytes p reading) (sheetBytes q reading) (sym (u .count) ∙ e .0 ∙ v .count) (bytes e))),
   λ e. (u .count ∙ ap length (d .1 e) ∙ sym (v .count), left e),
@@ -104,13 +101,13 @@ demand-3 p q reading b b′ c c′ r s m n op er oq es = (
     d : (sheetBytes p reading ≡ sheetBytes q reading) ↔ (settingsOf p reading ≡ settingsOf q reading)
     d = same-sheets p q reading (op .typed) (oq .typed) (u .ok) (v .ok)
 
-    bytes : (m ≡ n) × ((i : ℕ) → i < m → getD b′ i 0 ≡ getD c′ i 0)
+    bytes : (m ≡ n) × SameUpTo m b′ c′
         → (i : ℕ) → i < length (sheetBytes p reading) → getD (sheetBytes p reading) i 0 ≡ getD (sheetBytes q reading) i 0
     bytes e i h =
         let in-p : i < m = rw (u .count) h in
         sym (byte-at u i in-p) ∙ e .1 i in-p ∙ byte-at v i (rw (← e .0) in-p)
 
-    left : settingsOf p reading ≡ settingsOf q reading → (i : ℕ) → i < m → getD b′ i 0 ≡ getD c′ i 0
+    left : settingsOf p reading ≡ settingsOf q reading → SameUpTo m b′ c′
     left e i h =
         let in-q : i < n = rw (v .count, ← d .1 e, ← u .count) h in
         byte-at u i h ∙ ap (λ (l : List ℕ). getD l i 0) (d .1 e) ∙ sym (byte-at v i in-q)

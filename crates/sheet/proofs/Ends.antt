@@ -1,74 +1,115 @@
 -- A gathered sheet is ready to be written, and the three ways in which the writer ends.
 -- Assumes nothing.
-use mathlib.Core.Path.{_≡_, refl, ap}
+use mathlib.Core.Bool.{true, false}
+use mathlib.Core.Path.{_≡_, refl, sym, ap, _∙_}
 use Prim.Native.Nat.{ℕ, _*_, _≤_, _<_}
 use mathlib.Core.List.{List, [], _++_, map}
 use lib.ListN.{length, take, drop, replicate, length-map}
-use borrow.Author.Tests.{eq-eqb, ne-eqb, lt-ltb, le-ltb}
+use borrow.Author.Tests.{eq-eqb, ne-eqb, lt-ltb, le-ltb, leb-true, leb-false}
 use native.Mathlib.Omega.{arith}
+use Rattle.base.specs.declared.Length.the-variants.{Bytes, Refused}
 use Rattle.step.specs.declared.Step.{Step}
-use Rattle.step.specs.Steps.{packOf}
-use Rattle.step.specs.Bytes.{bytesOf}
-use Rattle.step.specs.Sheet.{encoded}
+use Rattle.step.specs.Bytes.{turnedOf, bytesOf}
+use Rattle.step.specs.Sheet.{maxSteps, maxBytes, encoded}
+use Rattle.step.specs.Access.{roomFor, copied}
 use Rattle.step.proofs.Sheets.{length-encoded}
 use Rattle.config.specs.declared.ClockConfig.{ClockConfig}
 use Rattle.settings.specs.Settings.{settingsOf}
+use Rattle.settings.specs.declared.Settings.{Settings}
+use Rattle.settings.specs.Typed.{Typed}
 use Rattle.refusals.specs.declared.Examined.{Examined}
-use Rattle.refusals.specs.Refusals.{refusalOf, examinedOf}
-use Rattle.refusals.specs.Typed.{Typed}
-use Rattle.parts.specs.Parts.{stepsOf, stepsWith}
-use Rattle.parts.proofs.Counts.{steps-few}
-use Rattle.sheet.specs.declared.Written.the-variants.{Length, Refused}
-use Rattle.sheet.specs.Gather.{Gathered, held, pushes}
-use Rattle.sheet.specs.Writer.{sheetBytes, answerOf, bufferOf, Outcome}
-use Rattle.sheet.proofs.Gathering.{Holds, holds-pushes}
+use Rattle.refusals.specs.Refusals.{examinedOf, Accepted}
+use Rattle.sheet.specs.Steps.{stepsOf, stepsWith}
+use Rattle.sheet.proofs.Counts.{steps-few}
+use Rattle.sheet.specs.Gather.{Gathered, held, wordOf, pushes}
+use Rattle.sheet.specs.Writer.{sheetBytes, refusalIn, initAnswer, initBuffer, InitCall}
+use Rattle.sheet.proofs.Gathering.{Holds, holds-pushes, turned-back}
 
+-- gathered words whose bytes, turned as they are copied, are these
 pub record Ready (g : Gathered) (bytes : List ℕ) : Type 0 where
-  pub few : g .len ≤ 65
-  pub whole : length (g .words) ≡ 65
+  pub few : g .len ≤ maxSteps
+  pub room : g .len ≤ length (g .words)
+  pub count : length (take (g .len) (g .words)) ≡ g .len
   pub size : length bytes ≡ 8 * g .len
-  pub content : bytesOf (take (g .len) (g .words)) ≡ bytes
+  pub content : bytesOf (map turnedOf (take (g .len) (g .words))) ≡ bytes
 
-ready-of : (xs : List Step) {g : Gathered} → length xs ≤ 65 → g ≡ pushes (held (replicate 65 0) 0) xs → Ready g (encoded xs)
+ready-of : (xs : List Step) {g : Gathered} → length xs ≤ maxSteps → g ≡ pushes (held (replicate maxSteps 0) 0) xs
+    → Ready g (encoded xs)
 unfolding encoded
 ready-of xs {g} few e =
-    let none : Holds (held (replicate 65 0) 0) [] = record { count = refl; whole = refl; front = refl } in
-    let h : Holds g (map packOf xs) = rw e (holds-pushes (held (replicate 65 0) 0) [] xs none (omega arith)) in
-    let n : length (map packOf xs) ≡ length xs = length-map xs packOf in
+    let none : Holds (held (replicate maxSteps 0) 0) [] = record { count = refl; whole = refl; front = refl } in
+    let h : Holds g (map wordOf xs) =
+    rw e (holds-pushes (held (replicate maxSteps 0) 0) [] xs none (omega arith)) in
+    let n : length (map wordOf xs) ≡ length xs = length-map xs wordOf in
     record {
-      few = omega arith;
-      whole = h .whole;
-      size = omega (arith, length-encoded xs);
-      content = ap bytesOf (h .front);
+      few = omega (arith, h .count);
+      room = omega (arith, h .count, h .whole);
+      count = rw (h .front) (sym (h .count));
+      size = omega (arith, length-encoded xs, h .count);
+      content = ap (λ (ws : List ℕ). bytesOf (map turnedOf ws)) (h .front) ∙ ap bytesOf (turned-back xs);
     }
 
-pub ready : (p : ClockConfig) (reading : ℕ) {x : Examined} {g : Gathered} → x ≡ examinedOf p reading
-    → g
-    ≡ pushes (held (replicate 65 0) 0) (stepsWith reading (settingsOf p reading) (x .sources) (x .reference) (x .system))
+module _ (g : Gathered) (bytes b : List ℕ) (y : Ready g bytes) where
+  abbrev words : List ℕ
+  words = take (g .len) (g .words)
+
+  pub copy-short : roomFor words b ≡ false → (length b < length bytes) × (copied words b ≡ b)
+  unfolding copied
+  copy-short e =
+      (omega (arith, leb-false (8 * length words) (length b) e, y .count, y .size), rw e)
+
+  pub copy-whole : roomFor words b ≡ true
+      → (length bytes ≤ length b) × (copied words b ≡ bytes ++ drop (length bytes) b)
+  unfolding copied
+  copy-whole e = (
+    omega (arith, leb-true (8 * length words) (length b) e, y .count, y .size),
+    rw (e, y .content, y .count, y .size),
+  )
+
+-- what the writer knows of a plan before it gathers
+pub record Looked (p : ClockConfig) (reading : ℕ) (s : Settings) (x : Examined) : Type 0 where
+  pub settings-are : s ≡ settingsOf p reading
+  pub examined : x ≡ examinedOf (settingsOf p reading) reading
+  pub number-is : x .number ≡ refusalIn p reading
+  pub typed : Typed (settingsOf p reading)
+
+pub looked : (p : ClockConfig) (reading : ℕ) {s : Settings} {x : Examined} → s ≡ settingsOf p reading
+    → (x ≡ examinedOf s reading) × Typed s → Looked p reading s x
+looked p reading {s} {x} e h =
+    let found : x ≡ examinedOf (settingsOf p reading) reading = h .0 ∙ ap (λ (s : Settings). examinedOf s reading) e in
+    record {
+      settings-are = e;
+      examined = found;
+      number-is = ap (λ (x : Examined). x .number) found;
+      typed = rw (← e) (h .1);
+    }
+
+pub ready : (p : ClockConfig) (reading : ℕ) {s : Settings} {x : Examined} {g : Gathered}
+    → Looked p reading s x → g ≡ pushes (held (replicate maxSteps 0) 0) (stepsWith reading s (x .frequencies))
     → Ready g (sheetBytes p reading)
 unfolding sheetBytes
-ready p reading found e = ready-of _ (steps-few reading (settingsOf p reading)) (rw found at e)
+ready p reading l e = ready-of _ (steps-few reading (settingsOf p reading)) (rw (l .settings-are, l .examined) at e)
 
--- 520 bytes are enough for every sheet
-pub sheet-most : (p : ClockConfig) (reading : ℕ) → length (sheetBytes p reading) ≤ 520
+-- the greatest number of bytes is enough for every sheet
+pub sheet-most : (p : ClockConfig) (reading : ℕ) → length (sheetBytes p reading) ≤ maxBytes
 unfolding sheetBytes
 sheet-most p reading =
     let xs : List Step = stepsOf reading (settingsOf p reading) in
     omega (arith, length-encoded xs, steps-few reading (settingsOf p reading))
 
-module _ (p : ClockConfig) (reading : ℕ) (b : List ℕ) (t : Typed p) where
-  pub refused : (refusalOf p reading ≡ 0 → ⊥) → Outcome p reading b (Refused (refusalOf p reading)) b
-  unfolding answerOf bufferOf
+module _ (p : ClockConfig) (reading : ℕ) (b : List ℕ) (t : Typed (settingsOf p reading)) where
+  pub refused : (Accepted p reading → ⊥) → InitCall p reading b (Refused (refusalIn p reading)) b
+  unfolding initAnswer initBuffer
   refused h = record { answer = rw (ne-eqb _ _ h); bytes = rw (ne-eqb _ _ h); typed = t }
 
-  pub too-short : refusalOf p reading ≡ 0 → length b < length (sheetBytes p reading) → Outcome p reading b (Refused 19) b
-  unfolding answerOf bufferOf
+  pub too-short : Accepted p reading → length b < length (sheetBytes p reading) → InitCall p reading b (Refused 19) b
+  unfolding initAnswer initBuffer
   too-short h few =
       record { answer = rw (eq-eqb _ _ h, lt-ltb _ _ few); bytes = rw (eq-eqb _ _ h, lt-ltb _ _ few); typed = t }
 
-  pub accepted : refusalOf p reading ≡ 0 → length (sheetBytes p reading) ≤ length b
-      → Outcome p reading b (Length (length (sheetBytes p reading)))
+  pub accepted : Accepted p reading → length (sheetBytes p reading) ≤ length b
+      → InitCall p reading b (Bytes (length (sheetBytes p reading)))
       (sheetBytes p reading ++ drop (length (sheetBytes p reading)) b)
-  unfolding answerOf bufferOf
+  unfolding initAnswer initBuffer
   accepted h room =
       record { answer = rw (eq-eqb _ _ h, le-ltb _ _ room); bytes = rw (eq-eqb _ _ h, le-ltb _ _ room); typed = t }

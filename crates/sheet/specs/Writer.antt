@@ -7,24 +7,26 @@ use Prim.Native.Nat.{ℕ}
 use lib.Dec.{eqb, ltb}
 use lib.ListN.{length, drop}
 use Rattle.base.specs.Choice.{pick}
-use Rattle.base.specs.Answer.{Answer, value, refusal}
+use Rattle.base.specs.Answer.{Answer, value, refusal, lengthIs}
+use Rattle.base.specs.declared.Length.{Length}
 use Rattle.step.specs.Sheet.{encoded}
 use Rattle.config.specs.declared.ClockConfig.{ClockConfig}
 use Rattle.settings.specs.Settings.{settingsOf}
 use Rattle.refusals.specs.Refusals.{refusalOf}
-use Rattle.refusals.specs.Typed.{Typed}
-use Rattle.parts.specs.Parts.{stepsOf}
-use Rattle.sheet.specs.declared.Written.{Written}
-use Rattle.sheet.specs.declared.Written.the-variants.{Length, Refused}
+use Rattle.settings.specs.Typed.{Typed}
+use Rattle.sheet.specs.Steps.{stepsOf}
 
 -- a plan's sheet at a reading: the bytes of the steps of its settings
 unfoldable pub sheetBytes : ClockConfig → ℕ → List ℕ
 sheetBytes p reading = encoded (stepsOf reading (settingsOf p reading))
 
+abbrev pub refusalIn : ClockConfig → ℕ → ℕ
+refusalIn p reading = refusalOf (settingsOf p reading) reading
+
 -- 18 and 1 to 14 in their order, then 19 where the buffer is shorter than the sheet, else the number of bytes written
-unfoldable pub answerOf : ClockConfig → ℕ → List ℕ → Answer ℕ
-answerOf p reading buffer =
-    pick (not (eqb (refusalOf p reading) 0)) (refusal (refusalOf p reading))
+unfoldable pub initAnswer : ClockConfig → ℕ → List ℕ → Answer ℕ
+initAnswer p reading buffer =
+    pick (not (eqb (refusalIn p reading) 0)) (refusal (refusalIn p reading))
     (pick (ltb (length buffer) (length (sheetBytes p reading))) (refusal 19)
     (value (length (sheetBytes p reading))))
 
@@ -33,16 +35,11 @@ abbrev pub leaves : Answer ℕ → List ℕ → List ℕ → List ℕ
 leaves (value n) sheet buffer = sheet ++ drop n buffer
 leaves (refusal n) sheet buffer = buffer
 
-unfoldable pub bufferOf : ClockConfig → ℕ → List ℕ → List ℕ
-bufferOf p reading buffer = leaves (answerOf p reading buffer) (sheetBytes p reading) buffer
-
--- what each case of the code's answer means
-abbrev pub writtenIs : Written → Answer ℕ
-writtenIs (Length n) = value n
-writtenIs (Refused n) = refusal n
+unfoldable pub initBuffer : ClockConfig → ℕ → List ℕ → List ℕ
+initBuffer p reading buffer = leaves (initAnswer p reading buffer) (sheetBytes p reading) buffer
 
 -- what a call promises: its answer, the whole buffer after it, and that the plan's numbers are of their types
-pub record Outcome (p : ClockConfig) (reading : ℕ) (before : List ℕ) (r : Written) (after : List ℕ) : Type 0 where
-  pub answer : writtenIs r ≡ answerOf p reading before
-  pub bytes : after ≡ bufferOf p reading before
-  pub typed : Typed p
+pub record InitCall (p : ClockConfig) (reading : ℕ) (before : List ℕ) (r : Length) (after : List ℕ) : Type 0 where
+  pub answer : lengthIs r ≡ initAnswer p reading before
+  pub bytes : after ≡ initBuffer p reading before
+  pub typed : Typed (settingsOf p reading)

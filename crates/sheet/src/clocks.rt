@@ -1,24 +1,25 @@
 // The parts of a sheet from the stores of the sources on: a clock each, and the last release.
-use crate::kind;
+use crate::resets;
+use crate::words::Words;
 use crate::words::add1;
 use crate::words::add2;
-use config::ClockConfig;
-use config::OptionAdc;
+use config::OptionAux;
 use config::OptionPeri;
 use config::OptionRtc;
-use config::OptionUsb;
 use config::RefClkConfig;
 use config::SysClkConfig;
+use settings::Frequencies;
+use settings::Settings;
 use settings::Sources;
+use step::kind;
 ghost use mathlib.Core.Path.{_≡_};
-ghost use Prim.Native.Nat.{_≤_, _%_};
-ghost use mathlib.Core.List.{[], _∷_};
-ghost use Rattle.config.specs.Options.{periOption, usbOption, adcOption, rtcOption};
-ghost use Rattle.settings.specs.Settings.{settingsOf};
-ghost use Rattle.parts.specs.Parts.{step1, step2, sourcePart, refPart, switchSteps, sysPart, periPart, usbPart, adcPart, rtcPart, without, releaseMask, clocksPart};
+ghost use Prim.Native.Nat.{_+_, _≤_};
+ghost use Rattle.sheet.specs.Steps.{sourcePart, refPart, switchSteps, sysPart, periPart, auxPart, rtcPart};
+ghost use Rattle.sheet.specs.Steps.{periBits, auxBits, rtcBits, releaseMask, clocksPart};
+ghost use Rattle.sheet.specs.Resets as block;
 ghost use Rattle.sheet.specs.Gather.{held, pushes};
 
-fn put_sources(words: &mut [u64; 65], at: usize, f: Sources) -> usize
+fn put_sources(words: &mut Words, at: usize, f: Sources) -> usize
     ensures { λ r. ⌜ held (now (words .exit)) r ≡ pushes (held (now (words .entry)) at) (sourcePart f) ⌝ }
 {
     let at = add2(words, at, kind::STORE, 1, f.xosc as u64);
@@ -26,7 +27,7 @@ fn put_sources(words: &mut [u64; 65], at: usize, f: Sources) -> usize
     add2(words, at, kind::STORE, 3, f.pll_usb as u64)
 }
 
-fn put_ref(words: &mut [u64; 65], at: usize, hz: u32, clock: RefClkConfig) -> usize
+fn put_ref(words: &mut Words, at: usize, hz: u32, clock: RefClkConfig) -> usize
     ensures { λ r. ⌜ held (now (words .exit)) r ≡ pushes (held (now (words .entry)) at) (refPart hz clock) ⌝ }
 {
     let src = clock.src;
@@ -39,7 +40,7 @@ fn put_ref(words: &mut [u64; 65], at: usize, hz: u32, clock: RefClkConfig) -> us
 }
 
 // Away from the auxiliary source before it changes, unless the source is the reference clock.
-fn put_switch(words: &mut [u64; 65], at: usize, select: u64) -> usize
+fn put_switch(words: &mut Words, at: usize, select: u64) -> usize
     ensures { λ r. ⌜ held (now (words .exit)) r ≡ pushes (held (now (words .entry)) at) (switchSteps select) ⌝ }
 {
     if select == 0 {
@@ -49,7 +50,7 @@ fn put_switch(words: &mut [u64; 65], at: usize, select: u64) -> usize
     add1(words, at, kind::WAIT_SYS, 0)
 }
 
-fn put_sys(words: &mut [u64; 65], at: usize, hz: u64, clock: SysClkConfig) -> usize
+fn put_sys(words: &mut Words, at: usize, hz: u64, clock: SysClkConfig) -> usize
     ensures { λ r. ⌜ held (now (words .exit)) r ≡ pushes (held (now (words .entry)) at) (sysPart hz clock) ⌝ }
 {
     let src = clock.src;
@@ -68,101 +69,52 @@ fn put_sys(words: &mut [u64; 65], at: usize, hz: u64, clock: SysClkConfig) -> us
     )
 }
 
-fn put_peri(words: &mut [u64; 65], at: usize, f: Sources, system: u64, peri: OptionPeri) -> usize
-    ensures { λ r. ⌜ held (now (words .exit)) r ≡ pushes (held (now (words .entry)) at) (periPart f system (periOption peri)) ⌝ }
+fn put_peri(words: &mut Words, at: usize, hz: u64, peri: OptionPeri) -> usize
+    ensures { λ r. ⌜ held (now (words .exit)) r ≡ pushes (held (now (words .entry)) at) (periPart hz peri) ⌝ }
 {
-    let hz = settings::peri_hz(f, system, peri);
     match peri {
         OptionPeri::Some(src) => {
-            let at = add1(
-                words,
-                at,
-                kind::PERI_CONTROL,
-                settings::peri_aux(src) as u64,
-            );
+            let aux = settings::peri_aux(src) as u64;
+            let at = add1(words, at, kind::PERI_CONTROL, aux);
             add2(words, at, kind::STORE, 6, hz)
         }
         OptionPeri::None => add2(words, at, kind::STORE, 6, hz),
     }
 }
 
-// A clock with a divider of two bits, which hold 4 as 0.
-fn put_divided(
-    words: &mut [u64; 65],
+// The USB clock or the ADC clock, by their kinds of steps. A divider of two bits holds 4 as 0.
+fn put_aux(
+    words: &mut Words,
     at: usize,
     divider: u8,
     control: u8,
-    div: u8,
-    phase: u8,
-    aux: u8,
+    clock: u64,
+    hz: u64,
+    aux: OptionAux,
 ) -> usize
-    ensures { λ r. ⌜ held (now (words .exit)) r ≡ pushes (held (now (words .entry)) at) (step1 divider (div % 4) ∷ step2 control phase aux ∷ []) ⌝ }
+    ensures { λ r. ⌜ held (now (words .exit)) r ≡ pushes (held (now (words .entry)) at) (auxPart divider control clock hz aux) ⌝ }
 {
-    let at = add1(words, at, divider, div as u64 % 4);
-    add2(words, at, control, phase as u64, aux as u64)
-}
-
-fn put_usb(words: &mut [u64; 65], at: usize, f: Sources, usb: OptionUsb) -> usize
-    ensures { λ r. ⌜ held (now (words .exit)) r ≡ pushes (held (now (words .entry)) at) (usbPart f (usbOption usb)) ⌝ }
-{
-    let hz = settings::usb_hz(f, usb) as u64;
-    match usb {
-        OptionUsb::Some(on) => {
+    match aux {
+        OptionAux::Some(on) => {
             let src = on.src;
-            let aux = settings::usb_aux(src);
-            let at = put_divided(
-                words,
-                at,
-                kind::USB_DIVIDER,
-                kind::USB_CONTROL,
-                on.div,
-                on.phase,
-                aux,
-            );
-            add2(words, at, kind::STORE, 7, hz)
+            let code = settings::aux_code(src) as u64;
+            let at = add1(words, at, divider, on.div as u64 % 4);
+            let at = add2(words, at, control, on.phase as u64, code);
+            add2(words, at, kind::STORE, clock, hz)
         }
-        OptionUsb::None => add2(words, at, kind::STORE, 7, hz),
+        OptionAux::None => add2(words, at, kind::STORE, clock, hz),
     }
 }
 
-fn put_adc(words: &mut [u64; 65], at: usize, f: Sources, adc: OptionAdc) -> usize
-    ensures { λ r. ⌜ held (now (words .exit)) r ≡ pushes (held (now (words .entry)) at) (adcPart f (adcOption adc)) ⌝ }
+fn put_rtc(words: &mut Words, at: usize, hz: u64, rtc: OptionRtc) -> usize
+    ensures { λ r. ⌜ held (now (words .exit)) r ≡ pushes (held (now (words .entry)) at) (rtcPart hz rtc) ⌝ }
 {
-    let hz = settings::adc_hz(f, adc) as u64;
-    match adc {
-        OptionAdc::Some(on) => {
-            let src = on.src;
-            let aux = settings::adc_aux(src);
-            let at = put_divided(
-                words,
-                at,
-                kind::ADC_DIVIDER,
-                kind::ADC_CONTROL,
-                on.div,
-                on.phase,
-                aux,
-            );
-            add2(words, at, kind::STORE, 8, hz)
-        }
-        OptionAdc::None => add2(words, at, kind::STORE, 8, hz),
-    }
-}
-
-fn put_rtc(words: &mut [u64; 65], at: usize, f: Sources, rtc: OptionRtc) -> usize
-    ensures { λ r. ⌜ held (now (words .exit)) r ≡ pushes (held (now (words .entry)) at) (rtcPart f (rtcOption rtc)) ⌝ }
-{
-    let hz = settings::rtc_hz(f, rtc);
     match rtc {
         OptionRtc::Some(on) => {
             let src = on.src;
-            let aux = settings::rtc_aux(src) as u64;
-            let at = add2(
-                words,
-                at,
-                kind::RTC_DIVIDER,
-                on.div_int as u64,
-                on.div_frac as u64,
-            );
+            let aux = settings::aux_code(src) as u64;
+            let whole = on.div_int as u64;
+            let at = add2(words, at, kind::RTC_DIVIDER, whole, on.div_frac as u64);
             let at = add2(words, at, kind::RTC_CONTROL, on.phase as u64, aux);
             add2(words, at, kind::STORE, 9, hz)
         }
@@ -170,74 +122,78 @@ fn put_rtc(words: &mut [u64; 65], at: usize, f: Sources, rtc: OptionRtc) -> usiz
     }
 }
 
-// Bits that stay in reset where a clock is absent.
+// What stays in reset where a clock is absent.
 fn peri_bits(peri: OptionPeri) -> u64
-    ensures { λ r. ⌜ (r ≡ without 12779520 (periOption peri)) × (r ≤ 12779520) ⌝ }
+    ensures { λ r. ⌜ (r ≡ periBits peri) × (r ≤ block.spi0 + block.spi1 + block.uart0 + block.uart1) ⌝ }
 {
     match peri {
         OptionPeri::Some(_) => 0,
-        OptionPeri::None => 0xC30000,
+        OptionPeri::None => resets::SPI0 + resets::SPI1 + resets::UART0 + resets::UART1,
     }
 }
 
-fn usb_bits(usb: OptionUsb) -> u64
-    ensures { λ r. ⌜ (r ≡ without 16777216 (usbOption usb)) × (r ≤ 16777216) ⌝ }
+fn aux_bits(bits: u64, aux: OptionAux) -> u64
+    ensures { λ r. ⌜ (r ≡ auxBits bits aux) × (r ≤ bits) ⌝ }
 {
-    match usb {
-        OptionUsb::Some(_) => 0,
-        OptionUsb::None => 0x1000000,
-    }
-}
-
-fn adc_bits(adc: OptionAdc) -> u64
-    ensures { λ r. ⌜ (r ≡ without 1 (adcOption adc)) × (r ≤ 1) ⌝ }
-{
-    match adc {
-        OptionAdc::Some(_) => 0,
-        OptionAdc::None => 1,
+    match aux {
+        OptionAux::Some(_) => 0,
+        OptionAux::None => bits,
     }
 }
 
 fn rtc_bits(rtc: OptionRtc) -> u64
-    ensures { λ r. ⌜ (r ≡ without 32768 (rtcOption rtc)) × (r ≤ 32768) ⌝ }
+    ensures { λ r. ⌜ (r ≡ rtcBits rtc) × (r ≤ block.rtc) ⌝ }
 {
     match rtc {
         OptionRtc::Some(_) => 0,
-        OptionRtc::None => 0x8000,
+        OptionRtc::None => resets::RTC,
     }
 }
 
-fn release_mask(peri: OptionPeri, usb: OptionUsb, adc: OptionAdc, rtc: OptionRtc) -> u64
-    ensures { λ r. ⌜ r ≡ releaseMask (periOption peri) (usbOption usb) (adcOption adc) (rtcOption rtc) ⌝ }
+fn release_mask(peri: OptionPeri, usb: OptionAux, adc: OptionAux, rtc: OptionRtc) -> u64
+    ensures { λ r. ⌜ r ≡ releaseMask peri usb adc rtc ⌝ }
 {
-    0x1FFFFFF - (peri_bits(peri) + usb_bits(usb) + adc_bits(adc) + rtc_bits(rtc))
+    let absent = peri_bits(peri)
+        + aux_bits(resets::USB, usb)
+        + aux_bits(resets::ADC, adc)
+        + rtc_bits(rtc);
+    resets::ALL - absent
 }
 
-pub(crate) fn put_clocks(
-    words: &mut [u64; 65],
-    at: usize,
-    plan: ClockConfig,
-    reading: u8,
-    f: Sources,
-    reference: u32,
-    system: u64,
-) -> usize
-    ensures { λ r. ⌜ held (now (words .exit)) r ≡ pushes (held (now (words .entry)) at) (clocksPart (settingsOf plan reading) f reference system) ⌝ }
+pub(crate) fn put_clocks(words: &mut Words, at: usize, s: Settings, f: Frequencies) -> usize
+    ensures { λ r. ⌜ held (now (words .exit)) r ≡ pushes (held (now (words .entry)) at) (clocksPart s f) ⌝ }
 {
-    let ref_clk = plan.ref_clk;
-    let sys_clk = plan.sys_clk;
-    let peri = plan.peri_clk_src;
-    let usb = plan.usb_clk;
-    let adc = plan.adc_clk;
-    let rtc = plan.rtc_clk;
+    let sources = f.sources;
+    let reference = s.reference;
+    let sys = s.sys;
+    let peri = s.peri;
+    let usb = s.usb;
+    let adc = s.adc;
+    let rtc = s.rtc;
     let mask = release_mask(peri, usb, adc, rtc);
-    let at = put_sources(words, at, f);
-    let at = put_ref(words, at, reference, ref_clk);
-    let at = put_sys(words, at, system, sys_clk);
-    let at = put_peri(words, at, f, system, peri);
-    let at = put_usb(words, at, f, usb);
-    let at = put_adc(words, at, f, adc);
-    let at = put_rtc(words, at, f, rtc);
+    let at = put_sources(words, at, sources);
+    let at = put_ref(words, at, f.reference, reference);
+    let at = put_sys(words, at, f.sys, sys);
+    let at = put_peri(words, at, f.peri, peri);
+    let at = put_aux(
+        words,
+        at,
+        kind::USB_DIVIDER,
+        kind::USB_CONTROL,
+        7,
+        f.usb as u64,
+        usb,
+    );
+    let at = put_aux(
+        words,
+        at,
+        kind::ADC_DIVIDER,
+        kind::ADC_CONTROL,
+        8,
+        f.adc as u64,
+        adc,
+    );
+    let at = put_rtc(words, at, f.rtc, rtc);
     let at = add1(words, at, kind::RELEASE, mask);
     add1(words, at, kind::WAIT_RELEASED, mask)
 }

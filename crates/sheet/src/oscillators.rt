@@ -1,5 +1,6 @@
 // The first parts of a sheet: the head, the ring, the voltage, the crystal and its PLLs.
-use crate::kind;
+use crate::resets;
+use crate::words::Words;
 use crate::words::add0;
 use crate::words::add1;
 use crate::words::add2;
@@ -7,31 +8,33 @@ use crate::words::add4;
 use crate::words::add5;
 use config::OptionPll;
 use config::OptionRosc;
-use config::OptionXosc;
+use settings::OptionCrystal;
+use settings::OptionCycles;
+use step::kind;
 use voltage::CoreVoltage;
 ghost use mathlib.Core.Path.{_≡_};
-ghost use Rattle.voltage.specs.Voltage.{codeOf};
-ghost use Rattle.config.specs.Options.{roscOption, xoscOption, pllOption};
-ghost use Rattle.settings.specs.Settings.{crystalOf, settlingStep};
-ghost use Rattle.parts.specs.Parts.{headPart, ringPart, voltagePart, pllSteps, crystalPart};
+ghost use Rattle.sheet.specs.Steps.{headPart, ringPart, settlingSteps, voltagePart, pllSteps, crystalPart};
 ghost use Rattle.sheet.specs.Gather.{held, pushes};
 
-pub(crate) fn put_head(words: &mut [u64; 65], at: usize) -> usize
+// What the ring's divider is written with.
+const RING_PASS: u64 = 0xAA0;
+
+pub(crate) fn put_head(words: &mut Words, at: usize) -> usize
     ensures { λ r. ⌜ held (now (words .exit)) r ≡ pushes (held (now (words .entry)) at) headPart ⌝ }
 {
-    let at = add1(words, at, kind::RESET, 0x0FBCDBF);
+    let at = add1(words, at, kind::RESET, resets::FIRST);
     let at = add0(words, at, kind::RESUS_OFF);
     let at = add1(words, at, kind::SYS_SOURCE, 0);
     let at = add1(words, at, kind::WAIT_SYS, 0);
     let at = add1(words, at, kind::REF_SOURCE, 0);
     let at = add1(words, at, kind::WAIT_REF, 0);
-    let at = add1(words, at, kind::RESET, 0x3000);
-    let at = add1(words, at, kind::RELEASE, 0x3000);
-    add1(words, at, kind::WAIT_RELEASED, 0x3000)
+    let at = add1(words, at, kind::RESET, resets::PLLS);
+    let at = add1(words, at, kind::RELEASE, resets::PLLS);
+    add1(words, at, kind::WAIT_RELEASED, resets::PLLS)
 }
 
-pub(crate) fn put_ring(words: &mut [u64; 65], at: usize, ring: OptionRosc) -> usize
-    ensures { λ r. ⌜ held (now (words .exit)) r ≡ pushes (held (now (words .entry)) at) (ringPart (roscOption ring)) ⌝ }
+pub(crate) fn put_ring(words: &mut Words, at: usize, ring: OptionRosc) -> usize
+    ensures { λ r. ⌜ held (now (words .exit)) r ≡ pushes (held (now (words .entry)) at) (ringPart ring) ⌝ }
 {
     let hz = settings::ring_hz(ring) as u64;
     match ring {
@@ -41,7 +44,7 @@ pub(crate) fn put_ring(words: &mut [u64; 65], at: usize, ring: OptionRosc) -> us
             let code = settings::range_code(range) as u64;
             let at = add4(words, at, kind::STRENGTHS_0_3, g.s0, g.s1, g.s2, g.s3);
             let at = add4(words, at, kind::STRENGTHS_4_7, g.s4, g.s5, g.s6, g.s7);
-            let at = add1(words, at, kind::RING_DIVIDER, on.div as u64 + 0xAA0);
+            let at = add1(words, at, kind::RING_DIVIDER, on.div as u64 + RING_PASS);
             let at = add1(words, at, kind::RING_ON, code);
             add2(words, at, kind::STORE, 0, hz)
         }
@@ -49,16 +52,24 @@ pub(crate) fn put_ring(words: &mut [u64; 65], at: usize, ring: OptionRosc) -> us
     }
 }
 
+fn put_settling(words: &mut Words, at: usize, settling: OptionCycles) -> usize
+    ensures { λ r. ⌜ held (now (words .exit)) r ≡ pushes (held (now (words .entry)) at) (settlingSteps settling) ⌝ }
+{
+    match settling {
+        OptionCycles::Some(cycles) => add1(words, at, kind::DELAY, cycles),
+        OptionCycles::None => at,
+    }
+}
+
 // Nothing where the voltage is as it was read.
 pub(crate) fn put_voltage(
-    words: &mut [u64; 65],
+    words: &mut Words,
     at: usize,
     reading: u8,
     v: CoreVoltage,
-    time: u32,
-    cycles: u64,
+    settling: OptionCycles,
 ) -> usize
-    ensures { λ r. ⌜ held (now (words .exit)) r ≡ pushes (held (now (words .entry)) at) (voltagePart reading v (settlingStep reading (codeOf v) time cycles)) ⌝ }
+    ensures { λ r. ⌜ held (now (words .exit)) r ≡ pushes (held (now (words .entry)) at) (voltagePart reading v settling) ⌝ }
 {
     let code = v.code();
     let bod = v.recommended_bod() as u64;
@@ -66,16 +77,13 @@ pub(crate) fn put_voltage(
         return at;
     }
     let at = add1(words, at, kind::VOLTAGE, code as u64);
-    if time == 0 {
-        return add1(words, at, kind::BROWNOUT, bod);
-    }
-    let at = add1(words, at, kind::DELAY, cycles);
+    let at = put_settling(words, at, settling);
     add1(words, at, kind::BROWNOUT, bod)
 }
 
 // Which PLL: 0 system, 1 USB.
-fn put_pll(words: &mut [u64; 65], at: usize, which: u64, pll: OptionPll) -> usize
-    ensures { λ r. ⌜ held (now (words .exit)) r ≡ pushes (held (now (words .entry)) at) (pllSteps which (pllOption pll)) ⌝ }
+fn put_pll(words: &mut Words, at: usize, which: u64, pll: OptionPll) -> usize
+    ensures { λ r. ⌜ held (now (words .exit)) r ≡ pushes (held (now (words .entry)) at) (pllSteps which pll) ⌝ }
 {
     match pll {
         OptionPll::Some(p) => {
@@ -95,20 +103,19 @@ fn put_pll(words: &mut [u64; 65], at: usize, which: u64, pll: OptionPll) -> usiz
     }
 }
 
-pub(crate) fn put_crystal(words: &mut [u64; 65], at: usize, crystal: OptionXosc) -> usize
-    ensures { λ r. ⌜ held (now (words .exit)) r ≡ pushes (held (now (words .entry)) at) (crystalPart (crystalOf (xoscOption crystal))) ⌝ }
+pub(crate) fn put_crystal(words: &mut Words, at: usize, crystal: OptionCrystal) -> usize
+    ensures { λ r. ⌜ held (now (words .exit)) r ≡ pushes (held (now (words .entry)) at) (crystalPart crystal) ⌝ }
 {
     match crystal {
-        OptionXosc::Some(on) => {
-            let sys = on.sys_pll;
-            let usb = on.usb_pll;
-            let sum = divider::startup_sum(on.hz, on.delay_multiplier);
-            let at = add1(words, at, kind::STARTUP, sum / 256);
+        OptionCrystal::Some(on) => {
+            let sys = on.sys;
+            let usb = on.usb;
+            let at = add1(words, at, kind::STARTUP, on.delay);
             let at = add0(words, at, kind::CRYSTAL_ON);
             let at = add0(words, at, kind::WAIT_STABLE);
             let at = put_pll(words, at, 0, sys);
             put_pll(words, at, 1, usb)
         }
-        OptionXosc::None => at,
+        OptionCrystal::None => at,
     }
 }

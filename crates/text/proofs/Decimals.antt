@@ -14,7 +14,7 @@ use lib.ListN.{length, drop, getD, length-append}
 use lib.Seq.{drop-cons}
 use Rattle.base.specs.Answer.{value, refusal}
 use Rattle.base.specs.Choice.{pick, inRange}
-use Rattle.base.proofs.Bools.{and-true}
+use Rattle.base.proofs.Bools.{both-true}
 use Rattle.text.specs.Decimal.{lastDigit, digitsOf, decimalOf, isDigit, allDigits, valueAfter, valueOf}
 use Rattle.text.specs.Decimal.{isNumber, numberOf}
 
@@ -72,7 +72,7 @@ value-decimal n = by-digits (λ (m : ℕ) (ds : List ℕ). valueAfter 0 ds ≡ m
 all-last : (cs : List ℕ) (d : ℕ) → allDigits cs ≡ true → isDigit d ≡ true → allDigits (cs ++ (d ∷ [])) ≡ true
 all-last [] d h e = rw e
 all-last (c ∷ cs) d h e =
-    let p = and-true (isDigit c) (allDigits cs) h in
+    let p = both-true (isDigit c) (allDigits cs) h in
     rw (p .0) (all-last cs d (p .1) e)
 
 last-is-digit : (n : ℕ) → isDigit (lastDigit n) ≡ true

@@ -15,7 +15,7 @@ use lib.Pow.{areBytes}
 use lib.Seq.{drop-cons, take-suc}
 use Rattle.base.specs.Choice.{pick, inRange}
 use Rattle.base.specs.Placed.{Placed}
-use Rattle.base.proofs.Bools.{and-true, in-range}
+use Rattle.base.proofs.Bools.{both-true, in-range}
 use Rattle.text.specs.Decimal.{isDigit}
 use Rattle.text.specs.Hex.{hexDigit, hexPair, hexDigits, hexOf, hexValue, isHex}
 use Rattle.text.specs.Hex.{arePairs, pairValues, isHexWord, isReadable, HexReading}
@@ -132,7 +132,7 @@ digit-back d h = elim (decLt d 10) [
 pairs-back : (bs : List ℕ) → areBytes bs ≡ true → (arePairs (hexDigits bs) ≡ true) × (pairValues (hexDigits bs) ≡ bs)
 pairs-back [] h = (refl, refl)
 pairs-back (b ∷ bs) h =
-    let p = and-true (ltb b 256) (areBytes bs) h in
+    let p = both-true (ltb b 256) (areBytes bs) h in
     let byte : b < 256 = ltb-true b 256 (p .0) in
     let high = digit-back (b / 16) (omega arith) in
     let low = digit-back (b % 16) (omega arith) in

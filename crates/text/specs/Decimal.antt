@@ -7,8 +7,6 @@ use lib.Dec.{leb, ltb}
 use lib.ListN.{length}
 use Rattle.base.specs.Answer.{Answer, value, refusal}
 use Rattle.base.specs.Choice.{pick, inRange}
-use Rattle.text.specs.declared.Decimal.{Decimal}
-use Rattle.text.specs.declared.Decimal.the-variants.{Number, Refused}
 
 -- the last of n's digits
 abbrev pub lastDigit : ℕ → ℕ
@@ -45,8 +43,3 @@ isNumber cs = inRange 1 10 (length cs) && allDigits cs && leb (valueOf cs) 42949
 -- the number that the bytes spell; 24 where they spell none
 unfoldable pub numberOf : List ℕ → Answer ℕ
 numberOf cs = pick (isNumber cs) (value (valueOf cs)) (refusal 24)
-
--- what the code's answer means
-abbrev pub numberIs : Decimal → Answer ℕ
-numberIs (Number n) = value n
-numberIs (Refused n) = refusal n

@@ -8,7 +8,7 @@ use Prim.Native.Nat.{ℕ, _+_, _-_, _*_, _/_, _%_}
 use lib.Dec.{leb, ltb, eqb}
 use lib.ListN.{length}
 use Rattle.base.specs.Choice.{pick, inRange}
-use Rattle.base.specs.Placed.{placed}
+use lib.Seq.{sets}
 use Rattle.text.specs.Decimal.{isDigit}
 use Rattle.text.specs.declared.HexRead.{HexRead}
 use Rattle.text.specs.declared.HexRead.the-variants.{Bytes, Bad}
@@ -69,4 +69,4 @@ hexReadIs Bad = none
 -- the call that read the word w into the buffer xs, answered r and left the buffer ys
 pub record HexReading (w xs : List ℕ) (r : HexRead) (ys : List ℕ) : Type 0 where
   pub answer : hexReadIs r ≡ pick (isReadable w (length xs)) (some (length (pairValues w))) none
-  pub bytes : ys ≡ pick (isReadable w (length xs)) (placed xs 0 (pairValues w)) xs
+  pub bytes : ys ≡ pick (isReadable w (length xs)) (sets xs 0 (pairValues w)) xs

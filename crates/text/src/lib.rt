@@ -3,20 +3,15 @@ use base::in_range;
 use base::number_when;
 ghost use mathlib.Core.Path.{_≡_};
 ghost use mathlib.Core.List.{[], _∷_};
-ghost use Prim.Native.Nat.{_-_, _%_, _≤_, _<_, min, max};
+ghost use Prim.Native.Nat.{_-_, _%_, _≤_, _<_, max};
 ghost use lib.ListN.{length, drop};
+ghost use Rattle.base.specs.Answer.{numberIs};
 ghost use Rattle.base.specs.Choice.{pick, inRange};
 ghost use Rattle.base.specs.Placed.{Placed};
-ghost use Rattle.text.specs.Decimal.{lastDigit, decimalOf, numberOf, numberIs};
+ghost use Rattle.text.specs.Decimal.{lastDigit, decimalOf, numberOf};
 ghost use Rattle.text.specs.Hex.{hexDigit, hexPair, hexOf, hexValue, isHex, isPair};
 ghost use Rattle.text.specs.Hex.{arePairs, pairValues, isHexWord, HexReading};
 ghost use Rattle.text.specs.Words.{upTo, indexFrom, lineNumberOf};
-
-// The number that some bytes spell, or 24 where they spell none.
-pub enum Decimal {
-    Number(u32),
-    Refused(u8),
-}
 
 // How many bytes a word of hex gave, or Bad where it is none or the buffer is too short.
 pub enum HexRead {
@@ -36,16 +31,10 @@ pub fn put_byte(buf: &mut [u8], at: usize, b: u8) -> usize
     buf.len()
 }
 
-fn least(a: usize, b: usize) -> usize
-    ensures { λ r. ⌜ r ≡ min a b ⌝ }
-{
-    if a < b { a } else { b }
-}
-
 pub fn put_bytes(buf: &mut [u8], at: usize, s: &[u8]) -> usize
     ensures { λ r. ⌜ Placed (now (buf .entry)) at (now (s .entry)) r (now (buf .exit)) ⌝ }
 {
-    let mut end = least(at, buf.len());
+    let mut end = base::least(at, buf.len());
     let mut i = 0;
     while i < s.len() {
         end = put_byte(buf, end, s[i]);
@@ -94,7 +83,7 @@ pub fn put_hex(buf: &mut [u8], at: usize, s: &[u8]) -> usize
     if s.len() == 0 {
         return put_byte(buf, at, b'-');
     }
-    let mut end = least(at, buf.len());
+    let mut end = base::least(at, buf.len());
     let mut i = 0;
     while i < s.len() {
         end = put_hex_byte(buf, end, s[i]);
@@ -109,41 +98,34 @@ fn between(low: u8, high: u8, c: u8) -> bool
     (low <= c) & (c <= high)
 }
 
-// a - b, or 0 where b is greater.
-fn less(a: u8, b: u8) -> u8
-    ensures { λ r. ⌜ r ≡ a - b ⌝ }
-{
-    if a < b { 0 } else { a - b }
-}
-
 // What a digit stands for.
 fn digit_value(c: u8) -> u64
     ensures { λ r. ⌜ (r ≡ c - 48) × (r < 256) ⌝ }
 {
-    less(c, b'0') as u64
+    base::less8(c, b'0') as u64
 }
 
-// The number that all of s spells: 1 to 10 digits, up to 4294967295.
-pub fn number(s: &[u8]) -> Decimal
+// The number that all of s spells: 1 to 10 digits, up to 4294967295; 24 where it spells none.
+pub fn number(s: &[u8]) -> base::Number
     ensures { λ r. ⌜ numberIs r ≡ numberOf (now (s .entry)) ⌝ }
 {
     if !in_range(1, 10, s.len() as u64) {
-        return Decimal::Refused(24);
+        return base::Number::Refused(24);
     }
     let mut n: u64 = 0;
     let mut i = 0;
     while i < s.len() {
         let c = s[i];
         if !between(b'0', b'9', c) {
-            return Decimal::Refused(24);
+            return base::Number::Refused(24);
         }
         n = n * 10 + digit_value(c);
         if 4294967295 < n {
-            return Decimal::Refused(24);
+            return base::Number::Refused(24);
         }
         i += 1;
     }
-    Decimal::Number(n as u32)
+    base::Number::Value(n as u32)
 }
 
 // The index of the first b from `at` on, or the end.
@@ -162,18 +144,18 @@ pub fn index_from(s: &[u8], at: usize, b: u8) -> usize
 }
 
 // The number that the bytes from `at` up to the next b, or the end, spell.
-pub fn number_up_to(s: &[u8], at: usize, b: u8) -> Decimal
+pub fn number_up_to(s: &[u8], at: usize, b: u8) -> base::Number
     ensures { λ r. ⌜ numberIs r ≡ numberOf (upTo b (drop at (now (s .entry)))) ⌝ }
 {
     if s.len() <= at {
-        return Decimal::Refused(24);
+        return base::Number::Refused(24);
     }
     let end = index_from(s, at, b);
     number(&s[at..end])
 }
 
 // The number on the first line. What follows its newline is not looked at.
-pub fn line_number(s: &[u8]) -> Decimal
+pub fn line_number(s: &[u8]) -> base::Number
     ensures { λ r. ⌜ numberIs r ≡ lineNumberOf (now (s .entry)) ⌝ }
 {
     number_up_to(s, 0, b'\n')
@@ -195,7 +177,7 @@ fn is_pair(a: u8, b: u8) -> bool
 fn digit_in(low: u8, high: u8, zero: u8, c: u8, rest: u8) -> u8
     ensures { λ r. ⌜ r ≡ pick (inRange low high c) (c - zero) rest ⌝ }
 {
-    number_when(between(low, high, c), less(c, zero), rest)
+    number_when(between(low, high, c), base::less8(c, zero), rest)
 }
 
 // What a hex digit stands for; 0 for what is none.

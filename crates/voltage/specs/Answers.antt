@@ -3,9 +3,8 @@
 use Rattle.base.specs.Answer.{Answer, value, refusal}
 use Rattle.voltage.specs.declared.CoreVoltage.{CoreVoltage}
 use Rattle.voltage.specs.declared.VoltageRead.{VoltageRead}
-use Rattle.voltage.specs.declared.VoltageRead.the-variants.{Voltage, Refused}
 
 -- the voltage read, or the refusal's number
 abbrev pub voltageReadIs : VoltageRead → Answer CoreVoltage
-voltageReadIs (Voltage v) = value v
-voltageReadIs (Refused n) = refusal n
+voltageReadIs (VoltageRead.Voltage v) = value v
+voltageReadIs (VoltageRead.Refused n) = refusal n

@@ -1,7 +1,7 @@
 //! The registers' fields: lowest bit and width as in the RP2040 datasheet.
 //!
 //! Only the fields that the published code uses are here: another one would not compile.
-//! A setter that cannot hold its value tells the recorder which refusal of document 01 this belongs to.
+//! A setter that cannot hold its value tells the recorder which refusal this belongs to.
 
 use super::values::{Field, clocks::*, rosc, xosc};
 use crate::recorder;
@@ -23,11 +23,11 @@ impl Register for u32 {
 
 /// What it means that a field cannot hold its value.
 pub enum Loss {
-    /// Document 01 refuses it with this number.
+    /// It is refused with this number.
     Refused(u8),
     /// The same, but a divider of two bits holds 4 as 0 and loses nothing.
     RefusedUnlessFour(u8),
-    /// Document 01 does not know of it.
+    /// No refusal is known for it.
     Unknown,
 }
 use Loss::{Refused, RefusedUnlessFour, Unknown};
@@ -160,7 +160,7 @@ registers! {
         ds7 set_ds7: u8, 12, 3, Refused(1);
         passwd set_passwd: rosc::Passwd, 16, 16, Unknown;
     }
-    // Document 01's step holds the 16 bits that the code hands over; the datasheet's field has 12.
+    // The step holds the 16 bits that the code hands over; the datasheet's field has 12.
     RoscDiv {
         div set_div: rosc::Div, 0, 16, Unknown;
     }

@@ -141,6 +141,7 @@ pub mod xosc {
 
 pub mod io {
     #[repr(u8)]
+    #[allow(clippy::upper_case_acronyms)] // rp-pac's name
     pub enum Gpio0ctrlFuncsel {
         NULL = 31,
     }

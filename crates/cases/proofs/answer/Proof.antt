@@ -2,7 +2,7 @@
 use native.Mathlib.Omega.{arith}
 use borrow.Author.Needs.{needs}
 use lib.ListN.{length-take}
-use Rattle.cases.specs.Cases.{fieldsOf, inputOf, targetOf, answerOf}
+use Rattle.cases.specs.Cases.{fieldsOf, inputOf, targetOf, answerTo}
 use Rattle.fields.proofs.Tails.{first-word, behind-first}
 use Rattle.cases.proofs.answer.Statement.{statement}
 use Rattle.cases.proofs.answer.Tie as tie
@@ -11,11 +11,13 @@ slice-aggregate-named : tie.Need-slice-aggregate-named
 slice-aggregate-named c = simp length-take (omega arith)
 
 returns : tie.Need-returns
-unfolding fieldsOf inputOf targetOf answerOf
+unfolding fieldsOf inputOf targetOf answerTo
 returns c =
-    let line = c .before .before .before .before .before .before .before .before .before .args .line .now in
-    let index = c .before .before .before .before .before .before .index-from .ensures .0 in
-    let put = rw (c .before .before .before .before .named .ensures, index) at (c .before .before .put-kind .ensures) in
+    let put-kind = c .before .before in let named = put-kind .before .before in
+    let index-from = named .before .before in let start = index-from .before .before .before in
+    let line = start .args .line .now in
+    let index = index-from .index-from .ensures .0 in
+    let put = rw (named .named .ensures, index) at (put-kind .put-kind .ensures) in
     rw (first-word line, behind-first line) at put
 
 pub answer-spec : {M : Type 1} → statement M

@@ -1,27 +1,35 @@
 -- `divider::calculate_pio_clock_divider_value` meets its contract. Assumes nothing.
 use borrow.Author.Needs.{needs}
 use native.Mathlib.Omega.{arith}
-use mathlib.Core.Path.{sym}
-use borrow.Author.Tests.{eq-eqb}
-use Rattle.divider.specs.Pio.{pioOf}
-use Rattle.divider.proofs.Limits.{pio-value, pio-under, pio-over}
+use mathlib.Core.Path.{_≡_, ap}
+use mathlib.Core.Bool.{true}
+use Rattle.base.specs.Choice.{inRange}
+use Rattle.base.specs.Answer.{value}
+use Rattle.base.proofs.Bools.{in-range}
+use Rattle.divider.proofs.Pio.{pio-tested}
 use Rattle.divider.proofs.calculate_pio_clock_divider_value.Statement.{statement}
 use Rattle.divider.proofs.calculate_pio_clock_divider_value.Tie as tie
 
+cast-t9 : tie.Need-cast-t9
+cast-t9 c =
+    let tested = c .before in
+    let divider = tested .before .quotient .result in
+    let inside : inRange 256 16777215 divider ≡ true = rw (tested .in-range .ensures) at (c .if1 .taken) in
+    omega (arith, in-range 256 16777215 divider inside)
+
 returns : tie.Need-returns
-unfolding pioOf
-returns c = rw (eq-eqb _ 0 (c .if1 .taken))
+returns c =
+    let tested = c .before in
+    let inside = rw (tested .in-range .ensures, tested .before .quotient .ensures) at (c .if1 .taken) in
+    rw (pio-tested, inside) (ap value (tested .before .quotient .ensures))
 
 returns-2 : tie.Need-returns-2
-returns-2 c = sym (pio-under _ _ (c .before .if1 .left) (omega arith))
-
-returns-3 : tie.Need-returns-3
-returns-3 c = sym (pio-value _ _ (c .before .before .if1 .left) (omega arith) (omega arith))
-
-returns-4 : tie.Need-returns-4
-returns-4 c = sym (pio-over _ _ (c .before .before .if1 .left) (omega arith))
+returns-2 c =
+    let tested = c .before in
+    let outside = rw (tested .in-range .ensures, tested .before .quotient .ensures) at (c .if1 .left) in
+    rw (pio-tested, outside)
 
 pub calculate-pio-clock-divider-value-spec : {M : Type 1} → statement M
 calculate-pio-clock-divider-value-spec =
     tie.close
-    (tie.spec returns (λ c. search needs) (λ c. search needs) returns-2 (λ c. search needs) returns-3 returns-4)
+    (tie.spec (λ c. search needs) (λ c κs. search needs) (λ c κs. search needs) cast-t9 returns returns-2)

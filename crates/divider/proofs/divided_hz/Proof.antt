@@ -4,11 +4,8 @@ use Rattle.divider.specs.Clock.{dividedHz}
 use Rattle.divider.proofs.divided_hz.Statement.{statement}
 use Rattle.divider.proofs.divided_hz.Tie as tie
 
-returns : tie.Need-returns
-unfolding dividedHz
-returns c = c .quotient .ensures
-
 pub divided-hz-spec : {M : Type 1} → statement M
+unfolding dividedHz
 divided-hz-spec =
     tie.close
-    (tie.spec (λ c. search needs) (λ c. search needs) (λ c. search needs) (λ c κs. search needs) returns)
+    (tie.spec (λ c. search needs) (λ c. search needs) (λ c. search needs) (λ c κs. search needs) (λ c. c .quotient .ensures))

@@ -5,10 +5,6 @@ use borrow.Author.Tests.{le-leb, lt-leb, lt-ltb, le-ltb}
 use Rattle.divider.proofs.get_freq.Statement.{statement}
 use Rattle.divider.proofs.get_freq.Tie as tie
 
-returns : tie.Need-returns
-unfolding gpoutOf
-returns c = rw (lt-leb _ _ (c .if1 .taken))
-
 returns-2 : tie.Need-returns-2
 unfolding gpoutOf
 returns-2 c =
@@ -23,7 +19,9 @@ returns-3 c =
     rw (le-leb _ _ (c .before .before .if1 .left), ← clock, le-ltb _ _ (c .if2 .left))
 
 pub get-freq-spec : {M : Type 1} → statement M
+unfolding gpoutOf
 get-freq-spec =
     tie.close
-    (tie.spec returns (λ c κs. search needs) (λ c. search needs) (λ c. search needs) (λ c. search needs)
-    (λ c κs. search needs) returns-2 returns-3)
+    (tie.spec
+    (λ c. rw (lt-leb _ _ (c .if1 .taken))) (λ c κs. search needs) (λ c. search needs) (λ c. search needs)
+    (λ c. search needs) (λ c κs. search needs) returns-2 returns-3)

@@ -12,12 +12,10 @@ cast-result-2 c =
     let args = c .before .args in
     omega (arith, divided-le (args .source) (c .gpout-whole .result) (args .div-frac) (omega arith))
 
-returns : tie.Need-returns
-unfolding dividedHz
-returns c = rw (c .gpout-whole .ensures .0)
-
 pub gpout-hz-spec : {M : Type 1} → statement M
+unfolding dividedHz
 gpout-hz-spec =
     tie.close
-    (tie.spec (λ c κs. search needs) (λ c. search needs) (λ c. search needs) (λ c. search needs) (λ c. search needs)
-    (λ c. search needs) cast-result-2 returns)
+    (tie.spec
+    (λ c κs. search needs) (λ c. search needs) (λ c. search needs) (λ c. search needs) (λ c. search needs)
+    (λ c. search needs) cast-result-2 (λ c. rw (c .gpout-whole .ensures .0)))

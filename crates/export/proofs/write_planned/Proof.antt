@@ -2,7 +2,7 @@
 -- Assumes nothing.
 use borrow.Author.Needs.{needs}
 use mathlib.Core.Path.{_≡_, refl, ap, _∙_}
-use Rattle.export.specs.Numbers.{numberOf, itself}
+use Rattle.export.specs.Numbers.{answerNumber, itself}
 use Rattle.export.proofs.write_planned.Statement.{statement}
 use Rattle.export.proofs.write_planned.Tie as tie
 
@@ -11,11 +11,11 @@ returns c =
     let i = c .before .before .before in
     let plan = i .before .before .before .plan .given .1 in
     let o = i .init .ensures in
-    rw plan (record { answer = c .written .ensures ∙ ap (numberOf itself) (o .answer); bytes = o .bytes })
+    rw plan (record { answer = c .length .ensures ∙ ap (answerNumber itself) (o .answer); bytes = o .bytes; typed = o .typed })
 
 returns-2 : tie.Need-returns-2
 returns-2 c =
-    rw (c .before .before .plan2 .given .1) (record { answer = c .refused .ensures; bytes = refl })
+    rw (c .before .before .plan2 .given .1) (record { answer = c .refused .ensures; bytes = refl; typed = tt })
 
 pub write-planned-spec : {M : Type 1} → statement M
 write-planned-spec =

@@ -10,4 +10,5 @@ returns-2 c = sym (List·getD-eq-default (c .before .args .row .now) 0 (c .if1 .
 
 pub number-at-spec : {M : Type 1} → statement M
 number-at-spec =
-    tie.close (tie.spec (λ c. search needs) (λ c. search needs) (λ c. search needs) returns-2)
+    tie.close
+    (tie.spec (λ c. search needs) (λ c. search needs) (λ c. search needs) returns-2)

@@ -10,4 +10,5 @@ returns-2 c = sym (set-out _ _ _ (c .if1 .left))
 
 pub set-number-spec : {M : Type 1} → statement M
 set-number-spec =
-    tie.close (tie.spec (λ c. search needs) (λ c. search needs) (λ c. search needs) (λ c. search needs) returns-2)
+    tie.close
+    (tie.spec (λ c. search needs) (λ c. search needs) (λ c. search needs) (λ c. search needs) returns-2)

@@ -6,7 +6,7 @@ use borrow.Author.Needs.{needs}
 use lib.ListN.{length, length-take}
 use lib.Dec.{ltb}
 use Rattle.base.proofs.Placing.{placed-append}
-use Rattle.base.proofs.Bools.{or-false}
+use Rattle.base.proofs.Bools.{both-false}
 use Rattle.cases.proofs.Settled.{settled}
 use Rattle.lines.proofs.answer_held.Statement.{statement}
 use Rattle.lines.proofs.answer_held.Tie as tie
@@ -21,7 +21,7 @@ slice-aggregate-answer c =
     let args = c .before .before .before .before .args in
     let held = length (args .held .now) in
     let fits : args .len ≤ held =
-    ltb-false held (args .len) (or-false (args .over) (ltb held (args .len)) (c .before .if1 .left) .1)
+    ltb-false held (args .len) (both-false (args .over) (ltb held (args .len)) (c .before .if1 .left) .1)
     in
     simp length-take (omega arith)
 

@@ -6,8 +6,9 @@ use Prim.Native.Nat.{ℕ, _+_, _-_, _*_, _≤_}
 use borrow.Author.Needs.{needs}
 use native.Mathlib.Omega.{arith}
 use lib.ListN.{length}
-use Rattle.pll.specs.Search.{keep}
-use Rattle.lister.specs.Order.{rising, atFeedback, meets, inOrder, listOf, Wrote}
+use Rattle.pll.specs.Ranges.{feedbackMin, feedbackMax}
+use Rattle.pll.specs.Search.{rising, keep}
+use Rattle.lister.specs.Order.{atFeedback, meets, inOrder, listOf, Wrote}
 use Rattle.lister.proofs.Writing.{same-size}
 use Rattle.lister.proofs.Walks.{rising-step, rising-end, one-more, done}
 use Rattle.lister.proofs.put_list.Statement.{statement}
@@ -16,41 +17,42 @@ use Rattle.lister.proofs.put_list.Tie as tie
 abbrev Inv-loop : tie.InvT-loop
 Inv-loop buf₀ input target next₀ fbdiv₀ buf next fbdiv =
     (length buf ≡ length buf₀)
-    × (16 ≤ fbdiv)
-    × (fbdiv ≤ 321)
-    × (next ≤ 14 * (fbdiv - 16))
+    × (feedbackMin ≤ fbdiv)
+    × (fbdiv ≤ feedbackMax + 1)
+    × (next ≤ 14 * (fbdiv - feedbackMin))
     × ((after : List ℕ) (r : ℕ)
-    → Wrote buf next (keep (meets input target) (flatMap atFeedback (rising (321 - fbdiv) fbdiv))) after r
-    → Wrote buf₀ 0 (keep (meets input target) (flatMap atFeedback (rising 305 16))) after r)
+    → Wrote buf next (keep (meets input target) (flatMap atFeedback (rising (feedbackMax + 1 - fbdiv) fbdiv))) after r
+    → Wrote buf₀ 0 (keep (meets input target) (flatMap atFeedback (rising (feedbackMax + 1 - feedbackMin) feedbackMin))) after r)
 
 abbrev μ-loop : tie.MeasureT-loop
-μ-loop buf₀ input target next₀ fbdiv₀ buf next fbdiv = 321 - fbdiv
+μ-loop buf₀ input target next₀ fbdiv₀ buf next fbdiv = feedbackMax + 1 - fbdiv
 
 loop-again : tie.Need-loop-again Inv-loop μ-loop
 loop-again c =
-    let p = c .before .before in
-    let l = p .before .before .before in
-    let a = l .before .before .args in
-    let w = p .put-feedback .ensures .0 in
-    let t = meets (a .input-hz) (a .target-hz) in
-    let fb = l .loop .fbdiv in (
-      same-size (keep t (atFeedback fb)) w ∙ l .loop .inv .0,
+    let put = c .before .before in
+    let turn = put .before .before .before in
+    let args = turn .before .before .args in
+    let wrote = put .put-feedback .ensures .0 in
+    let test = meets (args .input-hz) (args .target-hz) in
+    let fb = turn .loop .fbdiv in (
+      same-size (keep test (atFeedback fb)) wrote ∙ turn .loop .inv .0,
       omega arith,
       omega arith,
-      omega (arith, p .put-feedback .ensures .1),
-      λ after r v. l .loop .inv .4 after r
-          (one-more t atFeedback fb (rising (321 - fb) fb) (rising (321 - (fb + 1)) (fb + 1))
-          (rising-step (321 - fb) (321 - (fb + 1)) fb (omega arith)) w v),
+      omega (arith, put .put-feedback .ensures .1),
+      λ after r rest. turn .loop .inv .4 after r
+          (one-more test atFeedback fb (rising (feedbackMax + 1 - fb) fb) (rising (feedbackMax + 1 - (fb + 1)) (fb + 1))
+          (rising-step (feedbackMax + 1 - fb) (feedbackMax + 1 - (fb + 1)) fb (omega arith)) wrote rest),
     )
 
 returns : tie.Need-returns Inv-loop μ-loop
 unfolding listOf inOrder
 returns c =
-    let l = c .before .loop in
-    let a = c .before .before .before .args in
-    l .inv .4 (l .buf) (l .next)
-    (done (meets (a .input-hz) (a .target-hz)) (l .buf) (l .next) atFeedback (rising (321 - l .fbdiv) (l .fbdiv))
-    (rising-end (321 - l .fbdiv) (l .fbdiv) (omega arith)))
+    let loop = c .before .loop in
+    let args = c .before .before .before .args in
+    loop .inv .4 (loop .buf) (loop .next)
+    (done (meets (args .input-hz) (args .target-hz)) (loop .buf) (loop .next) atFeedback
+    (rising (feedbackMax + 1 - loop .fbdiv) (loop .fbdiv))
+    (rising-end (feedbackMax + 1 - loop .fbdiv) (loop .fbdiv) (omega arith)))
 
 pub put-list-spec : {M : Type 1} → statement M
 put-list-spec =

@@ -29,22 +29,22 @@ claims t = (best.Asked, best.Learnt, lower.Asked, lower.Learnt, walk-below t, wa
 
 walk-returns : (t : ℕ) → walk-lts.Need-returns (claims t) (walk-at t) walk.Post
 walk-returns t c =
-    let l = c .before in
-    rw (l .lower .ensures)
-    (stop-exact _ _ _ _ _ (l .before .best-feedback .ensures) (omega arith) (omega arith) (omega arith))
+    let lowered = c .before in
+    rw (lowered .lower .ensures)
+    (stop-exact _ _ _ _ _ (lowered .before .best-feedback .ensures) (omega arith) (omega arith) (omega arith))
 
 walk-returns-2 : (t : ℕ) → walk-lts.Need-returns-2 (claims t) (walk-at t) walk.Post
 walk-returns-2 t c =
-    let l = c .before .before in
-    rw (l .lower .ensures)
-    (stop-last _ _ _ _ _ (l .before .best-feedback .ensures) (omega arith) (omega arith) (omega arith))
+    let lowered = c .before .before in
+    rw (lowered .lower .ensures)
+    (stop-last _ _ _ _ _ (lowered .before .best-feedback .ensures) (omega arith) (omega arith) (omega arith))
 
 walk-returns-3 : (t : ℕ) → walk-lts.Need-returns-3 (claims t) (walk-at t) walk.Post
 walk-returns-3 t c =
-    let l = c .before .before .before in
-    walk-on _ _ _ _ _ (l .before .best-feedback .ensures) (omega arith) _ (rw (l .lower .ensures) at (c .walk .ensures))
+    let lowered = c .before .before .before in
+    walk-on _ _ _ _ _ (lowered .before .best-feedback .ensures) (omega arith) _ (rw (lowered .lower .ensures) at (c .walk .ensures))
 
 pub +walk-spec : {M : Type 1} → statement M
 +walk-spec = close μ-walk λ t. walk-lts.spec (claims t) (walk-at t) walk.Post
-    (λ c κs. search needs) (λ c κs. search needs) (walk-returns t) (walk-returns-2 t)
+    (λ c κs. search needs) (λ c κs. search needs) (walk-returns t) (λ c. search needs) (walk-returns-2 t)
     (λ c. search needs) (λ c κs. search needs) (walk-returns-3 t)

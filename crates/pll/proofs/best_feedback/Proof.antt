@@ -2,7 +2,7 @@
 -- Assumes nothing.
 use native.Mathlib.Omega.{arith}
 use borrow.Author.Needs.{needs}
-use Rattle.pll.proofs.Sizes.{product-fits}
+use Rattle.base.proofs.Products.{product-fits}
 use Rattle.pll.proofs.Steps.{none-here}
 use Rattle.pll.proofs.best_feedback.Statement.{statement}
 use Rattle.pll.proofs.best_feedback.Tie as tie

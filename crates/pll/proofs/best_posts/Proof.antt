@@ -8,10 +8,10 @@ use Rattle.pll.proofs.best_posts.Tie as tie
 
 returns : tie.Need-returns
 returns c =
-    let n = c .before .before .before in
-    let p = n .before .before .pre in
+    let near = c .before .before .before in
+    let pre = near .before .before .pre in
     rw (c .lower .ensures, c .before .rank2 .ensures, c .before .before .rank .ensures)
-    (nearest-lowest _ _ _ (p .0) (p .1) (p .2) _ _ (n .before .wanted-product .ensures) (n .posts-near .ensures)
+    (nearest-lowest _ _ _ (pre .0) (pre .1) (pre .2) _ _ (near .before .wanted-product .ensures) (near .posts-near .ensures)
     (omega arith))
 
 pub best-posts-spec : {M : Type 1} → statement M

@@ -14,4 +14,4 @@ returns-2 : tie.Need-returns-2
 returns-2 c = none-found _ _ _ (omega arith) (c .before .walk .ensures) (omega arith)
 
 pub find-pll-params-spec : {M : Type 1} → statement M
-find-pll-params-spec = tie.close (tie.spec (λ c κs. search needs) (λ c κs. search needs) returns returns-2)
+find-pll-params-spec = tie.close (tie.spec (λ c. search needs) (λ c κs. search needs) (λ c κs. search needs) returns returns-2)

@@ -4,11 +4,9 @@ use borrow.Author.Needs.{needs}
 use Rattle.refusals.proofs.pll_invalid.Statement.{statement}
 use Rattle.refusals.proofs.pll_invalid.Tie as tie
 
-returns : tie.Need-returns
-returns c = λ hz e. rw (e, c .enum-told .given .1, pll-silent)
-
-returns-2 : tie.Need-returns-2
-returns-2 c = λ hz e. rw (c .enum-told2 .given .1)
-
 pub pll-invalid-spec : {M : Type 1} → statement M
-pll-invalid-spec = tie.close (tie.spec (λ c. search needs) (λ c. search needs) returns returns-2)
+pll-invalid-spec =
+    tie.close
+    (tie.spec
+    (λ c. search needs) (λ c. search needs) (λ c. λ hz e. rw (e, c .enum-told .given .1, pll-silent))
+    (λ c. λ hz e. rw (c .enum-told2 .given .1)))

@@ -13,11 +13,10 @@ returns c =
     let known = c .before .before .crystal .given .1 in
     λ ring e. rw known (c .pll-invalid .ensures _ (ap (λ (f : Sources). f .«pll_usb») (rw known at e)))
 
-returns-2 : tie.Need-returns-2
-unfolding usbPllInvalid
-returns-2 c = λ ring e. rw (c .enum-told .given .1)
-
 pub usb-pll-invalid-spec : {M : Type 1} → statement M
+unfolding usbPllInvalid sourcesOf
 usb-pll-invalid-spec =
     tie.close
-    (tie.spec (λ c. search needs) (λ c κs. search needs) (λ c. search needs) returns returns-2)
+    (tie.spec
+    (λ c. search needs) (λ c κs. search needs) (λ c. search needs) returns
+    (λ c. λ ring e. rw (c .enum-told .given .1)))

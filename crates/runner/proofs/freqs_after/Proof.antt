@@ -25,27 +25,14 @@ unchanged Passed freqs k = refl
 unchanged Waiting freqs k = refl
 unchanged (Refused n) freqs k = refl
 
-returns : tie.Need-returns
-returns c = unchanged (c .before .args .reply) (c .before .args .freqs) (c .match .keys2)
-
-returns-2 : tie.Need-returns-2
-unfolding storedBy
-returns-2 c = rw (c .before .before .before .reply .given .1, ne-eqb _ _ (c .if1 .taken))
-
-returns-3 : tie.Need-returns-3
-unfolding storedBy
-returns-3 c =
-    let c4 = c .before .before .before .before in
-    rw (c4 .reply .given .1, eq-eqb _ _ (c .before .if1 .left))
-
 pub freqs-after-spec : {M : Type 1} → statement M
+unfolding storedBy
 freqs-after-spec =
     tie.close
-    (tie.spec (λ c. search needs) returns returns-2
-    (λ c. let c4 = c .before .before .before .before in
-    omega (arith, store-fits _ (rw (c4 .reply .given .1) at (c4 .before .before .pre)) (c .before .if1 .left) .1))
-    (λ c. let c4 = c .before .before .before .before in
-    omega (arith, store-fits _ (rw (c4 .reply .given .1) at (c4 .before .before .pre)) (c .before .if1 .left) .0))
-    (λ c. let c4 = c .before .before .before .before in
-    omega (arith, store-fits _ (rw (c4 .reply .given .1) at (c4 .before .before .pre)) (c .before .if1 .left) .0))
-    returns-3)
+    (tie.spec
+    (λ c. search needs) (λ c. unchanged (c .before .args .reply) (c .before .args .freqs) (c .match .keys2))
+    (λ c. rw (c .before .before .before .reply .given .1, ne-eqb _ _ (c .if1 .taken)))
+    (λ c. let handed = c .before .before .before .before in omega (arith, store-fits _ (rw (handed .reply .given .1) at (handed .before .before .pre)) (c .before .if1 .left) .1))
+    (λ c. let handed = c .before .before .before .before in omega (arith, store-fits _ (rw (handed .reply .given .1) at (handed .before .before .pre)) (c .before .if1 .left) .0))
+    (λ c. let handed = c .before .before .before .before in omega (arith, store-fits _ (rw (handed .reply .given .1) at (handed .before .before .pre)) (c .before .if1 .left) .0))
+    (λ c. rw (c .before .before .before .before .reply .given .1, eq-eqb _ _ (c .before .if1 .left))))

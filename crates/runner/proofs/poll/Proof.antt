@@ -147,7 +147,7 @@ module _ {M : Type 1} (𝓤 : URA M) (H : Heap 𝓤) (A : Atoms 𝓤) (W : Given
       suffices ! _ (ends-at 𝓤 H A poll.ended stayed (poll.clauses 𝓤 H A at-mem run) W
       (((κ, (κ′, tt)), (q, (q′, tt)), tt, a, vals), tt) (said-val (s .reply)) (s .reply) (s .runner, (tt, (tt, tt)))
       (tt, (tt, (tt, tt)))) $
-      says ! (ap (λ (x : Outcome Runner). x .answer) e, ap (λ (x : Outcome Runner). x .next) e) $
+      says ! e $
       move ! (2 ∷ 3 ∷ []) $ join ! $ frame ! $
       -- [obs; the borrow; what the sheet owns]
       feqI ! (List Val) (vptr b o ∷ []) (vptr b o ∷ []) refl $ fjoin3 ! $ nothing ! $

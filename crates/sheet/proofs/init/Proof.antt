@@ -1,65 +1,63 @@
 -- `sheet::init` meets its contract: each of its three ends. Assumes nothing.
+use mathlib.Core.Path.{sym, _∙_}
+use mathlib.Core.List.{List}
+use Prim.Native.Nat.{ℕ}
 use native.Mathlib.Omega.{arith}
-use mathlib.Core.Path.{_≡_, sym, ap, _∙_}
 use denote.Ref.{now}
 use borrow.Author.Needs.{needs}
-use Rattle.refusals.specs.declared.Examined.{Examined}
-use Rattle.sheet.proofs.Ends.{ready, refused, too-short, accepted}
+use borrow.Author.Tests.{not-true, not-false}
+use Rattle.sheet.specs.Gather.{held}
+use Rattle.sheet.specs.Writer.{sheetBytes}
+use Rattle.sheet.proofs.Ends.{Looked, looked, Ready, ready, copy-short, copy-whole, refused, too-short, accepted}
 use Rattle.sheet.proofs.init.Statement.{statement}
 use Rattle.sheet.proofs.init.Tie as tie
 
-number-of : {x y : Examined} → x ≡ y → x .number ≡ y .number
-number-of e = ap (λ (x : Examined). x .number) e
+-- what is known after the plan was examined, and after its steps were gathered
+seen : (c : tie.After-examine) → Looked (c .before .before .before .args .config) (c .before .before .before .args .reading)
+    (c .before .settings-of .result) (c .examine .result)
+seen c = looked _ _ (c .before .settings-of .ensures) (c .examine .ensures)
+
+gathered : (c : tie.After-gather) → Ready (held (c .gather .last .0) (c .gather .result))
+    (sheetBytes (c .before .before .before .before .before .before .before .before .args .config)
+    (c .before .before .before .before .before .before .before .before .args .reading))
+gathered c = ready _ _ (seen (c .before .before .before .before .before)) (c .gather .ensures)
 
 returns : tie.Need-returns
 returns c =
-    let e = c .before .before in
-    let r = e .examine .ensures in
-    let a = e .before .before .args in
-    rw (number-of (r .0))
-    (refused (a .config) (a .reading) (now (a .sheet)) (r .1) (λ z. c .if1 .taken (number-of (r .0) ∙ z)))
-
-mul-size : tie.Need-mul-size
-mul-size c =
-    let e = c .before .before .before .before in
-    let a = e .before .before .args in
-    omega (arith, ready (a .config) (a .reading) (e .examine .ensures .0) (c .gather .ensures) .few)
+    let examined = c .before .before in
+    let found = seen examined in
+    rw (found .number-is)
+    (refused _ _ _ (found .typed) (λ z. c .if1 .taken (found .number-is ∙ z)))
 
 returns-2 : tie.Need-returns-2
 returns-2 c =
-    let g = c .before in
-    let i = g .before .before in
-    let e = i .before .before in
-    let r = e .examine .ensures in
-    let a = e .before .before .args in
-    too-short (a .config) (a .reading) (now (a .sheet)) (r .1) (sym (number-of (r .0)) ∙ i .if1 .left)
-    (rw (ready (a .config) (a .reading) (r .0) (g .gather .ensures) .size) (c .if2 .taken))
-
-copy-out-requires : tie.Need-copy-out-requires
-copy-out-requires c κs =
-    let k = c .before .before in
-    let g = k .before in
-    let e = g .before .before .before .before in
-    let a = e .before .before .args in
-    let y = ready (a .config) (a .reading) (e .examine .ensures .0) (g .gather .ensures) in
-    (y .few, y .whole, k .if2 .left)
+    let copy = c .before .before .before in
+    let gather = copy .before .before .before in
+    let fine = gather .before .before .before in
+    let examined = fine .before .before in
+    let found = seen examined in
+    let b : List ℕ = now (examined .before .before .before .args .sheet) in
+    let short = copy-short _ _ b (gathered gather) (sym (copy .copy-turned .ensures .0) ∙ not-true _ (c .if2 .taken)) in
+    rw (copy .copy-turned .ensures .1, short .1)
+    (too-short _ _ b (found .typed) (sym (found .number-is) ∙ fine .if1 .left) (short .0))
 
 returns-3 : tie.Need-returns-3
 returns-3 c =
-    let w = c .before .before in
-    let k = w .before .before .before in
-    let g = k .before in
-    let i = g .before .before in
-    let e = i .before .before in
-    let r = e .examine .ensures in
-    let a = e .before .before .args in
-    let y = ready (a .config) (a .reading) (r .0) (g .gather .ensures) in
-    rw (w .copy-out .ensures, y .content, ← y .size)
-    (accepted (a .config) (a .reading) (now (a .sheet)) (r .1) (sym (number-of (r .0)) ∙ i .if1 .left)
-    (rw (y .size) (k .if2 .left)))
+    let copy = c .before .before .before in
+    let gather = copy .before .before .before in
+    let fine = gather .before .before .before in
+    let examined = fine .before .before in
+    let found = seen examined in
+    let b : List ℕ = now (examined .before .before .before .args .sheet) in
+    let whole = copy-whole _ _ b (gathered gather) (sym (copy .copy-turned .ensures .0) ∙ not-false _ (c .if2 .left)) in
+    rw (copy .copy-turned .ensures .1, whole .1, ← gathered gather .size)
+    (accepted _ _ b (found .typed) (sym (found .number-is) ∙ fine .if1 .left) (whole .0))
 
 pub init-spec : {M : Type 1} → statement M
 init-spec =
     tie.close
-    (tie.spec (λ c κs. search needs) returns (λ c κs. search needs) mul-size returns-2 copy-out-requires
-    (λ c. search needs) returns-3)
+    (tie.spec
+    (λ c κs. search needs) (λ c κs. search needs) returns (λ c κs. search needs) (λ c. gathered c .room)
+    (λ c. sym (gathered (c .before) .count)) (λ c κs. search needs) (λ c. search needs) returns-2
+    (λ c. omega (arith, gathered (c .before .before .before .before .before .before) .few)) (λ c. search needs)
+    returns-3)

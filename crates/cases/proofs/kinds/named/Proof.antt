@@ -1,6 +1,4 @@
 -- `cases::kinds::named` meets its contract. Assumes nothing.
-use borrow.Author.Needs.{needs}
-use Rattle.cases.proofs.Table.{or-named}
 use Rattle.cases.specs.declared.Kind.the-variants.{
   Valid,
   Output,
@@ -16,27 +14,35 @@ use Rattle.cases.specs.declared.Kind.the-variants.{
   System,
   Manual,
 }
-use Rattle.text.specs.Ascii.{ascii}
+use Rattle.cases.proofs.Named.{or-named}
+use borrow.Author.Needs.{needs}
 use Rattle.cases.proofs.kinds.named.Statement.{statement}
 use Rattle.cases.proofs.kinds.named.Tie as tie
 
 returns : tie.Need-returns
 returns c =
-    let name = c .before .before .before .before .before .before .before .before .before .before .before .before .before .before .before .before .before .before .before .before .before .before .before .before .before .before .before .before .before .args .name .now in
-    or-named name (ascii "valid") Valid (c .where-named14 .ensures)
-    (or-named name (ascii "output") Output (c .before .before .where-named13 .ensures)
-    (or-named name (ascii "search") Search (c .before .before .before .before .where-named12 .ensures)
-    (or-named name (ascii "list") Settings (c .before .before .before .before .before .before .where-named11 .ensures)
-    (or-named name (ascii "voltage") Voltage (c .before .before .before .before .before .before .before .before .where-named10 .ensures)
-    (or-named name (ascii "pio") Pio (c .before .before .before .before .before .before .before .before .before .before .where-named9 .ensures)
-    (or-named name (ascii "gpout") Gpout (c .before .before .before .before .before .before .before .before .before .before .before .before .where-named8 .ensures)
-    (or-named name (ascii "sheet") Sheet (c .before .before .before .before .before .before .before .before .before .before .before .before .before .before .where-named7 .ensures)
-    (or-named name (ascii "crystal") Crystal (c .before .before .before .before .before .before .before .before .before .before .before .before .before .before .before .before .where-named6 .ensures)
-    (or-named name (ascii "rosc") Rosc (c .before .before .before .before .before .before .before .before .before .before .before .before .before .before .before .before .before .before .where-named5 .ensures)
-    (or-named name (ascii "default") Default (c .before .before .before .before .before .before .before .before .before .before .before .before .before .before .before .before .before .before .before .before .where-named4 .ensures)
-    (or-named name (ascii "system") System (c .before .before .before .before .before .before .before .before .before .before .before .before .before .before .before .before .before .before .before .before .before .before .where-named3 .ensures)
-    (or-named name (ascii "manual") Manual (c .before .before .before .before .before .before .before .before .before .before .before .before .before .before .before .before .before .before .before .before .before .before .before .before .where-named2 .ensures)
-    (c .before .before .before .before .before .before .before .before .before .before .before .before .before .before .before .before .before .before .before .before .before .before .before .before .before .before .where-named .ensures)))))))))))))
+    let where-named13 = c .before .before in let where-named12 = where-named13 .before .before in
+    let where-named11 = where-named12 .before .before in let where-named10 = where-named11 .before .before in
+    let where-named9 = where-named10 .before .before in let where-named8 = where-named9 .before .before in
+    let where-named7 = where-named8 .before .before in let where-named6 = where-named7 .before .before in
+    let where-named5 = where-named6 .before .before in let where-named4 = where-named5 .before .before in
+    let where-named3 = where-named4 .before .before in let where-named2 = where-named3 .before .before in
+    let where-named = where-named2 .before .before in let start = where-named .before .before .before in
+    let name = start .args .name .now in
+    or-named name Valid (c .where-named14 .ensures)
+    (or-named name Output (where-named13 .where-named13 .ensures)
+    (or-named name Search (where-named12 .where-named12 .ensures)
+    (or-named name Settings (where-named11 .where-named11 .ensures)
+    (or-named name Voltage (where-named10 .where-named10 .ensures)
+    (or-named name Pio (where-named9 .where-named9 .ensures)
+    (or-named name Gpout (where-named8 .where-named8 .ensures)
+    (or-named name Sheet (where-named7 .where-named7 .ensures)
+    (or-named name Crystal (where-named6 .where-named6 .ensures)
+    (or-named name Rosc (where-named5 .where-named5 .ensures)
+    (or-named name Default (where-named4 .where-named4 .ensures)
+    (or-named name System (where-named3 .where-named3 .ensures)
+    (or-named name Manual (where-named2 .where-named2 .ensures)
+    (where-named .where-named .ensures)))))))))))))
 
 pub named-spec : {M : Type 1} → statement M
 named-spec =

@@ -1,22 +1,24 @@
 -- `cases::lists::put_list` meets its contract. Assumes nothing.
-use mathlib.Core.Path.{sym}
+use Rattle.sheet_cases.proofs.Buffers.{length-same}
 use native.Mathlib.Omega.{arith}
+use mathlib.Core.Path.{sym}
 use borrow.Author.Needs.{needs}
-use Rattle.cases.proofs.Buffers.{length-same}
 use Rattle.cases.proofs.lists.put_list.Statement.{statement}
 use Rattle.cases.proofs.lists.put_list.Tie as tie
 
 slice-aggregate-put-list-in : tie.Need-slice-aggregate-put-list-in
-slice-aggregate-put-list-in c = sym (length-same (c .before .before .number-at3 .result) 1024 238 (omega arith))
+slice-aggregate-put-list-in c = sym (length-same (c .before .before .room-at .result) 1024 238 (omega arith))
 
 returns : tie.Need-returns
 returns c =
-    let long = length-same (c .before .before .before .before .before .before .number-at3 .result) 1024 238 (omega arith) in
-    rw (long, c .before .before .before .before .before .before .number-at3 .ensures, c .before .before .before .before .before .before .before .before .number-at2 .ensures, c .before .before .before .before .before .before .before .before .before .before .number-at .ensures) at
-    (c .before .before .before .put-list-in .ensures)
+    let put-list-in = c .before .before .before in let room-at = put-list-in .before .before .before in
+    let number-at2 = room-at .before .before in let number-at = number-at2 .before .before in
+    let long = length-same (room-at .room-at .result) 1024 238 (omega arith) in
+    rw (long, room-at .room-at .ensures, number-at2 .number-at2 .ensures, number-at .number-at .ensures) at
+    (put-list-in .put-list-in .ensures)
 
 pub put-list-spec : {M : Type 1} → statement M
 put-list-spec =
     tie.close
     (tie.spec (λ c κs. search needs) (λ c κs. search needs) (λ c κs. search needs) (λ c. search needs)
-    (λ c. search needs) slice-aggregate-put-list-in (λ c κs. search needs) (λ c. search needs) returns)
+    slice-aggregate-put-list-in (λ c κs. search needs) (λ c. search needs) returns)

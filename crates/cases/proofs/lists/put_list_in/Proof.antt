@@ -6,11 +6,12 @@ use Rattle.cases.proofs.lists.put_list_in.Tie as tie
 
 returns : tie.Need-returns
 returns c =
-    let listing = c .before .before .before .before .before .before .before .list-exact .ensures in
+    let put-listed = c .before .before in let list-exact = put-listed .before .before .before .before .before in
+    let listing = list-exact .list-exact .ensures in
     record {
       settings = listing .settings;
       once = listing .once;
-      placed = rw (listed-text _ _ _ _ _ listing) at (c .before .before .put-listed .ensures);
+      placed = rw (listed-text _ _ _ _ _ listing) at (put-listed .put-listed .ensures);
     }
 
 pub put-list-in-spec : {M : Type 1} → statement M

@@ -4,10 +4,14 @@ use Rattle.cases.proofs.lists.put_listed.Statement.{statement}
 use Rattle.cases.proofs.lists.put_listed.Tie as tie
 
 returns : tie.Need-returns
-returns c = rw (c .before .before .before .before .before .listed .given .1) (c .before .before .put-written .ensures)
+returns c =
+    let put-written = c .before .before in let listed = put-written .before .before .before in
+    rw (listed .listed .given .1) (put-written .put-written .ensures)
 
 returns-2 : tie.Need-returns-2
-returns-2 c = rw (c .before .before .before .before .before .listed2 .given .1) (c .before .before .put-refused .ensures)
+returns-2 c =
+    let put-refused = c .before .before in let listed2 = put-refused .before .before .before in
+    rw (listed2 .listed2 .given .1) (put-refused .put-refused .ensures)
 
 pub put-listed-spec : {M : Type 1} → statement M
 put-listed-spec =

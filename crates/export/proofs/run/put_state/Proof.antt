@@ -7,7 +7,7 @@ use Rattle.export.proofs.run.put_state.Tie as tie
 
 returns : tie.Need-returns
 unfolding withState
-returns c = rw (c .mark .ensures)
+returns c = rw (c .bit .ensures)
 
 pub put-state-spec : {M : Type 1} → statement M
 put-state-spec =

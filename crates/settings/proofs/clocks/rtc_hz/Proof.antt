@@ -1,14 +1,18 @@
--- `settings::rtc_hz` meets its contract. Assumes nothing.
+-- `settings::clocks::rtc_hz` meets its contract. Assumes nothing.
+use mathlib.Core.Path.{refl}
+use native.Mathlib.Omega.{arith}
 use borrow.Author.Needs.{needs}
 use Rattle.settings.proofs.clocks.rtc_hz.Statement.{statement}
 use Rattle.settings.proofs.clocks.rtc_hz.Tie as tie
 
 returns : tie.Need-returns
 returns c =
-    rw (c .before .before .before .before .rtc .given .1, c .divided-hz .ensures, c .before .aux-source .ensures, c .before .before .rtc-aux .ensures)
+    let known = c .before .before .before .rtc .given .1 in
+    (rw (known, c .divided-hz .ensures, c .before .aux-source .ensures), rw known (omega arith))
 
 pub rtc-hz-spec : {M : Type 1} → statement M
 rtc-hz-spec =
     tie.close
-    (tie.spec (λ c. search needs) (λ c κs. search needs) (λ c κs. search needs) (λ c κs. search needs)
-    (λ c. search needs) returns (λ c. search needs))
+    (tie.spec
+    (λ c. search needs) (λ c κs. search needs) (λ c κs. search needs) (λ c. search needs) returns
+    (λ c. rw (c .enum-told .given .1) (refl, tt)))

@@ -1,0 +1,14 @@
+-- Products of 32-bit numbers fit 64 bits.
+-- Assumes nothing.
+use Prim.Native.Nat.{ℕ, _*_, _≤_, _<_}
+use native.Mathlib.Nat.{mul-le-mul}
+use native.Mathlib.Omega.{arith}
+use mir.Syntax.{w64}
+use mir.Val.{Fits}
+
+-- the largest is some 2 ^ 33 below the top
+pub product-most : (a b : ℕ) → a < 4294967296 → b < 4294967296 → a * b ≤ 18446744065119617025
+product-most a b ha hb = mul-le-mul {n₂ = 4294967295} {m₂ = 4294967295} (omega arith) (omega arith)
+
+pub product-fits : (a b : ℕ) → a < 4294967296 → b < 4294967296 → Fits w64 (a * b)
+product-fits a b ha hb = omega (arith, product-most a b ha hb)

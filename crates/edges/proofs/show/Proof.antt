@@ -1,0 +1,12 @@
+-- `edges::show` meets its contract. Assumes nothing.
+use mathlib.Core.Path.{sym}
+use borrow.Author.Needs.{needs}
+use lib.Seq.{length-take-le}
+use Rattle.edges.proofs.show.Statement.{statement}
+use Rattle.edges.proofs.show.Tie as tie
+
+pub show-spec : {M : Type 1} → statement M
+show-spec =
+    tie.close
+    (tie.spec (λ c κs. search needs) (λ c. c .report .ensures .fits)
+    (λ c. sym (length-take-le _ _ (c .before .report .ensures .fits))) (λ c κs. search needs) (λ c. search needs))

@@ -1,0 +1,86 @@
+// The cases that are about numbers alone. Each takes the numbers n of the case; its limits stand in `cases`.
+use base::Number;
+use pll::Found;
+use pll::PllConfig;
+use voltage::VoltageRead;
+ghost use mathlib.Core.Path.{_≡_};
+ghost use Rattle.base.specs.Answer.{numberIs};
+ghost use Rattle.base.specs.Placed.{Placed};
+ghost use Rattle.text.specs.Decimal.{decimalOf};
+ghost use Rattle.replies.specs.Reply.{answerText};
+ghost use Rattle.number_cases.specs.Numbers.{pllText, validText, outputText, searchText, voltageText, pioText, gpoutText};
+
+pub fn put_valid(n: &[u32; 64], out: &mut [u8]) -> usize
+    ensures { λ r. ⌜ Placed (now (out .entry)) 0 (validText (now (n .entry))) r (now (out .exit)) ⌝ }
+{
+    let p = fields::pll_at(n, 1);
+    replies::put_yes_no(out, p.is_valid(fields::number_at(n, 0)))
+}
+
+pub fn put_output(n: &[u32; 64], out: &mut [u8]) -> usize
+    ensures { λ r. ⌜ Placed (now (out .entry)) 0 (outputText (now (n .entry))) r (now (out .exit)) ⌝ }
+{
+    let p = fields::pll_at(n, 1);
+    put_number(out, p.output_frequency(fields::number_at(n, 0)))
+}
+
+fn put_pll(out: &mut [u8], p: PllConfig) -> usize
+    ensures { λ r. ⌜ Placed (now (out .entry)) 0 (pllText p) r (now (out .exit)) ⌝ }
+{
+    replies::put_row(
+        out,
+        0,
+        p.refdiv as u64,
+        &[p.fbdiv as u64, p.post_div1 as u64, p.post_div2 as u64],
+    )
+}
+
+pub fn put_search(n: &[u32; 64], out: &mut [u8]) -> usize
+    ensures { λ r. ⌜ Placed (now (out .entry)) 0 (searchText (now (n .entry))) r (now (out .exit)) ⌝ }
+{
+    match pll::find_pll_params(fields::number_at(n, 0), fields::number_at(n, 1)) {
+        Found::Params(p) => put_pll(out, p),
+        Found::Refused(number) => replies::put_refused(out, number),
+    }
+}
+
+pub fn put_voltage(n: &[u32; 64], out: &mut [u8]) -> usize
+    ensures { λ r. ⌜ Placed (now (out .entry)) 0 (voltageText (now (n .entry))) r (now (out .exit)) ⌝ }
+{
+    match voltage::core_voltage(fields::byte_at(n, 0)) {
+        VoltageRead::Voltage(v) => {
+            replies::put_row(out, 0, v.code() as u64, &[v.recommended_bod() as u64])
+        }
+        VoltageRead::Refused(number) => replies::put_refused(out, number),
+    }
+}
+
+fn put_number(out: &mut [u8], answer: Number) -> usize
+    ensures { λ r. ⌜ Placed (now (out .entry)) 0 (answerText decimalOf (numberIs answer)) r (now (out .exit)) ⌝ }
+{
+    match answer {
+        Number::Value(value) => text::put_decimal(out, 0, value as u64),
+        Number::Refused(number) => replies::put_refused(out, number),
+    }
+}
+
+pub fn put_pio(n: &[u32; 64], out: &mut [u8]) -> usize
+    ensures { λ r. ⌜ Placed (now (out .entry)) 0 (pioText (now (n .entry))) r (now (out .exit)) ⌝ }
+{
+    let system = fields::number_at(n, 0);
+    let target = fields::number_at(n, 1);
+    put_number(
+        out,
+        divider::calculate_pio_clock_divider_value(system, target),
+    )
+}
+
+pub fn put_gpout(n: &[u32; 64], out: &mut [u8]) -> usize
+    ensures { λ r. ⌜ Placed (now (out .entry)) 0 (gpoutText (now (n .entry))) r (now (out .exit)) ⌝ }
+{
+    let freqs = fields::ten_at(n, 3);
+    let source = fields::byte_at(n, 0);
+    let whole = fields::number_at(n, 1);
+    let fraction = fields::byte_at(n, 2);
+    put_number(out, divider::get_freq(source, whole, fraction, &freqs))
+}

@@ -1,0 +1,164 @@
+-- A plan as 48 numbers in a row: each part's numbers in order, those of a part that may be absent behind a flag.
+-- Assumes nothing.
+use mathlib.Core.Bool.{Bool, _&&_}
+use mathlib.Core.List.{List, [], _∷_}
+use mathlib.Core.Option.{Option, none, some}
+use Prim.Native.Nat.{ℕ, _+_, _-_}
+use lib.Dec.{eqb, leb}
+use lib.ListN.{length}
+use Rattle.base.specs.Answer.{Answer, value, refusal}
+use Rattle.base.specs.Choice.{pick}
+use Rattle.voltage.specs.declared.CoreVoltage.{CoreVoltage}
+use Rattle.voltage.specs.Voltage.{coreVoltageOf}
+use Rattle.config.specs.declared.OptionPll.{OptionPll}
+use Rattle.config.specs.declared.OptionPll.the-variants.{Some as pll, None as noPll}
+use Rattle.config.specs.declared.OptionRosc.{OptionRosc}
+use Rattle.config.specs.declared.OptionRosc.the-variants.{Some as ring, None as noRing}
+use Rattle.config.specs.declared.OptionXosc.{OptionXosc}
+use Rattle.config.specs.declared.OptionXosc.the-variants.{Some as crystal, None as noCrystal}
+use Rattle.config.specs.declared.OptionPeri.{OptionPeri}
+use Rattle.config.specs.declared.OptionPeri.the-variants.{Some as peri, None as noPeri}
+use Rattle.config.specs.declared.OptionAux.{OptionAux}
+use Rattle.config.specs.declared.OptionAux.the-variants.{Some as aux, None as noAux}
+use Rattle.config.specs.declared.OptionRtc.{OptionRtc}
+use Rattle.config.specs.declared.OptionRtc.the-variants.{Some as rtc, None as noRtc}
+use Rattle.config.specs.declared.OptionU32.{OptionU32}
+use Rattle.config.specs.declared.OptionU32.the-variants.{Some as time, None as noTime}
+use Rattle.config.specs.declared.RefClkConfig.{RefClkConfig}
+use Rattle.config.specs.declared.SysClkSrc.{SysClkSrc}
+use Rattle.config.specs.declared.SysClkSrc.the-variants.{Ref as sysRef}
+use Rattle.config.specs.declared.SysClkConfig.{SysClkConfig}
+use Rattle.config.specs.declared.ClockConfig.{ClockConfig}
+use Rattle.settings.specs.Codes.{rangeFrom, refFrom, sysFrom, periFrom, auxFrom}
+use Rattle.fields.specs.Row.{nth, byteAt, halfAt, pllAt, u8, u16, u32}
+use Rattle.plan_numbers.specs.Rows.{fitFrom, isPart}
+use Rattle.plan_numbers.specs.declared.PlanRead.{PlanRead}
+use Rattle.plan_numbers.specs.declared.PlanRead.the-variants.{Plan, Bad}
+
+-- the greatest values: of a flag 1, of a source or range its last code; a PLL has a crystal
+unfoldable pub wholeOscillators : List ℕ → Bool
+wholeOscillators n =
+    isPart n 0 (1 ∷ u32 ∷ 3 ∷ u8 ∷ u8 ∷ u8 ∷ u8 ∷ u8 ∷ u8 ∷ u8 ∷ u8 ∷ u16 ∷ [])  -- ring
+    && (isPart n 12 (1 ∷ u32 ∷ u32 ∷ [])  -- crystal
+    && (isPart n 15 (1 ∷ u8 ∷ u16 ∷ u8 ∷ u8 ∷ [])  -- system PLL
+    && (isPart n 20 (1 ∷ u8 ∷ u16 ∷ u8 ∷ u8 ∷ [])  -- USB PLL
+    && (leb (nth n 15) (nth n 12) && leb (nth n 20) (nth n 12)))))
+
+unfoldable pub wholeClocks : List ℕ → Bool
+wholeClocks n =
+    fitFrom n 25 (15 ∷ [])  -- voltage code
+    && (isPart n 26 (1 ∷ u32 ∷ [])  -- settling time
+    && (fitFrom n 28 (2 ∷ u8 ∷ [])  -- reference
+    && (fitFrom n 30 (4 ∷ u32 ∷ u8 ∷ [])  -- system
+    && (isPart n 33 (1 ∷ 4 ∷ [])  -- peripheral
+    && (isPart n 35 (1 ∷ 3 ∷ u8 ∷ u8 ∷ [])  -- USB
+    && (isPart n 39 (1 ∷ 3 ∷ u8 ∷ u8 ∷ [])  -- ADC
+    && isPart n 43 (1 ∷ 3 ∷ u32 ∷ u8 ∷ u8 ∷ [])))))))  -- RTC
+
+abbrev pub wholePlan : List ℕ → Bool
+wholePlan n = eqb (length n) 48 && (wholeOscillators n && wholeClocks n)
+
+-- a part that may be absent, by the flag at its place
+abbrev pub flagged : {A : Type 0} → List ℕ → ℕ → A → A → A
+flagged n i there absent = pick (eqb (nth n i) 1) there absent
+
+-- Hz, range, eight strengths, divider
+unfoldable pub ringAt : List ℕ → OptionRosc
+ringAt n =
+    flagged n 0
+    (ring
+    (record {
+      hz = nth n 1;
+      range = rangeFrom (nth n 2);
+      «drive_strength» =
+          record {
+            s0 = byteAt n 3;
+            s1 = byteAt n 4;
+            s2 = byteAt n 5;
+            s3 = byteAt n 6;
+            s4 = byteAt n 7;
+            s5 = byteAt n 8;
+            s6 = byteAt n 9;
+            s7 = byteAt n 10;
+          };
+      div = halfAt n 11;
+    }))
+    noRing
+
+-- a PLL from place i on: four dividers
+unfoldable pub optionPllAt : List ℕ → ℕ → OptionPll
+optionPllAt n i = flagged n i (pll (pllAt n (i + 1))) noPll
+
+-- Hz, multiplier, then the PLLs
+unfoldable pub crystalAt : List ℕ → OptionXosc
+crystalAt n =
+    flagged n 12
+    (crystal
+    (record {
+      hz = nth n 13;
+      «sys_pll» = optionPllAt n 15;
+      «usb_pll» = optionPllAt n 20;
+      «delay_multiplier» = nth n 14;
+    }))
+    noCrystal
+
+-- µs
+unfoldable pub settlingAt : List ℕ → OptionU32
+settlingAt n = flagged n 26 (time (nth n 27)) noTime
+
+-- source, divider
+unfoldable pub referenceAt : List ℕ → RefClkConfig
+referenceAt n = record { src = refFrom (nth n 28); div = byteAt n 29 }
+
+-- 0 is the reference, then the auxiliary sources
+abbrev pub systemSourceOf : ℕ → SysClkSrc
+systemSourceOf n = pick (eqb n 0) sysRef (sysFrom (n - 1))
+
+-- source, whole part, fraction
+unfoldable pub systemAt : List ℕ → SysClkConfig
+systemAt n = record { src = systemSourceOf (nth n 30); «div_int» = nth n 31; «div_frac» = byteAt n 32 }
+
+unfoldable pub peripheralAt : List ℕ → OptionPeri
+peripheralAt n = flagged n 33 (peri (periFrom (nth n 34))) noPeri
+
+-- USB or ADC from place i on: source, divider, phase
+unfoldable pub dividedAt : List ℕ → ℕ → OptionAux
+dividedAt n i =
+    flagged n i
+    (aux (record { src = auxFrom (nth n (i + 1)); div = byteAt n (i + 2); phase = byteAt n (i + 3) }))
+    noAux
+
+-- source, whole part, fraction, phase
+unfoldable pub rtcAt : List ℕ → OptionRtc
+rtcAt n =
+    flagged n 43
+    (rtc
+    (record { src = auxFrom (nth n 44); «div_int» = nth n 45; «div_frac» = byteAt n 46; phase = byteAt n 47 }))
+    noRtc
+
+unfoldable pub planAt : CoreVoltage → List ℕ → ClockConfig
+planAt v n =
+    record {
+      rosc = ringAt n;
+      xosc = crystalAt n;
+      «ref_clk» = referenceAt n;
+      «sys_clk» = systemAt n;
+      «peri_clk_src» = peripheralAt n;
+      «usb_clk» = dividedAt n 35;
+      «adc_clk» = dividedAt n 39;
+      «rtc_clk» = rtcAt n;
+      «core_voltage» = v;
+      «voltage_stabilization_delay_us» = settlingAt n;
+    }
+
+abbrev pub withVoltage : Answer CoreVoltage → List ℕ → Option ClockConfig
+withVoltage (value v) n = some (planAt v n)
+withVoltage (refusal m) n = none
+
+unfoldable pub planOf : List ℕ → Option ClockConfig
+planOf n = pick (wholePlan n) (withVoltage (coreVoltageOf (byteAt n 25)) n) none
+
+-- the code's answer
+abbrev pub planReadIs : PlanRead → Option ClockConfig
+planReadIs (Plan p) = some p
+planReadIs Bad = none

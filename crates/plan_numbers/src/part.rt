@@ -1,0 +1,136 @@
+// The parts of a plan, each from its place in the row n. A part that may be absent is there where its flag is 1.
+use crate::sources;
+use config::AuxClkConfig;
+use config::DriveStrength;
+use config::OptionAux;
+use config::OptionPeri;
+use config::OptionPll;
+use config::OptionRosc;
+use config::OptionRtc;
+use config::OptionU32;
+use config::OptionXosc;
+use config::RefClkConfig;
+use config::RoscConfig;
+use config::RtcClkConfig;
+use config::SysClkConfig;
+use config::XoscConfig;
+use fields::byte_at;
+use fields::half_at;
+use fields::number_at;
+ghost use mathlib.Core.Path.{_≡_};
+ghost use Rattle.plan_numbers.specs.Plan.{ringAt, optionPllAt, crystalAt, settlingAt};
+ghost use Rattle.plan_numbers.specs.Plan.{referenceAt, systemAt, peripheralAt, dividedAt, rtcAt};
+
+pub(crate) fn ring(n: &[u32]) -> OptionRosc
+    ensures { λ r. ⌜ r ≡ ringAt (now (n .entry)) ⌝ }
+{
+    if number_at(n, 0) != 1 {
+        return OptionRosc::None;
+    }
+    let drive_strength = DriveStrength {
+        s0: byte_at(n, 3),
+        s1: byte_at(n, 4),
+        s2: byte_at(n, 5),
+        s3: byte_at(n, 6),
+        s4: byte_at(n, 7),
+        s5: byte_at(n, 8),
+        s6: byte_at(n, 9),
+        s7: byte_at(n, 10),
+    };
+    OptionRosc::Some(RoscConfig {
+        hz: number_at(n, 1),
+        range: sources::range(number_at(n, 2)),
+        drive_strength,
+        div: half_at(n, 11),
+    })
+}
+
+// The PLL from place i on.
+fn pll(n: &[u32], i: u8) -> OptionPll
+    ensures { λ r. ⌜ r ≡ optionPllAt (now (n .entry)) i ⌝ }
+{
+    if number_at(n, i as usize) != 1 {
+        return OptionPll::None;
+    }
+    OptionPll::Some(fields::pll_at(n, i as u16 + 1))
+}
+
+pub(crate) fn crystal(n: &[u32]) -> OptionXosc
+    ensures { λ r. ⌜ r ≡ crystalAt (now (n .entry)) ⌝ }
+{
+    if number_at(n, 12) != 1 {
+        return OptionXosc::None;
+    }
+    OptionXosc::Some(XoscConfig {
+        hz: number_at(n, 13),
+        sys_pll: pll(n, 15),
+        usb_pll: pll(n, 20),
+        delay_multiplier: number_at(n, 14),
+    })
+}
+
+pub(crate) fn settling(n: &[u32]) -> OptionU32
+    ensures { λ r. ⌜ r ≡ settlingAt (now (n .entry)) ⌝ }
+{
+    if number_at(n, 26) != 1 {
+        return OptionU32::None;
+    }
+    OptionU32::Some(number_at(n, 27))
+}
+
+pub(crate) fn reference(n: &[u32]) -> RefClkConfig
+    ensures { λ r. ⌜ r ≡ referenceAt (now (n .entry)) ⌝ }
+{
+    RefClkConfig {
+        src: sources::reference(number_at(n, 28)),
+        div: byte_at(n, 29),
+    }
+}
+
+pub(crate) fn system(n: &[u32]) -> SysClkConfig
+    ensures { λ r. ⌜ r ≡ systemAt (now (n .entry)) ⌝ }
+{
+    SysClkConfig {
+        src: sources::system(number_at(n, 30)),
+        div_int: number_at(n, 31),
+        div_frac: byte_at(n, 32),
+    }
+}
+
+pub(crate) fn peripheral(n: &[u32]) -> OptionPeri
+    ensures { λ r. ⌜ r ≡ peripheralAt (now (n .entry)) ⌝ }
+{
+    if number_at(n, 33) != 1 {
+        return OptionPeri::None;
+    }
+    OptionPeri::Some(sources::peripheral(number_at(n, 34)))
+}
+
+// The USB or the ADC clock, from place i on.
+pub(crate) fn divided(n: &[u32], i: u8) -> OptionAux
+    ensures { λ r. ⌜ r ≡ dividedAt (now (n .entry)) i ⌝ }
+{
+    let at = i as usize;
+    if number_at(n, at) != 1 {
+        return OptionAux::None;
+    }
+    OptionAux::Some(AuxClkConfig {
+        src: sources::aux(number_at(n, at + 1)),
+        div: byte_at(n, at + 2),
+        phase: byte_at(n, at + 3),
+    })
+}
+
+pub(crate) fn rtc(n: &[u32]) -> OptionRtc
+    ensures { λ r. ⌜ r ≡ rtcAt (now (n .entry)) ⌝ }
+{
+    if number_at(n, 43) != 1 {
+        return OptionRtc::None;
+    }
+    OptionRtc::Some(RtcClkConfig {
+        src: sources::aux(number_at(n, 44)),
+        div_int: number_at(n, 45),
+        div_frac: byte_at(n, 46),
+        phase: byte_at(n, 47),
+    })
+}

@@ -1,0 +1,78 @@
+-- The codes of ranges and sources: each is read back, and each fits the bits of its field.
+-- Assumes nothing.
+use mathlib.Core.Path.{_≡_, refl, ap}
+use mathlib.Core.Bool.{Bool, true, false}
+use Prim.Native.Nat.{ℕ, _%_, _≤_, _<_}
+use native.Mathlib.Omega.{arith}
+use lib.Dec.{eqb}
+use borrow.Author.Tests.{eqb-true, eqb-false}
+use Rattle.base.specs.Choice.{pick}
+use Rattle.voltage.specs.declared.CoreVoltage.{CoreVoltage}
+use Rattle.voltage.specs.Voltage.{codeOf}
+use Rattle.voltage.proofs.Codes.{core-voltage-code}
+use Rattle.config.specs.declared.RoscRange.{RoscRange}
+use Rattle.config.specs.declared.RoscRange.the-variants.{Low, Medium, High, TooHigh}
+use Rattle.config.specs.declared.RefClkSrc.{RefClkSrc}
+use Rattle.config.specs.declared.RefClkSrc.the-variants.{Xosc as refXosc, Rosc as refRosc, PllUsb as refPllUsb}
+use Rattle.config.specs.declared.SysClkSrc.{SysClkSrc}
+use Rattle.config.specs.declared.SysClkSrc.the-variants.{Ref as sysRef, PllSys as sysPllSys, PllUsb as sysPllUsb}
+use Rattle.config.specs.declared.SysClkSrc.the-variants.{Rosc as sysRosc, Xosc as sysXosc}
+use Rattle.config.specs.declared.PeriClkSrc.{PeriClkSrc}
+use Rattle.config.specs.declared.PeriClkSrc.the-variants.{Sys as periSys, PllSys as periPllSys, PllUsb as periPllUsb}
+use Rattle.config.specs.declared.PeriClkSrc.the-variants.{Rosc as periRosc, Xosc as periXosc}
+use Rattle.config.specs.declared.AuxClkSrc.{AuxClkSrc}
+use Rattle.config.specs.declared.AuxClkSrc.the-variants.{PllUsb as auxPllUsb, PllSys as auxPllSys, Rosc as auxRosc}
+use Rattle.config.specs.declared.AuxClkSrc.the-variants.{Xosc as auxXosc}
+use Rattle.config.specs.declared.OptionAux.{OptionAux}
+use Rattle.config.specs.declared.OptionAux.the-variants.{Some as aux, None as noAux}
+use Rattle.settings.specs.Codes.{rangeCode, refCode, sysSelect, sysAux, periAux, auxCode}
+use Rattle.settings.specs.Codes.{rangeFrom, refFrom, periFrom, auxFrom, divFrom, voltageIn, voltageFrom}
+
+pub range-code : (x : RoscRange) → (rangeFrom (rangeCode x) ≡ x) × (rangeCode x < 4)
+range-code Low = (refl, omega arith)
+range-code Medium = (refl, omega arith)
+range-code High = (refl, omega arith)
+range-code TooHigh = (refl, omega arith)
+
+pub ref-code : (x : RefClkSrc) → (refFrom (refCode x) ≡ x) × (refCode x < 4)
+ref-code refXosc = (refl, omega arith)
+ref-code refRosc = (refl, omega arith)
+ref-code refPllUsb = (refl, omega arith)
+
+pub peri-code : (x : PeriClkSrc) → (periFrom (periAux x) ≡ x) × (periAux x < 8)
+peri-code periSys = (refl, omega arith)
+peri-code periPllSys = (refl, omega arith)
+peri-code periPllUsb = (refl, omega arith)
+peri-code periRosc = (refl, omega arith)
+peri-code periXosc = (refl, omega arith)
+
+pub aux-code : (x : AuxClkSrc) → (auxFrom (auxCode x) ≡ x) × (auxCode x < 4)
+aux-code auxPllUsb = (refl, omega arith)
+aux-code auxPllSys = (refl, omega arith)
+aux-code auxRosc = (refl, omega arith)
+aux-code auxXosc = (refl, omega arith)
+
+pub sys-code : (x : SysClkSrc) → (sysAux x < 4) × (sysSelect x < 2)
+sys-code sysRef = omega arith
+sys-code sysPllSys = omega arith
+sys-code sysPllUsb = omega arith
+sys-code sysRosc = omega arith
+sys-code sysXosc = omega arith
+
+pub voltage-code : (v : CoreVoltage) → voltageFrom (codeOf v) ≡ v
+voltage-code v = ap voltageIn (core-voltage-code v)
+
+-- a divider from 1 to 4 is read back from its two bits
+abbrev pub Small : ℕ → Type 0
+Small d = (1 ≤ d) × (d ≤ 4)
+
+abbrev pub AuxSmall : OptionAux → Type 0
+AuxSmall (aux a) = Small (a .div)
+AuxSmall noAux = Unit {0}
+
+pub div-back : (d : ℕ) → Small d → divFrom (d % 4) ≡ d
+div-back d h = go (eqb (d % 4) 0) refl
+  where
+    go : (b : Bool) → eqb (d % 4) 0 ≡ b → pick b 4 (d % 4) ≡ d
+    go true e = let z : d % 4 ≡ 0 = eqb-true (d % 4) 0 e in omega arith
+    go false e = let z : d % 4 ≡ 0 → ⊥ = eqb-false (d % 4) 0 e in omega arith

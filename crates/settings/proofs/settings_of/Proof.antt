@@ -1,0 +1,11 @@
+-- `settings::settings_of` meets its contract. Assumes nothing.
+use borrow.Author.Needs.{needs}
+use Rattle.settings.proofs.settings_of.Statement.{statement}
+use Rattle.settings.proofs.settings_of.Tie as tie
+
+pub settings-of-spec : {M : Type 1} → statement M
+settings-of-spec =
+    tie.close
+    (tie.spec
+    (λ c κs. search needs) (λ c κs. search needs) (λ c κs. search needs) (λ c κs. search needs)
+    (λ c κs. search needs) (λ c. cc))

@@ -1,0 +1,16 @@
+-- Settings whose numbers are of their types, as every settings that a program holds are.
+-- Assumes nothing.
+use Prim.Native.Nat.{_<_, _^_}
+use Rattle.config.specs.declared.OptionRtc.{OptionRtc}
+use Rattle.settings.specs.declared.Settings.{Settings}
+use Rattle.settings.specs.Frequencies.{sourcesIn}
+
+abbrev pub RtcTyped : OptionRtc → Type 0
+RtcTyped (OptionRtc.Some r) = r .«div_frac» < 2 ^ 8
+RtcTyped OptionRtc.None = Unit {0}
+
+pub record Typed (s : Settings) : Type 0 where
+  pub rosc : sourcesIn s .rosc < 2 ^ 32
+  pub xosc : sourcesIn s .xosc < 2 ^ 32
+  pub sys : s .sys .«div_frac» < 2 ^ 8
+  pub rtc : RtcTyped (s .rtc)

@@ -1,0 +1,45 @@
+-- What the refusals of a plan leave of its numbers.
+-- Assumes nothing.
+use mathlib.Core.Path.{_≡_}
+use mathlib.Core.Bool.{Bool, false, _||_}
+use Prim.Native.Nat.{ℕ, _≤_, _<_}
+use native.Mathlib.Omega.{arith}
+use lib.Dec.{eqb, ltb}
+use borrow.Author.Tests.{ltb-false, eq-eqb}
+use Rattle.base.proofs.Bools.{both-false}
+use Rattle.config.specs.declared.OptionAux.{OptionAux}
+use Rattle.config.specs.declared.OptionAux.the-variants.{Some as aux, None as noAux}
+use Rattle.settings.specs.declared.OptionCycles.{OptionCycles}
+use Rattle.settings.specs.declared.OptionCycles.the-variants.{Some as cycles, None as noCycles}
+use Rattle.settings.specs.declared.Sources.{Sources}
+use Rattle.settings.specs.Settings.{settlingStep}
+use Rattle.settings.specs.Frequencies.{auxSource}
+use Rattle.refusals.specs.Refusals.{dividerBad, auxBad}
+use Rattle.refusals.proofs.Accepted.{divider-good}
+use Rattle.settings.proofs.Decoded.{Small, AuxSmall}
+
+-- of a row of tests none of which holds, the last does not, nor the row before it
+pub none-more : (row : Bool) (l x : ℕ) → row || ltb l x ≡ false → (row ≡ false) × (x ≤ l)
+none-more row l x e = let h = both-false row (ltb l x) e in (h .0, ltb-false l x (h .1))
+
+-- a divider and a phase that fit
+abbrev pub AuxFits : OptionAux → Type 0
+AuxFits (aux a) = Small (a .div) × (a .phase < 4)
+AuxFits noAux = Unit {0}
+
+pub aux-fits : (f : Sources) (o : OptionAux) → auxBad f o ≡ false → AuxFits o
+unfolding auxBad
+aux-fits f (aux a) e =
+    let still : Bool = eqb (auxSource f (a .src)) 0 in
+    let h = none-more (still || dividerBad (a .div)) 3 (a .phase) e in
+    (divider-good (a .div) (both-false still (dividerBad (a .div)) (h .0) .1), omega (arith, h .1))
+aux-fits f noAux e = tt
+
+pub aux-divider : (o : OptionAux) → AuxFits o → AuxSmall o
+aux-divider (aux a) h = h .0
+aux-divider noAux h = tt
+
+-- the settling step is none where the voltage stays
+pub settling-none : (reading code time hz : ℕ) → code ≡ reading → settlingStep reading code time hz ≡ noCycles
+unfolding settlingStep
+settling-none reading code time hz e = rw (eq-eqb code reading e)

@@ -1,0 +1,193 @@
+-- The steps of an accepted plan are well formed: every field fits its bits.
+-- Assumes nothing.
+use mathlib.Core.Path.{_≡_, refl}
+use mathlib.Core.Bool.{Bool, true, false, _||_}
+use Prim.Native.Nat.{ℕ, _/_, _≤_, _<_, _^_}
+use native.Mathlib.Omega.{arith}
+use mathlib.Core.List.{List, [], _∷_, _++_}
+use lib.Dec.{T, eqb, ltb, le→leb}
+use borrow.Author.Tests.{ltb-false, not-false}
+use Rattle.base.specs.Choice.{pick}
+use Rattle.base.proofs.Bools.{both-false}
+use Rattle.voltage.specs.declared.CoreVoltage.{CoreVoltage}
+use Rattle.voltage.specs.Voltage.{codeOf, bodOf}
+use Rattle.voltage.proofs.Codes.{code-small, bod-small}
+use Rattle.pll.specs.Setting.{validOf}
+use Rattle.pll.proofs.Valid.{valid}
+use Rattle.step.specs.declared.Step.{Step}
+use Rattle.step.specs.Kinds as kind
+use Rattle.step.specs.Fields.{Fill}
+use Rattle.step.specs.Layout.{rows, width, widths}
+use Rattle.step.specs.Steps.{values, known, storable}
+use Rattle.step.specs.Sheet.{AllFormed}
+use Rattle.config.specs.declared.RefClkConfig.{RefClkConfig}
+use Rattle.config.specs.declared.SysClkConfig.{SysClkConfig}
+use Rattle.config.specs.declared.OptionRosc.{OptionRosc}
+use Rattle.config.specs.declared.OptionRosc.the-variants.{Some as ring, None as noRing}
+use Rattle.config.specs.declared.OptionPll.{OptionPll}
+use Rattle.config.specs.declared.OptionPll.the-variants.{Some as pll, None as noPll}
+use Rattle.config.specs.declared.OptionPeri.{OptionPeri}
+use Rattle.config.specs.declared.OptionPeri.the-variants.{Some as peri, None as noPeri}
+use Rattle.config.specs.declared.OptionAux.{OptionAux}
+use Rattle.config.specs.declared.OptionAux.the-variants.{Some as aux, None as noAux}
+use Rattle.config.specs.declared.OptionRtc.{OptionRtc}
+use Rattle.config.specs.declared.OptionRtc.the-variants.{Some as rtc, None as noRtc}
+use Rattle.settings.specs.declared.OptionCrystal.{OptionCrystal}
+use Rattle.settings.specs.declared.OptionCrystal.the-variants.{Some as crystal, None as noCrystal}
+use Rattle.settings.specs.declared.OptionCycles.{OptionCycles}
+use Rattle.settings.specs.declared.OptionCycles.the-variants.{Some as cycles, None as noCycles}
+use Rattle.settings.specs.declared.Sources.{Sources}
+use Rattle.settings.specs.Codes.{sysSelect}
+use Rattle.settings.specs.Settings.{ringHz}
+use Rattle.settings.specs.Frequencies.{auxSource}
+use Rattle.settings.specs.Typed.{RtcTyped}
+use Rattle.settings.proofs.Small.{Hz, AllHz}
+use Rattle.refusals.specs.Refusals.{strengthsOver, ringDividerOver, settlingOver, startupOver, pllInvalid}
+use Rattle.refusals.specs.Refusals.{sysPllInvalid, usbPllInvalid, wholeBad, rtcBad}
+use Rattle.refusals.proofs.Accepted.{whole-good}
+use Rattle.sheet.specs.Steps.{step1, step2, storeStep, headPart, ringPart, settlingSteps, voltagePart, pllSteps}
+use Rattle.sheet.specs.Steps.{crystalPart, sourcePart, refPart, switchSteps, sysPart, periPart, auxPart}
+use Rattle.sheet.specs.Steps.{rtcPart, releaseMask, lastPart}
+use Rattle.settings.proofs.Decoded.{range-code, ref-code, sys-code, peri-code, aux-code}
+use Rattle.sheet.proofs.Facts.{none-more, AuxFits}
+
+-- what is to be shown of each step, as one row of facts
+abbrev pub Good : Step → Type 0
+Good s = T (known (s .kind)) × Fill (widths (s .kind)) (values s) × T (storable (s .kind) (s .f0) (s .f1))
+
+abbrev pub AllGood : List Step → Type 0
+AllGood [] = Unit {0}
+AllGood (x ∷ xs) = Good x × AllGood xs
+
+good-append : (xs ys : List Step) → AllGood xs → AllGood ys → AllGood (xs ++ ys)
+good-append [] ys g h = h
+good-append (x ∷ xs) ys g h = (g .0, good-append xs ys (g .1) h)
+
+-- the same as a type that shows its list, so that parts are joined without naming them
+pub record GoodSteps (xs : List Step) : Type 0 where
+  pub each : AllGood xs
+
+infixr 5 _and_
+pub _and_ : {xs ys : List Step} → GoodSteps xs → GoodSteps ys → GoodSteps (xs ++ ys)
+_and_ {xs} {ys} g h = record { each = good-append xs ys (g .each) (h .each) }
+
+all-formed : (xs : List Step) → AllGood xs → AllFormed xs
+all-formed [] g = tt
+all-formed (x ∷ xs) g = (record { is-known = g .0 .0; fill = g .0 .1; stores = g .0 .2 }, all-formed xs (g .1))
+
+pub formed : {xs : List Step} → GoodSteps xs → AllFormed xs
+formed {xs} g = all-formed xs (g .each)
+
+pub head-good : GoodSteps headPart
+unfolding headPart known widths width rows storable
+head-good =
+    record {
+      each = (omega arith, (omega arith, (omega arith, (omega arith, (omega arith, (omega arith, omega arith))))));
+    }
+
+pub ring-good : (o : OptionRosc) → Hz (ringHz o) → strengthsOver o ≡ false → ringDividerOver o ≡ false
+    → GoodSteps (ringPart o)
+unfolding ringPart strengthsOver ringDividerOver known widths width rows storable
+ring-good (ring r) t s d =
+    let g = r .«drive_strength» in
+    let h7 = none-more _ 7 (g .s7) s in
+    let h6 = none-more _ 7 (g .s6) (h7 .0) in
+    let h5 = none-more _ 7 (g .s5) (h6 .0) in
+    let h4 = none-more _ 7 (g .s4) (h5 .0) in
+    let h3 = none-more _ 7 (g .s3) (h4 .0) in
+    let h2 = none-more _ 7 (g .s2) (h3 .0) in
+    let h1 = none-more _ 7 (g .s1) (h2 .0) in
+    let h0 = ltb-false 7 (g .s0) (h1 .0) in
+    let d′ = ltb-false 62815 (r .div) d in
+    record { each = (omega arith, (omega arith, omega (arith, range-code (r .range) .1))) }
+ring-good noRing t s d = record { each = omega arith }
+
+settling-good : (o : OptionCycles) → settlingOver o ≡ false → AllGood (settlingSteps o)
+unfolding settlingOver known widths width rows storable
+settling-good noCycles e = tt
+settling-good (cycles n) e = omega (arith, ltb-false 4294967295 n e)
+
+pub voltage-good : (reading : ℕ) (v : CoreVoltage) (o : OptionCycles) → settlingOver o ≡ false
+    → GoodSteps (voltagePart reading v o)
+unfolding voltagePart known widths width rows storable
+voltage-good reading v o h = record { each = go (eqb (codeOf v) reading) }
+  where
+    go : (b : Bool) → AllGood (pick b [] (step1 kind.voltage (codeOf v) ∷ (settlingSteps o ++ (step1 kind.brownout (bodOf v) ∷ []))))
+    go true = tt
+    go false = (
+      omega (arith, code-small v),
+      good-append (settlingSteps o) (step1 kind.brownout (bodOf v) ∷ []) (settling-good o h) (omega (arith, bod-small v)),
+    )
+
+pll-good : (which hz : ℕ) → which < 2 → (o : OptionPll) → pllInvalid hz o ≡ false → AllGood (pllSteps which o)
+unfolding known widths width rows storable
+pll-good which hz w (pll p) e =
+    let v = valid p hz (not-false (validOf p hz) e) in
+    (omega arith, (omega arith, (omega arith, (omega arith, (omega arith, (omega arith, omega arith))))))
+pll-good which hz w noPll e = tt
+
+pub crystal-good : (o : OptionCrystal) → startupOver o ≡ false → sysPllInvalid o ≡ false → usbPllInvalid o ≡ false
+    → GoodSteps (crystalPart o)
+unfolding crystalPart startupOver sysPllInvalid usbPllInvalid known widths width rows storable
+crystal-good (crystal x) d e u =
+    let plls : AllGood (pllSteps 0 (x .sys) ++ pllSteps 1 (x .usb)) =
+    good-append (pllSteps 0 (x .sys)) (pllSteps 1 (x .usb))
+    (pll-good 0 (x .hz) (omega arith) (x .sys) e)
+    (pll-good 1 (x .hz) (omega arith) (x .usb) u) in
+    record { each = (omega (arith, ltb-false 16383 (x .delay) d), (omega arith, (omega arith, plls))) }
+crystal-good noCrystal d e u = record { each = tt }
+
+pub source-good : (f : Sources) → AllHz f → GoodSteps (sourcePart f)
+unfolding known widths width rows storable
+source-good f h = record { each = omega arith }
+
+pub ref-good : (hz : ℕ) (c : RefClkConfig) → hz < 512000000 → GoodSteps (refPart hz c)
+unfolding known widths width rows storable
+ref-good hz c h = let s = ref-code (c .src) .1 in record { each = (omega arith, (omega arith, omega arith)) }
+
+switch-good : (select : ℕ) → AllGood (switchSteps select)
+unfolding switchSteps known widths width rows storable
+switch-good select = go (eqb select 0)
+  where
+    go : (b : Bool) → AllGood (pick b [] (step2 kind.sys-control 0 0 ∷ step1 kind.wait-sys 0 ∷ []))
+    go true = tt
+    go false = omega arith
+
+pub sys-good : (hz : ℕ) (c : SysClkConfig) → Hz hz → c .«div_int» ≤ 16777215 → c .«div_frac» < 2 ^ 8
+    → GoodSteps (sysPart hz c)
+unfolding sysPart known widths width rows storable
+sys-good hz c h w f =
+    let select : ℕ = sysSelect (c .src) in
+    record { each = (omega arith, good-append (switchSteps select) _ (switch-good select) (omega (arith, sys-code (c .src)))) }
+
+pub peri-good : (hz : ℕ) → Hz hz → (o : OptionPeri) → GoodSteps (periPart hz o)
+unfolding periPart known widths width rows storable
+peri-good hz h (peri src) = record { each = omega (arith, peri-code src .1) }
+peri-good hz h noPeri = record { each = omega arith }
+
+-- the USB clock, or else the ADC clock
+pub aux-good : (usb : Bool) (hz : ℕ) → Hz hz → (o : OptionAux) → AuxFits o
+    → GoodSteps
+    (auxPart (pick usb kind.usb-divider kind.adc-divider) (pick usb kind.usb-control kind.adc-control) (pick usb 7 8) hz o)
+unfolding auxPart known widths width rows storable
+aux-good true hz h (aux a) d = record { each = omega (arith, aux-code (a .src) .1) }
+aux-good false hz h (aux a) d = record { each = omega (arith, aux-code (a .src) .1) }
+aux-good true hz h noAux d = record { each = omega arith }
+aux-good false hz h noAux d = record { each = omega arith }
+
+pub rtc-good : (f : Sources) (hz : ℕ) → hz ≤ 65535 → (o : OptionRtc) → RtcTyped o → rtcBad f hz o ≡ false
+    → GoodSteps (rtcPart hz o)
+unfolding rtcPart rtcBad known widths width rows storable
+rtc-good f hz few (rtc r) t e =
+    let still : Bool = eqb (auxSource f (r .src)) 0 in
+    let h3 = none-more (still || wholeBad (r .«div_int») || ltb 3 (r .phase)) 65535 hz e in
+    let h2 = none-more (still || wholeBad (r .«div_int»)) 3 (r .phase) (h3 .0) in
+    let w = whole-good (r .«div_int») (both-false still (wholeBad (r .«div_int»)) (h2 .0) .1) in
+    let turn : r .phase ≤ 3 = h2 .1 in
+    let held : Good (storeStep 9 hz) = (tt, omega (arith, few), le→leb hz 65535 few) in
+    record { each = (omega (arith, w), (omega (arith, aux-code (r .src) .1), (held, tt))) }
+rtc-good f hz few noRtc t e = record { each = ((tt, omega (arith, few), le→leb hz 65535 few), tt) }
+
+pub last-good : (p : OptionPeri) (u a : OptionAux) (r : OptionRtc) → GoodSteps (lastPart (releaseMask p u a r))
+unfolding releaseMask known widths width rows storable
+last-good p u a r = record { each = omega arith }

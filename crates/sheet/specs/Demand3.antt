@@ -1,0 +1,25 @@
+-- Demand 3: two sheets are equal exactly when the plans agree in every setting.
+-- Assumes nothing.
+use mathlib.Core.Path.{_≡_}
+use mathlib.Core.Logic.{_↔_}
+use Prim.Native.Nat.{ℕ, _<_}
+use mathlib.Core.List.{List}
+use lib.ListN.{getD}
+use Rattle.base.specs.Answer.{value, lengthIs}
+use Rattle.base.specs.declared.Length.{Length}
+use Rattle.config.specs.declared.ClockConfig.{ClockConfig}
+use Rattle.settings.specs.Settings.{settingsOf}
+use Rattle.sheet.specs.Writer.{InitCall}
+
+-- the bytes up to a length are the same
+abbrev pub SameUpTo : ℕ → List ℕ → List ℕ → Type 0
+SameUpTo n b c = (i : ℕ) → i < n → getD b i 0 ≡ getD c i 0
+
+-- Two calls at one reading, of any two plans, with any two buffers, that answered lengths: the lengths and the bytes up to them
+-- are equal exactly when the plans agree in every setting.
+abbrev pub Demand3 : Type 0
+Demand3 =
+    (p q : ClockConfig) (reading : ℕ) (b b′ c c′ : List ℕ) (r s : Length) (m n : ℕ)
+    → InitCall p reading b r b′ → lengthIs r ≡ value m
+    → InitCall q reading c s c′ → lengthIs s ≡ value n
+    → ((m ≡ n) × SameUpTo m b′ c′) ↔ (settingsOf p reading ≡ settingsOf q reading)

@@ -1,0 +1,165 @@
+-- Inside: the settings that a sheet's steps hold, taken out part by part in the order of the sheet.
+-- It answers settings for any list of steps; what it answers for a plan's steps is the plan's settings: `settings-back`.
+-- Assumes nothing.
+use mathlib.Core.Bool.{_&&_}
+use Prim.Native.Nat.{ℕ, _-_}
+use mathlib.Core.List.{List}
+use lib.ListN.{getD, drop}
+use lib.Dec.{eqb}
+use Rattle.base.specs.Choice.{pick}
+use Rattle.voltage.specs.declared.CoreVoltage.{CoreVoltage}
+use Rattle.step.specs.declared.Step.{Step}
+use Rattle.step.specs.Kinds as kind
+use Rattle.config.specs.declared.RefClkConfig.{RefClkConfig}
+use Rattle.config.specs.declared.SysClkSrc.{SysClkSrc}
+use Rattle.config.specs.declared.SysClkConfig.{SysClkConfig}
+use Rattle.config.specs.declared.OptionRosc.{OptionRosc}
+use Rattle.config.specs.declared.OptionPll.{OptionPll}
+use Rattle.config.specs.declared.OptionPeri.{OptionPeri}
+use Rattle.config.specs.declared.OptionAux.{OptionAux}
+use Rattle.config.specs.declared.OptionRtc.{OptionRtc}
+use Rattle.settings.specs.declared.OptionCrystal.{OptionCrystal}
+use Rattle.settings.specs.declared.OptionCycles.{OptionCycles}
+use Rattle.settings.specs.declared.Settings.{Settings}
+use Rattle.settings.specs.Codes.{rangeFrom, refFrom, sysFrom, periFrom, auxFrom, divFrom, voltageFrom}
+use Rattle.sheet.specs.Steps.{step0, ringPass}
+
+-- what a part of a sheet sets, and the steps after it
+pub data Part (A : Type 0) : Type 0 where
+  part : A → List Step → Part A
+
+-- goes on with the steps after a part
+infixl 5 _then_
+abbrev pub _then_ : {A B : Type 0} → Part A → (A → List Step → B) → B
+part a rest then f = f a rest
+
+-- step i of a list; past its end one of kind 0, which no step has
+abbrev pub stepAt : List Step → ℕ → Step
+stepAt xs i = getD xs i (step0 0)
+
+-- 9 to 12 and the store where there is a ring, else the store
+abbrev pub readRing : List Step → Part OptionRosc
+readRing xs =
+    pick (eqb (stepAt xs 0 .kind) kind.strengths-0-3)
+    (part
+    (OptionRosc.Some
+    (record {
+      hz = stepAt xs 4 .f1;
+      range = rangeFrom (stepAt xs 3 .f0);
+      «drive_strength» =
+          record {
+            s0 = stepAt xs 0 .f0;
+            s1 = stepAt xs 0 .f1;
+            s2 = stepAt xs 0 .f2;
+            s3 = stepAt xs 0 .f3;
+            s4 = stepAt xs 1 .f0;
+            s5 = stepAt xs 1 .f1;
+            s6 = stepAt xs 1 .f2;
+            s7 = stepAt xs 1 .f3;
+          };
+      div = stepAt xs 2 .f0 - ringPass;
+    }))
+    (drop 5 xs))
+    (part OptionRosc.None (drop 1 xs))
+
+-- the voltage, and with it the settling step
+pub record Voltage : Type 0 where
+  pub voltage : CoreVoltage
+  pub settling : OptionCycles
+
+-- 13, 14 if there, and 15; with no 13 the voltage is the reading's
+abbrev pub readVoltage : ℕ → List Step → Part Voltage
+readVoltage reading xs =
+    pick (eqb (stepAt xs 0 .kind) kind.voltage)
+    (pick (eqb (stepAt xs 1 .kind) kind.delay)
+    (part (record { voltage = voltageFrom (stepAt xs 0 .f0); settling = OptionCycles.Some (stepAt xs 1 .f0) }) (drop 3 xs))
+    (part (record { voltage = voltageFrom (stepAt xs 0 .f0); settling = OptionCycles.None }) (drop 2 xs)))
+    (part (record { voltage = voltageFrom reading; settling = OptionCycles.None }) xs)
+
+-- nine steps from 19 on where the PLL is there; which: 0 system, 1 USB
+abbrev pub readPll : ℕ → List Step → Part OptionPll
+readPll which xs =
+    pick (eqb (stepAt xs 0 .kind) kind.pll-power && eqb (stepAt xs 0 .f0) which)
+    (part
+    (OptionPll.Some
+    (record {
+      refdiv = stepAt xs 2 .f1;
+      fbdiv = stepAt xs 3 .f1;
+      «post_div1» = stepAt xs 6 .f1;
+      «post_div2» = stepAt xs 6 .f2;
+    }))
+    (drop 9 xs))
+    (part OptionPll.None xs)
+
+-- 16 to 18 and the PLLs; the crystal's Hz are in the store after them, which stays
+abbrev pub readCrystal : List Step → Part OptionCrystal
+readCrystal xs =
+    pick (eqb (stepAt xs 0 .kind) kind.startup)
+    (readPll 0 (drop 3 xs) then λ sys ys.
+    readPll 1 ys then λ usb zs.
+    part (OptionCrystal.Some (record { hz = stepAt zs 0 .f1; delay = stepAt xs 0 .f0; sys = sys; usb = usb })) zs)
+    (part OptionCrystal.None xs)
+
+-- store, 25, 8, 26, 27
+abbrev pub readRef : List Step → Part RefClkConfig
+readRef xs = part (record { src = refFrom (stepAt xs 1 .f0); div = divFrom (stepAt xs 3 .f0) }) (drop 5 xs)
+
+-- store, 28, 6, a second 28 and 6 unless the source is Ref, 29
+abbrev pub readSys : List Step → Part SysClkConfig
+readSys xs =
+    pick (eqb (stepAt xs 3 .kind) kind.sys-control)
+    (part (record { src = sysFrom (stepAt xs 3 .f0); «div_int» = stepAt xs 5 .f0; «div_frac» = stepAt xs 5 .f1 }) (drop 6 xs))
+    (part (record { src = SysClkSrc.Ref; «div_int» = stepAt xs 3 .f0; «div_frac» = stepAt xs 3 .f1 }) (drop 4 xs))
+
+-- 30 and the store, else the store
+abbrev pub readPeri : List Step → Part OptionPeri
+readPeri xs =
+    pick (eqb (stepAt xs 0 .kind) kind.peri-control)
+    (part (OptionPeri.Some (periFrom (stepAt xs 0 .f0))) (drop 2 xs))
+    (part OptionPeri.None (drop 1 xs))
+
+-- USB from kind 31 on, ADC from 33 on: two steps and the store, else the store
+abbrev pub readAux : ℕ → List Step → Part OptionAux
+readAux divider xs =
+    pick (eqb (stepAt xs 0 .kind) divider)
+    (part
+    (OptionAux.Some (record { src = auxFrom (stepAt xs 1 .f1); div = divFrom (stepAt xs 0 .f0); phase = stepAt xs 1 .f0 }))
+    (drop 3 xs))
+    (part OptionAux.None (drop 1 xs))
+
+-- 35 and 36 where the RTC is there
+abbrev pub readRtc : List Step → OptionRtc
+readRtc xs =
+    pick (eqb (stepAt xs 0 .kind) kind.rtc-divider)
+    (OptionRtc.Some
+    (record {
+      src = auxFrom (stepAt xs 1 .f1);
+      «div_int» = stepAt xs 0 .f0;
+      «div_frac» = stepAt xs 0 .f1;
+      phase = stepAt xs 1 .f0;
+    }))
+    OptionRtc.None
+
+-- past the nine steps of the head, and later past the stores of xosc, pll_sys and pll_usb
+unfoldable pub settingsFrom : ℕ → List Step → Settings
+settingsFrom reading xs =
+    readRing (drop 9 xs) then λ rosc xs.
+    readVoltage reading xs then λ v xs.
+    readCrystal xs then λ xosc xs.
+    readRef (drop 3 xs) then λ reference xs.
+    readSys xs then λ sys xs.
+    readPeri xs then λ peri xs.
+    readAux kind.usb-divider xs then λ usb xs.
+    readAux kind.adc-divider xs then λ adc xs.
+    record {
+      rosc = rosc;
+      xosc = xosc;
+      voltage = v .voltage;
+      settling = v .settling;
+      reference = reference;
+      sys = sys;
+      peri = peri;
+      usb = usb;
+      adc = adc;
+      rtc = readRtc xs;
+    }

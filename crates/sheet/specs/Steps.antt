@@ -1,0 +1,218 @@
+-- The steps of a sheet, part by part in the order of docs/FORMAT.md. Each part ends with what it stores.
+-- Assumes nothing.
+use Prim.Native.Nat.{ℕ, _+_, _-_, _/_, _%_}
+use mathlib.Core.List.{List, [], _∷_, _++_}
+use lib.Dec.{eqb}
+use Rattle.base.specs.Choice.{pick}
+use Rattle.voltage.specs.declared.CoreVoltage.{CoreVoltage}
+use Rattle.voltage.specs.Voltage.{codeOf, bodOf}
+use Rattle.step.specs.declared.Step.{Step}
+use Rattle.step.specs.Steps.{stepOf}
+use Rattle.step.specs.Kinds as kind
+use Rattle.sheet.specs.Resets as block
+use Rattle.config.specs.declared.OptionRosc.{OptionRosc}
+use Rattle.config.specs.declared.OptionPll.{OptionPll}
+use Rattle.config.specs.declared.RefClkConfig.{RefClkConfig}
+use Rattle.config.specs.declared.SysClkConfig.{SysClkConfig}
+use Rattle.config.specs.declared.OptionPeri.{OptionPeri}
+use Rattle.config.specs.declared.OptionAux.{OptionAux}
+use Rattle.config.specs.declared.OptionRtc.{OptionRtc}
+use Rattle.settings.specs.declared.OptionCrystal.{OptionCrystal}
+use Rattle.settings.specs.declared.OptionCycles.{OptionCycles}
+use Rattle.settings.specs.declared.Settings.{Settings}
+use Rattle.settings.specs.declared.Sources.{Sources}
+use Rattle.settings.specs.declared.Frequencies.{Frequencies}
+use Rattle.settings.specs.Codes.{rangeCode, refCode, sysSelect, sysAux, periAux, auxCode}
+use Rattle.settings.specs.Settings.{ringHz}
+use Rattle.settings.specs.Frequencies.{frequenciesOf}
+
+-- steps of a kind with fewer than five fields
+abbrev pub step4 : ℕ → ℕ → ℕ → ℕ → ℕ → Step
+step4 k a b c d = stepOf k a b c d 0
+
+abbrev pub step3 : ℕ → ℕ → ℕ → ℕ → Step
+step3 k a b c = stepOf k a b c 0 0
+
+abbrev pub step2 : ℕ → ℕ → ℕ → Step
+step2 k a b = stepOf k a b 0 0 0
+
+abbrev pub step1 : ℕ → ℕ → Step
+step1 k a = stepOf k a 0 0 0 0
+
+abbrev pub step0 : ℕ → Step
+step0 k = stepOf k 0 0 0 0 0
+
+-- a clock's frequency
+abbrev pub storeStep : ℕ → ℕ → Step
+storeStep clock hz = step2 kind.store clock hz
+
+-- 1(0x0FBCDBF), 4, 5(0), 6(0), 7(0), 8(0), 1(0x3000), 2(0x3000), 3(0x3000)
+unfoldable pub headPart : List Step
+headPart =
+    step1 kind.reset block.first
+    ∷ step0 kind.resus-off
+    ∷ step1 kind.sys-source 0
+    ∷ step1 kind.wait-sys 0
+    ∷ step1 kind.ref-source 0
+    ∷ step1 kind.wait-ref 0
+    ∷ step1 kind.reset block.plls
+    ∷ step1 kind.release block.plls
+    ∷ step1 kind.wait-released block.plls
+    ∷ []
+
+-- what the ring's divider is written with: its pass value
+abbrev pub ringPass : ℕ
+ringPass = 0xAA0
+
+-- with a ring 9 to 12: strengths, divider and pass value, range
+abbrev pub ringSteps : OptionRosc → List Step
+ringSteps (OptionRosc.Some r) =
+    step4 kind.strengths-0-3 (r .«drive_strength» .s0) (r .«drive_strength» .s1)
+    (r .«drive_strength» .s2) (r .«drive_strength» .s3)
+    ∷ step4 kind.strengths-4-7 (r .«drive_strength» .s4) (r .«drive_strength» .s5)
+    (r .«drive_strength» .s6) (r .«drive_strength» .s7)
+    ∷ step1 kind.ring-divider (r .div + ringPass)
+    ∷ step1 kind.ring-on (rangeCode (r .range))
+    ∷ []
+ringSteps OptionRosc.None = []
+
+-- store rosc
+unfoldable pub ringPart : OptionRosc → List Step
+ringPart r = ringSteps r ++ (storeStep 0 (ringHz r) ∷ [])
+
+abbrev pub settlingSteps : OptionCycles → List Step
+settlingSteps (OptionCycles.Some n) = step1 kind.delay n ∷ []
+settlingSteps OptionCycles.None = []
+
+-- if the voltage code differs from the reading 13, then 14 unless the settling time is 0, then 15
+unfoldable pub voltagePart : ℕ → CoreVoltage → OptionCycles → List Step
+voltagePart reading v settling =
+    pick (eqb (codeOf v) reading) []
+    (step1 kind.voltage (codeOf v) ∷ (settlingSteps settling ++ (step1 kind.brownout (bodOf v) ∷ [])))
+
+-- for a PLL present 19(1111), 14(10), 20, 21, 19(0011), 22, 23, 24, 14(100); which: 0 system, 1 USB
+abbrev pub pllSteps : ℕ → OptionPll → List Step
+pllSteps which (OptionPll.Some p) =
+    stepOf kind.pll-power which 1 1 1 1
+    ∷ step1 kind.delay 10
+    ∷ step2 kind.pll-reference which (p .refdiv)
+    ∷ step2 kind.pll-feedback which (p .fbdiv)
+    ∷ stepOf kind.pll-power which 0 0 1 1
+    ∷ step1 kind.wait-lock which
+    ∷ step3 kind.pll-posts which (p .«post_div1») (p .«post_div2»)
+    ∷ step1 kind.pll-post-on which
+    ∷ step1 kind.delay 100
+    ∷ []
+pllSteps which OptionPll.None = []
+
+-- with a crystal 16, 17, 18, then each PLL present
+unfoldable pub crystalPart : OptionCrystal → List Step
+crystalPart (OptionCrystal.Some x) =
+    step1 kind.startup (x .delay)
+    ∷ step0 kind.crystal-on
+    ∷ step0 kind.wait-stable
+    ∷ (pllSteps 0 (x .sys) ++ pllSteps 1 (x .usb))
+crystalPart OptionCrystal.None = []
+
+-- store xosc, pll_sys, pll_usb
+abbrev pub sourcePart : Sources → List Step
+sourcePart f = storeStep 1 (f .xosc) ∷ storeStep 2 (f .«pll_sys») ∷ storeStep 3 (f .«pll_usb») ∷ []
+
+-- store ref, 25, 8, 26, 27; a divider of two bits holds 4 as 0; the tick is the reference's MHz rounded down
+abbrev pub refPart : ℕ → RefClkConfig → List Step
+refPart hz c =
+    storeStep 4 hz
+    ∷ step1 kind.ref-control (refCode (c .src))
+    ∷ step1 kind.wait-ref (refCode (c .src))
+    ∷ step1 kind.ref-divider (c .div % 4)
+    ∷ step1 kind.tick (hz / 1000000)
+    ∷ []
+
+-- unless the source is Ref 28(0,0), 6(0)
+unfoldable pub switchSteps : ℕ → List Step
+switchSteps select = pick (eqb select 0) [] (step2 kind.sys-control 0 0 ∷ step1 kind.wait-sys 0 ∷ [])
+
+-- store sys; the switch; then 28, 6, 29
+unfoldable pub sysPart : ℕ → SysClkConfig → List Step
+sysPart hz c =
+    storeStep 5 hz
+    ∷ (switchSteps (sysSelect (c .src))
+    ++ (step2 kind.sys-control (sysAux (c .src)) (sysSelect (c .src))
+    ∷ step1 kind.wait-sys (sysSelect (c .src))
+    ∷ step2 kind.sys-divider (c .«div_int») (c .«div_frac»)
+    ∷ []))
+
+abbrev pub periSteps : OptionPeri → List Step
+periSteps (OptionPeri.Some src) = step1 kind.peri-control (periAux src) ∷ []
+periSteps OptionPeri.None = []
+
+-- 30, store
+unfoldable pub periPart : ℕ → OptionPeri → List Step
+periPart hz o = periSteps o ++ (storeStep 6 hz ∷ [])
+
+-- a divider of two bits, then phase and source; each clock has its kinds
+abbrev pub auxSteps : ℕ → ℕ → OptionAux → List Step
+auxSteps divider control (OptionAux.Some a) = step1 divider (a .div % 4) ∷ step2 control (a .phase) (auxCode (a .src)) ∷ []
+auxSteps divider control OptionAux.None = []
+
+-- 31, 32, store; 33, 34, store
+unfoldable pub auxPart : ℕ → ℕ → ℕ → ℕ → OptionAux → List Step
+auxPart divider control clock hz o = auxSteps divider control o ++ (storeStep clock hz ∷ [])
+
+abbrev pub rtcSteps : OptionRtc → List Step
+rtcSteps (OptionRtc.Some r) =
+    step2 kind.rtc-divider (r .«div_int») (r .«div_frac»)
+    ∷ step2 kind.rtc-control (r .phase) (auxCode (r .src))
+    ∷ []
+rtcSteps OptionRtc.None = []
+
+-- 35, 36, store
+unfoldable pub rtcPart : ℕ → OptionRtc → List Step
+rtcPart hz o = rtcSteps o ++ (storeStep 9 hz ∷ [])
+
+-- what stays in reset where a clock is absent: of the peripherals SPI and UART
+abbrev pub periBits : OptionPeri → ℕ
+periBits (OptionPeri.Some src) = 0
+periBits OptionPeri.None = block.spi0 + block.spi1 + block.uart0 + block.uart1
+
+-- of USB and ADC their own block
+abbrev pub auxBits : ℕ → OptionAux → ℕ
+auxBits bits (OptionAux.Some a) = 0
+auxBits bits OptionAux.None = bits
+
+-- and of the RTC
+abbrev pub rtcBits : OptionRtc → ℕ
+rtcBits (OptionRtc.Some r) = 0
+rtcBits OptionRtc.None = block.rtc
+
+-- every block less those of absent clocks
+unfoldable pub releaseMask : OptionPeri → OptionAux → OptionAux → OptionRtc → ℕ
+releaseMask p u a r = block.all - (periBits p + auxBits block.usb u + auxBits block.adc a + rtcBits r)
+
+-- last 2 and 3 with the mask
+abbrev pub lastPart : ℕ → List Step
+lastPart mask = step1 kind.release mask ∷ step1 kind.wait-released mask ∷ []
+
+-- from the sources on
+unfoldable pub clocksPart : Settings → Frequencies → List Step
+clocksPart s f =
+    sourcePart (f .sources)
+    ++ (refPart (f .reference) (s .reference)
+    ++ (sysPart (f .sys) (s .sys)
+    ++ (periPart (f .peri) (s .peri)
+    ++ (auxPart kind.usb-divider kind.usb-control 7 (f .usb) (s .usb)
+    ++ (auxPart kind.adc-divider kind.adc-control 8 (f .adc) (s .adc)
+    ++ (rtcPart (f .rtc) (s .rtc)
+    ++ lastPart (releaseMask (s .peri) (s .usb) (s .adc) (s .rtc))))))))
+
+-- the whole sheet, of settings and their frequencies
+unfoldable pub stepsWith : ℕ → Settings → Frequencies → List Step
+stepsWith reading s f =
+    headPart
+    ++ (ringPart (s .rosc)
+    ++ (voltagePart reading (s .voltage) (s .settling)
+    ++ (crystalPart (s .xosc)
+    ++ clocksPart s f)))
+
+abbrev pub stepsOf : ℕ → Settings → List Step
+stepsOf reading s = stepsWith reading s (frequenciesOf s)

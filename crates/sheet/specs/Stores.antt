@@ -1,0 +1,19 @@
+-- Inside: the stores of a sheet.
+-- Assumes nothing.
+use Prim.Native.Nat.{ℕ, _+_}
+use mathlib.Core.List.{List, [], _∷_}
+use lib.Dec.{eqb}
+use Rattle.base.specs.Choice.{pick}
+use Rattle.step.specs.declared.Step.{Step}
+use Rattle.step.specs.Kinds as kind
+use Rattle.sheet.specs.Steps.{storeStep}
+
+-- the stores among steps, in their order
+abbrev pub storesIn : List Step → List Step
+storesIn [] = []
+storesIn (x ∷ xs) = pick (eqb (x .kind) kind.store) (x ∷ storesIn xs) (storesIn xs)
+
+-- a store for each frequency, from this clock on
+abbrev pub storesFrom : ℕ → List ℕ → List Step
+storesFrom clock [] = []
+storesFrom clock (hz ∷ hzs) = storeStep clock hz ∷ storesFrom (clock + 1) hzs

@@ -1,0 +1,56 @@
+-- What the cases answer that write a sheet, from the numbers n of the case: its reading, its room, then the plan's.
+-- Assumes nothing.
+use mathlib.Core.List.{List}
+use mathlib.Core.Option.{Option, none, some}
+use Prim.Native.Nat.{ℕ}
+use lib.ListN.{take, drop, replicate}
+use Rattle.base.specs.Answer.{Answer, value, refusal}
+use Rattle.voltage.specs.declared.CoreVoltage.{CoreVoltage}
+use Rattle.voltage.specs.Voltage.{coreVoltageOf}
+use Rattle.config.specs.declared.ClockConfig.{ClockConfig}
+use Rattle.config.specs.Presets.{defaultPlan, crystalPlan, roscPlan, systemPlan, manualPlan}
+use Rattle.sheet.specs.Writer.{initAnswer, initBuffer}
+use Rattle.plan_numbers.specs.Plan.{planOf}
+use Rattle.fields.specs.Row.{nth, byteAt, roomAt, pllAt}
+use Rattle.replies.specs.Reply.{badCase, answerText, writtenText}
+
+-- LENGTH HEX: the sheet of a plan, written into a buffer
+abbrev pub writeText : ℕ → List ℕ → ClockConfig → List ℕ
+writeText reading buffer plan = answerText (writtenText (initBuffer plan reading buffer)) (initAnswer plan reading buffer)
+
+-- the buffer has as many bytes as the case says, and holds 0xEE before the call
+unfoldable pub sheetText : List ℕ → ClockConfig → List ℕ
+sheetText n plan = writeText (byteAt n 0) (replicate (roomAt n 1) 238) plan
+
+abbrev pub plannedText : List ℕ → Answer ClockConfig → List ℕ
+plannedText n planned = answerText (sheetText n) planned
+
+-- HZ
+abbrev pub crystalText : List ℕ → List ℕ
+crystalText n = sheetText n (crystalPlan (nth n 2))
+
+abbrev pub roscText : List ℕ → List ℕ
+roscText n = sheetText n roscPlan
+
+abbrev pub defaultText : List ℕ → List ℕ
+defaultText n = sheetText n defaultPlan
+
+-- HZ
+abbrev pub systemText : List ℕ → List ℕ
+systemText n = plannedText n (systemPlan (nth n 2))
+
+abbrev pub manualWith : List ℕ → Answer CoreVoltage → List ℕ
+manualWith n (value v) = plannedText n (manualPlan (nth n 2) (pllAt n 3) v)
+manualWith n (refusal m) = badCase
+
+-- HZ REFDIV FBDIV POST1 POST2 CODE
+abbrev pub manualText : List ℕ → List ℕ
+manualText n = manualWith n (coreVoltageOf (byteAt n 7))
+
+abbrev pub planText : List ℕ → Option ClockConfig → List ℕ
+planText n (some plan) = sheetText n plan
+planText n none = badCase
+
+-- PLAN
+abbrev pub planSheetText : List ℕ → List ℕ
+planSheetText n = planText n (planOf (take 48 (drop 2 n)))

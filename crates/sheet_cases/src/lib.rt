@@ -1,0 +1,91 @@
+// The cases that write a sheet. Each takes the numbers n of the case: the reading, the room, then those of the plan.
+use base::Length;
+use config::ClockConfig;
+use config::Planned;
+use plan_numbers::PlanRead;
+use voltage::VoltageRead;
+ghost use Rattle.base.specs.Answer.{lengthIs};
+ghost use Rattle.base.specs.Placed.{Placed};
+ghost use Rattle.config.specs.Presets.{plannedIs};
+ghost use Rattle.replies.specs.Reply.{answerText, writtenText};
+ghost use Rattle.sheet_cases.specs.Sheets.{writeText, sheetText, plannedText};
+ghost use Rattle.sheet_cases.specs.Sheets.{crystalText, roscText, defaultText, systemText, manualText, planSheetText};
+
+fn put_written(out: &mut [u8], buf: &[u8], written: Length) -> usize
+    ensures { λ r. ⌜ Placed (now (out .entry)) 0 (answerText (writtenText (now (buf .entry))) (lengthIs written)) r (now (out .exit)) ⌝ }
+{
+    match written {
+        Length::Bytes(length) => replies::put_written(out, length, buf),
+        Length::Refused(number) => replies::put_refused(out, number),
+    }
+}
+
+fn put_write(out: &mut [u8], plan: ClockConfig, reading: u8, buf: &mut [u8]) -> usize
+    ensures { λ r. ⌜ Placed (now (out .entry)) 0 (writeText reading (now (buf .entry)) plan) r (now (out .exit)) ⌝ }
+{
+    let written = sheet::init(plan, reading, buf);
+    put_written(out, buf, written)
+}
+
+fn put_sheet(n: &[u32; 64], plan: ClockConfig, out: &mut [u8]) -> usize
+    ensures { λ r. ⌜ Placed (now (out .entry)) 0 (sheetText (now (n .entry)) plan) r (now (out .exit)) ⌝ }
+{
+    let mut buf = [238u8; 1024];
+    let reading = fields::byte_at(n, 0);
+    let room = fields::room_at(n, 1);
+    put_write(out, plan, reading, &mut buf[..room])
+}
+
+pub fn put_crystal(n: &[u32; 64], out: &mut [u8]) -> usize
+    ensures { λ r. ⌜ Placed (now (out .entry)) 0 (crystalText (now (n .entry))) r (now (out .exit)) ⌝ }
+{
+    put_sheet(n, ClockConfig::crystal(fields::number_at(n, 2)), out)
+}
+
+pub fn put_rosc(n: &[u32; 64], out: &mut [u8]) -> usize
+    ensures { λ r. ⌜ Placed (now (out .entry)) 0 (roscText (now (n .entry))) r (now (out .exit)) ⌝ }
+{
+    put_sheet(n, ClockConfig::rosc(), out)
+}
+
+pub fn put_default(n: &[u32; 64], out: &mut [u8]) -> usize
+    ensures { λ r. ⌜ Placed (now (out .entry)) 0 (defaultText (now (n .entry))) r (now (out .exit)) ⌝ }
+{
+    put_sheet(n, ClockConfig::default(), out)
+}
+
+fn put_planned(n: &[u32; 64], planned: Planned, out: &mut [u8]) -> usize
+    ensures { λ r. ⌜ Placed (now (out .entry)) 0 (plannedText (now (n .entry)) (plannedIs planned)) r (now (out .exit)) ⌝ }
+{
+    match planned {
+        Planned::Plan(plan) => put_sheet(n, plan, out),
+        Planned::Refused(number) => replies::put_refused(out, number),
+    }
+}
+
+pub fn put_system(n: &[u32; 64], out: &mut [u8]) -> usize
+    ensures { λ r. ⌜ Placed (now (out .entry)) 0 (systemText (now (n .entry))) r (now (out .exit)) ⌝ }
+{
+    put_planned(n, ClockConfig::system_freq(fields::number_at(n, 2)), out)
+}
+
+pub fn put_manual(n: &[u32; 64], out: &mut [u8]) -> usize
+    ensures { λ r. ⌜ Placed (now (out .entry)) 0 (manualText (now (n .entry))) r (now (out .exit)) ⌝ }
+{
+    let hz = fields::number_at(n, 2);
+    let pll = fields::pll_at(n, 3);
+    match voltage::core_voltage(fields::byte_at(n, 7)) {
+        VoltageRead::Voltage(v) => put_planned(n, ClockConfig::manual_pll(hz, pll, v), out),
+        VoltageRead::Refused(_) => replies::put_bad(out),
+    }
+}
+
+pub fn put_plan_sheet(n: &[u32; 64], out: &mut [u8]) -> usize
+    ensures { λ r. ⌜ Placed (now (out .entry)) 0 (planSheetText (now (n .entry))) r (now (out .exit)) ⌝ }
+{
+    let all = &n[..];
+    match plan_numbers::plan(&all[2..50]) {
+        PlanRead::Plan(plan) => put_sheet(n, plan, out),
+        PlanRead::Bad => replies::put_bad(out),
+    }
+}

@@ -1,0 +1,60 @@
+-- `step::access::copy_turned` meets its contract: after i turns the bytes of the first i words stand in the buffer.
+-- Assumes nothing.
+use mathlib.Core.Path.{_≡_, refl, _∙_}
+use mathlib.Core.List.{List, _++_, map}
+use Prim.Native.Nat.{ℕ, _≤_, _-_, _*_}
+use lib.ListN.{length, take, drop}
+use lib.Seq.{take-length}
+use denote.Ref.{now}
+use native.Mathlib.Nat.{le-antisymm}
+use native.Mathlib.Omega.{arith}
+use Rattle.step.specs.Bytes.{turnedOf, bytesOf}
+use Rattle.step.proofs.Copies.{copied-more, copied-room, copied-short}
+use Rattle.step.proofs.access.copy_turned.Statement.{statement}
+use Rattle.step.proofs.access.copy_turned.Tie as tie
+
+abbrev Inv-loop : tie.InvT-loop
+Inv-loop words buf₀ i₀ buf i =
+    (i ≤ length words) × (8 * length words ≤ length buf₀) × (length buf ≡ length buf₀)
+    × (buf ≡ bytesOf (map turnedOf (take i words)) ++ drop (8 * i) buf₀)
+
+abbrev μ-loop : tie.MeasureT-loop
+μ-loop words buf₀ i₀ buf i = length words - i
+
+returns : tie.Need-returns Inv-loop μ-loop
+returns c = copied-short _ _ (omega arith)
+
+loop-holds : tie.Need-loop-holds Inv-loop μ-loop
+loop-holds c = (omega arith, omega arith, refl, refl)
+
+loop-again : tie.Need-loop-again Inv-loop μ-loop
+loop-again c =
+    let put = c .before .before in
+    let turn = put .before .before .before .before in
+    let start = turn .before .before .before .before in (
+      omega arith,
+      turn .loop .inv .1,
+      put .put-turned .kept .0 ∙ turn .loop .inv .2,
+      put .put-turned .ensures
+          ∙ copied-more (now (start .args .words)) (now (start .args .buf)) (turn .loop .buf) (turn .loop .i)
+          (omega arith)
+          (turn .loop .inv .3),
+    )
+
+same-length : tie.Need-same-length Inv-loop μ-loop
+same-length c = c .before .loop .inv .2
+
+returns-2 : tie.Need-returns-2 Inv-loop μ-loop
+returns-2 c =
+    let turn = c .before in
+    let start = turn .before .before .before .before in
+    let ws : List ℕ = now (start .args .words) in
+    let room = copied-room ws (now (start .args .buf)) (turn .loop .inv .1) in
+    let all : turn .loop .i ≡ length ws = le-antisymm (turn .loop .inv .0) (c .loop-test .left) in
+    (room .0, turn .loop .inv .3 ∙ rw (all, take-length ws) (room .1))
+
+pub copy-turned-spec : {M : Type 1} → statement M
+copy-turned-spec =
+    tie.close
+    (tie.spec Inv-loop μ-loop returns loop-holds (λ c. omega arith) (λ c. omega arith) (λ c. omega arith)
+    (λ c κs. omega arith) (λ c. omega arith) (λ c. omega arith) loop-again same-length returns-2)

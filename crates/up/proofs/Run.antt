@@ -1,0 +1,30 @@
+-- The sheet of an accepted plan, at any reading, runs to its end and leaves its stored values.
+-- Assumes nothing.
+use mathlib.Core.Path.{_∙_, ap}
+use Prim.Native.Nat.{ℕ}
+use lib.ListN.{length}
+use Rattle.config.specs.declared.ClockConfig.{ClockConfig}
+use Rattle.settings.specs.Settings.{settingsOf}
+use Rattle.settings.specs.Typed.{Typed}
+use Rattle.refusals.specs.Refusals.{Accepted}
+use Rattle.sheet.specs.Writer.{sheetBytes}
+use Rattle.sheet.proofs.Counts.{steps-few}
+use Rattle.sheet.proofs.Sheets.{steps-formed}
+use Rattle.runner.specs.Calls.{readyAt}
+use Rattle.runner.proofs.Ready.{ready-answers, ready-stores}
+use Rattle.up.specs.Up.{planSteps, AnswersAll, LeavesStored}
+use Rattle.up.proofs.Stored.{steps-store}
+
+module _ (p : ClockConfig) (reading : ℕ) (ok : Accepted p reading) (t : Typed (settingsOf p reading)) where
+  pub sheet-answers : AnswersAll p reading
+  unfolding sheetBytes
+  sheet-answers =
+      let s = settingsOf p reading in
+      ready-answers (planSteps p reading) (steps-formed s reading ok t) (steps-few reading s)
+
+  pub sheet-run : LeavesStored p reading
+  unfolding sheetBytes
+  sheet-run =
+      let s = settingsOf p reading in
+      ready-stores (planSteps p reading) (steps-formed s reading ok t) (steps-few reading s)
+      ∙ ap (readyAt (length (planSteps p reading))) (steps-store reading s)

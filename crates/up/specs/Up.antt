@@ -1,0 +1,32 @@
+-- Inside: a plan's sheet under a fresh runner that hears ready at each call.
+-- Assumes nothing.
+use mathlib.Core.Bool.{true}
+use mathlib.Core.List.{List, [], _∷_, _++_, map}
+use mathlib.Core.Path.{_≡_}
+use Prim.Native.Nat.{ℕ, _+_}
+use lib.ListN.{length, replicate}
+use Rattle.base.specs.Answer.{value}
+use Rattle.step.specs.declared.Step.{Step}
+use Rattle.config.specs.declared.ClockConfig.{ClockConfig}
+use Rattle.settings.specs.Settings.{settingsOf}
+use Rattle.settings.specs.Frequencies.{storedOf}
+use Rattle.sheet.specs.Steps.{stepsOf}
+use Rattle.sheet.specs.Writer.{sheetBytes}
+use Rattle.runner.specs.Run.{done, fresh}
+use Rattle.runner.specs.Calls.{answers, after, readyAnswer, readyAt}
+
+-- the steps of a plan's sheet
+abbrev pub planSteps : ClockConfig → ℕ → List Step
+planSteps p reading = stepsOf reading (settingsOf p reading)
+
+-- every step is answered in its order, then done
+abbrev pub AnswersAll : ClockConfig → ℕ → Type 0
+AnswersAll p reading =
+    answers fresh (sheetBytes p reading) (replicate (length (planSteps p reading) + 1) true)
+    ≡ map readyAnswer (planSteps p reading) ++ (value done ∷ [])
+
+-- after as many calls as there are steps the runner holds the stored values
+abbrev pub LeavesStored : ClockConfig → ℕ → Type 0
+LeavesStored p reading =
+    after fresh (sheetBytes p reading) (replicate (length (planSteps p reading)) true)
+    ≡ readyAt (length (planSteps p reading)) (storedOf (settingsOf p reading))

@@ -1,0 +1,125 @@
+//! What the papers show is what the Rust does: the worked sheet, the voltages, the program's example. The table of
+//! kinds gives the bytes of the worked sheet, and the cases are those that are answered here.
+
+use std::collections::BTreeMap;
+
+use crate::answer::{Answer, answer, answer_line};
+use crate::case::{Case, KINDS};
+
+const PAPERS: &str = concat!(
+    include_str!("../../docs/FORMAT.md"),
+    include_str!("../../docs/PLL.md"),
+    include_str!("../../docs/WORKED-SHEET.md"),
+    include_str!("../../docs/CASES.md"),
+);
+
+const CLOCKS: [&str; 10] = ["rosc", "xosc", "pll_sys", "pll_usb", "ref", "sys", "peri", "usb", "adc", "rtc"];
+
+/// The lines of a section.
+fn section(heading: &str) -> impl Iterator<Item = &'static str> {
+    let name = |line: &'static str| line.strip_prefix("## ").or(line.strip_prefix("# "));
+    let lines = PAPERS.lines().skip_while(move |line| name(line) != Some(heading)).skip(1);
+    lines.take_while(move |line| name(line).is_none())
+}
+
+/// The cells of the rows of a section's tables.
+fn cells(heading: &str) -> Vec<Vec<&'static str>> {
+    let lines = section(heading).filter_map(|line| line.strip_prefix('|')?.strip_suffix('|'));
+    lines.map(|line| line.split('|').map(str::trim).collect()).collect()
+}
+
+/// The rows that begin with a number.
+fn rows(heading: &str) -> Vec<Vec<&'static str>> {
+    cells(heading).into_iter().filter(|cells| cells[0].parse::<u64>().is_ok()).collect()
+}
+
+/// The widths of each kind's fields: what stands in brackets.
+fn widths() -> BTreeMap<u64, Vec<u64>> {
+    let in_brackets =
+        |field: &str| field.split_once('(').and_then(|(_, rest)| rest.strip_suffix(')')?.parse().ok());
+    let width = |field: &str| in_brackets(field).unwrap_or_else(|| panic!("no width: {field}"));
+    let fields = |text: &str| text.split(", ").filter(|field| !field.is_empty()).map(width).collect();
+    let rows = rows("Kinds of steps");
+    rows.iter().map(|cells| (cells[0].parse().unwrap(), fields(cells[2]))).collect()
+}
+
+/// Decimal, or hexadecimal behind 0x.
+fn number(text: &str) -> u64 {
+    text.strip_prefix("0x").map_or_else(|| text.parse(), |hex| u64::from_str_radix(hex, 16)).unwrap()
+}
+
+/// The word of a step that stands as its kind with its fields in brackets.
+fn packed(step: &str, widths: &BTreeMap<u64, Vec<u64>>) -> u64 {
+    let (kind, fields) = step.split_once('(').unwrap_or((step, ")"));
+    let fields = fields.strip_suffix(')').unwrap().split(", ").filter(|field| !field.is_empty());
+    let fields: Vec<u64> = fields.map(number).collect();
+    let kind = number(kind);
+    let widths = &widths[&kind];
+    assert_eq!(fields.len(), widths.len(), "{step}");
+    let (mut word, mut left) = (kind << 58, 58);
+    for (field, width) in fields.into_iter().zip(widths) {
+        assert!(field >> width == 0, "{step}");
+        left -= width;
+        word |= field << left;
+    }
+    word
+}
+
+#[test]
+fn the_worked_sheet_is_the_rusts() {
+    let _alone = crate::tests::alone();
+    let rows = rows("A worked sheet");
+    let bytes: String = rows.iter().map(|cells| cells[1].trim_matches('`')).collect();
+    assert_eq!(format!("496 {bytes}"), answer_line("crystal 11 520 12000000"));
+    assert!(rows.iter().enumerate().all(|(position, cells)| number(cells[0]) == position as u64));
+}
+
+#[test]
+fn its_steps_give_its_bytes() {
+    let widths = widths();
+    assert!(widths.keys().copied().eq(1..=37));
+    for cells in rows("A worked sheet") {
+        assert_eq!(format!("`{:016x}`", packed(cells[2], &widths)), cells[1], "{}", cells[2]);
+    }
+}
+
+#[test]
+fn its_words_say_what_it_stores() {
+    let stores = rows("A worked sheet").into_iter().filter(|cells| cells[2].starts_with("37("));
+    for (cells, (clock, name)) in stores.zip(CLOCKS.iter().enumerate()) {
+        let (step, words) = (cells[2], cells[3]);
+        let hz = words.strip_prefix(&format!("store {name}: ")).unwrap().strip_suffix(" Hz").unwrap();
+        assert_eq!(step, format!("37({clock}, {hz})"));
+    }
+}
+
+#[test]
+fn the_voltages_are_the_rusts() {
+    let _alone = crate::tests::alone();
+    let row = |name: &str| cells("Voltages").into_iter().find(|cells| cells[0] == name).unwrap();
+    let (codes, levels) = (row("code"), row("brownout level"));
+    for reading in 0..=15 {
+        let known = codes.iter().position(|code| *code == reading.to_string());
+        let expected = known.map_or("refused 18".to_string(), |at| format!("{reading} {}", levels[at]));
+        assert_eq!(answer_line(&format!("voltage {reading}")), expected);
+    }
+}
+
+#[test]
+fn the_example_of_clocks_is_what_the_rust_stores() {
+    let _alone = crate::tests::alone();
+    let Some(Answer::Sheet(steps)) = Case::parse("system 11 520 125000000").map(|case| answer(&case)) else {
+        panic!("no sheet");
+    };
+    let stored = steps.iter().filter_map(|step| step.stored());
+    let stored = stored.map(|(clock, hz)| format!("{} {hz}", CLOCKS[clock as usize]));
+    let shown = section("Program clocks").skip_while(|line| *line != "```").skip(1);
+    assert!(shown.take(10).eq(stored));
+}
+
+#[test]
+fn the_cases_are_those_that_are_answered() {
+    let asked = cells("Text cases").into_iter().filter_map(|cells| cells[0].strip_prefix('`'));
+    let words: Vec<&str> = asked.map(|case| case.split(' ').next().unwrap()).collect();
+    assert_eq!(words, KINDS.map(|(word, _)| word));
+}
