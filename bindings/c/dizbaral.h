@@ -63,7 +63,8 @@ uint64_t dizbaral_system_sheet(uint32_t hz, uint8_t reading, uint8_t *sheet, siz
 uint64_t dizbaral_plan_sheet(const uint32_t *plan, size_t numbers, uint8_t reading, uint8_t *sheet, size_t length);
 
 /* Writes every setting that gives the target with no remainder, each once, two bytes each, most significant first:
- * feedback divider (9 bits), post dividers (3)(3), a zero bit. The length in bytes. Refusal 19. */
+ * feedback divider (9 bits), post dividers (3)(3), a zero bit. The lowest feedback divider comes first, then the
+ * greatest post 1, then the greatest post 2. The length in bytes. Refusal 19. */
 uint64_t dizbaral_list(uint32_t input_hz, uint32_t target_hz, uint8_t *list, size_t length);
 
 /* One call of the runner over a sheet: DIZBARAL_DONE, DIZBARAL_PASSED, DIZBARAL_WAITING, or the word of the step that

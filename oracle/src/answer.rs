@@ -11,6 +11,7 @@ use crate::peripherals::PIN_21;
 use crate::pio_programs::clock_divider::calculate_pio_clock_divider_value;
 use crate::plan::{self, pll};
 use crate::recorder::{self, Record};
+use crate::rules;
 use crate::standins::Peri;
 use crate::steps::Step;
 
@@ -18,6 +19,8 @@ use crate::steps::Step;
 #[derive(Debug, PartialEq, Eq)]
 pub enum Answer {
     Says(String),
+    /// The Rust has no counterpart: what our papers say.
+    Ruled(String),
     Sheet(Vec<Step>),
     Refused(u8),
     /// It panics. The refusals that this place of the code belongs to.
@@ -32,7 +35,7 @@ pub enum Answer {
 impl Display for Answer {
     fn fmt(&self, f: &mut Formatter<'_>) -> fmt::Result {
         match self {
-            Answer::Says(text) => f.write_str(text),
+            Answer::Says(text) | Answer::Ruled(text) => f.write_str(text),
             Answer::Sheet(steps) => {
                 write!(f, "{} ", steps.len() * 8)?;
                 steps.iter().try_for_each(|step| write!(f, "{:016x}", step.word))
@@ -81,7 +84,8 @@ pub fn answer(case: &Case) -> Answer {
         Kind::Default => sheet(n[0], ClockConfig::default),
         Kind::System => sheet(n[0], || ClockConfig::system_freq(n[2]).expect("system_freq never errs")),
         Kind::Manual => sheet(n[0], || ClockConfig::manual_pll(n[2], pll(&n[3..7]), plan::voltage(n[7]))),
-        Kind::List | Kind::Run => Answer::NoCounterpart,
+        Kind::List => Answer::Ruled(rules::list(n[0], n[1], n[2] as usize)),
+        Kind::Run => Answer::NoCounterpart,
     }
 }
 

@@ -150,8 +150,12 @@ impl Case {
         case.well_formed().then_some(case)
     }
 
+    pub fn word(&self) -> &'static str {
+        KINDS.iter().find(|(_, kind)| *kind == self.kind).unwrap().0
+    }
+
     pub fn text(&self) -> String {
-        let mut text = KINDS.iter().find(|(_, kind)| *kind == self.kind).unwrap().0.to_string();
+        let mut text = self.word().to_string();
         for number in &self.numbers {
             text.push(' ');
             text.push_str(&number.to_string());

@@ -17,6 +17,8 @@ const SHOWN_FINDINGS: usize = 20;
 #[derive(Clone, Copy, Debug, PartialEq, Eq, PartialOrd, Ord)]
 pub enum Class {
     Same,
+    /// The Rust has no counterpart for this word: the rule's answer.
+    SameByRule(&'static str),
     /// The step holds 16 bits of the ring divider, the register 12.
     SameRingDivider,
     /// Both say it is no case.
@@ -36,6 +38,7 @@ impl Class {
     pub fn text(self) -> String {
         match self {
             Class::Same => "same answer".to_string(),
+            Class::SameByRule(word) => format!("`{word}` as the rule says, no counterpart in the Rust"),
             Class::SameRingDivider => "same answer, ring divider over the register's 12 bits".to_string(),
             Class::NoCase => "no case on both sides".to_string(),
             Class::Panics(number) => format!("refused {number}, the Rust panics"),
@@ -68,6 +71,7 @@ pub fn class(case: &Case, rust: &Answer, ours: &str) -> Option<Class> {
         }
         (Answer::Unknown(_) | Answer::NoCounterpart, _) => None,
         _ if rust.to_string() != ours => None,
+        (Answer::Ruled(_), _) => Some(Class::SameByRule(case.word())),
         _ if ring_divider(case) => Some(Class::SameRingDivider),
         _ => Some(Class::Same),
     }
@@ -113,11 +117,12 @@ fn gpout_value(case: &Case) -> String {
     (n[3 + clock] as u64 * 256 / (65_536 * 256 + n[2] as u64)).to_string()
 }
 
-/// Compares, prints the counts by class, and says whether there was no finding.
-pub fn compare(seed: u64, count: usize, program: &str) -> io::Result<bool> {
+/// Compares, prints the counts by class, and says whether there was no finding. With a word only its cases.
+pub fn compare(seed: u64, count: usize, program: &str, word: Option<&str>) -> io::Result<bool> {
     let mut counts: BTreeMap<Class, u64> = BTreeMap::new();
     let mut findings = 0;
-    let mut lines = generate::lines(seed, count);
+    let asked = |line: &String| word.is_none_or(|word| line.split(' ').next() == Some(word));
+    let mut lines = generate::lines(seed, usize::MAX).filter(asked).take(count);
     loop {
         let batch: Vec<String> = lines.by_ref().take(BATCH).collect();
         if batch.is_empty() {
@@ -151,9 +156,9 @@ pub fn compare(seed: u64, count: usize, program: &str) -> io::Result<bool> {
         }
     }
     for (class, count) in &counts {
-        println!("{count:>9}  {}", class.text());
+        println!("| {} | {count} |", class.text());
     }
-    println!("{findings:>9}  findings");
+    println!("| findings | {findings} |");
     Ok(findings == 0)
 }
 

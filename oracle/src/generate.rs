@@ -1,19 +1,35 @@
 //! Cases from a seed: first every limit, the same for all seeds, then random ones. `voltage` has 256 inputs
-//! and all of them are among the first; `list` and `run` have no counterpart in the Rust.
+//! and all of them are among the first; `run` has no counterpart in the Rust.
 
 use crate::case::{Case, Kind};
+use crate::generate_ruled as ruled;
 use crate::limits;
 use crate::random::Random;
 use crate::random_plan;
 
+/// Of random cases, one in so many rests on rules of the port's own.
+const RULED: usize = 5;
+
 /// Lines: cases, and a few lines that are none.
 pub fn lines(seed: u64, count: usize) -> impl Iterator<Item = String> {
-    let mut random = Random::new(seed);
-    let fixed = limits::all().into_iter().map(|case| case.text());
-    fixed.chain(std::iter::repeat_with(move || line(&mut random))).take(count)
+    let fixed = limits::all().into_iter().chain(ruled::limits()).map(|case| case.text());
+    let (mut of_rust, mut of_rules) = (random_lines(seed, case), random_lines(!seed, ruled::case));
+    let random = (1..).map(move |at| if at % RULED == 0 { of_rules() } else { of_rust() });
+    fixed.chain(random).take(count)
 }
 
-fn line(r: &mut Random) -> String {
+/// Those that stored files are made from: the cases that rest on the Rust.
+pub fn stored_lines(seed: u64, count: usize) -> impl Iterator<Item = String> {
+    let fixed = limits::all().into_iter().map(|case| case.text());
+    fixed.chain(std::iter::repeat_with(random_lines(seed, case))).take(count)
+}
+
+fn random_lines(seed: u64, case: fn(&mut Random) -> Case) -> impl FnMut() -> String {
+    let mut random = Random::new(seed);
+    move || line(&mut random, case)
+}
+
+fn line(r: &mut Random, case: fn(&mut Random) -> Case) -> String {
     let case = case(r);
     debug_assert!(case.well_formed());
     if r.percent(1) { no_case(r, &case) } else { case.text() }
@@ -58,7 +74,7 @@ fn with_buffer(r: &mut Random, rest: impl FnOnce(&mut Random) -> Vec<u32>) -> Ve
 const POSTS: std::ops::RangeInclusive<u32> = 1..=7;
 
 /// Outputs that are exact, their neighbours, the middle between two outputs, and anything.
-fn search(r: &mut Random) -> Vec<u32> {
+pub fn search(r: &mut Random) -> Vec<u32> {
     let input = match r.between(0, 9) {
         0..=3 => 12_000_000,
         4 => r.pick(&limits::SEARCH_INPUTS),

@@ -7,6 +7,7 @@ mod cuts;
 #[cfg(test)]
 mod format;
 mod generate;
+mod generate_ruled;
 mod limits;
 mod pac;
 mod panics;
@@ -15,6 +16,7 @@ mod random;
 mod random_plan;
 mod recorder;
 mod replay;
+mod rules;
 mod standins;
 mod steps;
 #[cfg(test)]
@@ -43,7 +45,7 @@ mod pio_programs {
 
 const USAGE: &str = "oracle answer
 oracle cases SEED N
-oracle compare SEED N PROGRAM
+oracle compare SEED N PROGRAM [WORD]
 oracle replay SEED N FOLDER";
 
 fn main() -> ExitCode {
@@ -53,9 +55,9 @@ fn main() -> ExitCode {
     let done = match words[..] {
         ["answer"] => answer_all(),
         ["cases", seed, count] => number(seed).zip(number(count)).map_or(usage(), |(seed, n)| cases(seed, n)),
-        ["compare", seed, count, program] => number(seed)
+        ["compare", seed, count, program, ref word @ ..] if word.len() < 2 => number(seed)
             .zip(number(count))
-            .map_or(usage(), |(seed, n)| compare::compare(seed, n as usize, program)),
+            .map_or(usage(), |(seed, n)| compare::compare(seed, n as usize, program, word.first().copied())),
         ["replay", seed, count, folder] => number(seed)
             .zip(number(count))
             .map_or(usage(), |(seed, n)| replay::replay(seed, n as usize, Path::new(folder))),

@@ -18,6 +18,7 @@ fn left_out(case: &Case, rust: &Answer) -> Option<String> {
         }
         Answer::Panic(refusals) => format!("the Rust panics, refusal {}", either(refusals)),
         Answer::Drops(number) => format!("the Rust loses bits, refusal {number}"),
+        Answer::Ruled(_) => "no counterpart, a rule of our own".to_string(),
         Answer::Sheet(steps) if case.room() < steps.len() * 8 => {
             "buffer too short, no counterpart".to_string()
         }
@@ -37,7 +38,7 @@ pub fn replay(seed: u64, count: usize, folder: &Path) -> io::Result<bool> {
     let (mut cases, mut answers) = (String::new(), String::new());
     let mut known = true;
     let mut kept = 0;
-    for line in generate::lines(seed, count) {
+    for line in generate::stored_lines(seed, count) {
         let Some(case) = Case::parse(&line) else {
             *counts.entry("no case".to_string()).or_default() += 1;
             continue;

@@ -48,6 +48,9 @@ fn worked_values() {
         ("default 11 520", "panic"),
         ("voltage 5", "refused 18"),
         ("voltage 6", "6 5"),
+        ("list 12000000 125000000 1024", "4 3ee43ec6"),
+        ("list 12000000 125000000 3", "refused 19"),
+        ("list 12000000 125000001 0", "0 -"),
     ];
     for (case, answer) in rows {
         assert_eq!(answer_line(case), answer, "{case}");
@@ -105,6 +108,8 @@ fn differences_and_findings() {
         ("default 11 520", "refused 9", None),
         ("voltage 5", "refused 18", Some(Class::Same)),
         ("voltage 16", "0 4", None),
+        ("list 12000000 125000000 1024", "4 3ee43ec6", Some(Class::SameByRule("list"))),
+        ("list 12000000 125000000 1024", "4 3ec63ee4", None),
     ];
     for (case, ours, expected) in rows {
         assert_eq!(class(case, ours), expected, "{case}: {ours}");
@@ -113,7 +118,7 @@ fn differences_and_findings() {
 
 #[test]
 fn a_missing_program_is_named() {
-    let error = compare(1, 1, "no-such-program").unwrap_err();
+    let error = compare(1, 1, "no-such-program", None).unwrap_err();
     assert!(error.to_string().starts_with("no-such-program: "), "{error}");
 }
 
@@ -124,7 +129,6 @@ fn no_cases() {
     {
         assert_eq!(answer_line(line), "bad case", "{line}");
     }
-    assert_eq!(answer_line("list 12000000 125000000 1024"), "no counterpart");
     assert_eq!(answer_line("run 0 0 0 0 0 0 0 0 0 0 0 0 0 0 0 -"), "no counterpart");
 }
 
@@ -135,6 +139,19 @@ fn generated_lines_are_the_same_for_a_seed() {
     assert_ne!(lines(1), lines(2));
     let cases = lines(1).iter().filter(|line| Case::parse(line).is_some()).count();
     assert!(cases > 19_000);
+}
+
+#[test]
+fn the_list_has_its_order() {
+    for (input, target) in [(12_000_000, 48_000_000), (5_000_000, 50_000_000), (100_000_000, 400_000_000)] {
+        let list = answer_line(&format!("list {input} {target} 1024"));
+        let hex = list.split(' ').nth(1).unwrap();
+        let word = |at: usize| u32::from_str_radix(&hex[at..at + 4], 16).unwrap();
+        let settings: Vec<u32> = (0..hex.len()).step_by(4).map(word).collect();
+        // With the bits of both posts turned over, the words rise.
+        let keys: Vec<u32> = settings.iter().map(|setting| setting ^ 0x7e).collect();
+        assert!(keys.is_sorted() && keys.len() > 1, "{list}");
+    }
 }
 
 #[test]

@@ -130,7 +130,8 @@ pub fn plan_sheet(plan: &[u32; 48], reading: u8, sheet: &mut [u8]) -> Result<usi
     }
 }
 
-/// Writes every setting that gives the target with no remainder, two bytes each, and answers their length.
+/// Writes every setting that gives the target with no remainder, two bytes each, and answers their length. The lowest
+/// feedback divider comes first, then the greatest post 1, then the greatest post 2.
 pub fn list(input_hz: u32, target_hz: u32, list: &mut [u8]) -> Result<usize, Refused> {
     let number = unsafe { raw::dizbaral_list(input_hz, target_hz, list.as_mut_ptr(), list.len()) };
     answer(number).map(|length| length as usize)

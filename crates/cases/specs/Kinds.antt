@@ -6,7 +6,6 @@ use Prim.Native.String.{String}
 use lib.ListN.{replicate}
 use Rattle.base.specs.Choice.{pick}
 use Rattle.text.specs.Ascii.{ascii, same}
-use Rattle.pll.specs.declared.PllConfig.{PllConfig}
 use Rattle.fields.specs.Row.{u8, u16, u32, room}
 use Rattle.fields.specs.Fields.{Tail, Fields, noNumber, numbersIn, numbersOnly}
 use Rattle.replies.specs.Reply.{badCase}
@@ -37,26 +36,22 @@ pub record Row : Type 0 where
   pub name : List ℕ
   -- its numbers, out of what stands behind the name
   pub fields : Tail → Fields
-  -- its answer, from its numbers and the word behind them; what `list` shows comes in an order of its own
-  pub text : List ℕ → List ℕ → List PllConfig → List ℕ
+  -- its answer, from its numbers and the word behind them
+  pub text : List ℕ → List ℕ → List ℕ
 
 -- numbers alone
 abbrev pub plain : String → List ℕ → (List ℕ → List ℕ) → Row
 plain name limits text =
-    record { name = ascii name; fields = numbersOnly limits; text = λ n word settings. text n }
-
-abbrev pub listing : String → List ℕ → (List ℕ → List PllConfig → List ℕ) → Row
-listing name limits text =
-    record { name = ascii name; fields = numbersOnly limits; text = λ n word settings. text n settings }
+    record { name = ascii name; fields = numbersOnly limits; text = λ n word. text n }
 
 -- numbers and a word
 abbrev pub worded : String → List ℕ → (List ℕ → List ℕ → List ℕ) → Row
 worded name limits text =
-    record { name = ascii name; fields = numbersIn limits; text = λ n word settings. text n word }
+    record { name = ascii name; fields = numbersIn limits; text = text }
 
 -- any other name
 abbrev pub nameless : Row
-nameless = record { name = []; fields = λ tail. noNumber; text = λ n word settings. badCase }
+nameless = record { name = []; fields = λ tail. noNumber; text = λ n word. badCase }
 
 abbrev pub rowOf : Kind → Row
 -- INPUT REFDIV FBDIV POST1 POST2
@@ -65,7 +60,7 @@ rowOf Output = plain "output" (u32 ∷ u8 ∷ u16 ∷ u8 ∷ u8 ∷ []) outputTe
 -- INPUT TARGET
 rowOf Search = plain "search" (u32 ∷ u32 ∷ []) searchText
 -- INPUT TARGET ROOM
-rowOf Settings = listing "list" (u32 ∷ u32 ∷ room ∷ []) listText
+rowOf Settings = plain "list" (u32 ∷ u32 ∷ room ∷ []) listText
 -- READING
 rowOf Voltage = plain "voltage" (u8 ∷ []) voltageText
 -- SYSTEM TARGET

@@ -3,11 +3,10 @@ mod kinds;
 mod lists;
 
 use fields::Rest;
+ghost use Rattle.base.specs.Placed.{Placed};
 ghost use Rattle.fields.specs.Fields.{tailAt};
-ghost use Rattle.fields.specs.Row.{nth};
-ghost use Rattle.cases.specs.Lists.{Answered};
 ghost use Rattle.cases.specs.Kinds.{rowOf};
-ghost use Rattle.cases.specs.Cases.{tailText, AnsweredBy, inputOf, targetOf, answerTo};
+ghost use Rattle.cases.specs.Cases.{tailText, fieldsText, answerTo};
 
 pub enum Kind {
     Valid,
@@ -29,7 +28,7 @@ pub enum Kind {
 
 // The answer of a kind to its numbers n and the word behind them.
 fn put_case(kind: Kind, n: &[u32; 64], word: &[u8], out: &mut [u8]) -> usize
-    ensures { λ r. ⌜ Answered (nth (now (n .entry)) 0) (nth (now (n .entry)) 1) (rowOf kind .text (now (n .entry)) (now (word .entry))) (now (out .entry)) r (now (out .exit)) ⌝ }
+    ensures { λ r. ⌜ Placed (now (out .entry)) 0 (rowOf kind .text (now (n .entry)) (now (word .entry))) r (now (out .exit)) ⌝ }
 {
     match kind {
         Kind::Valid => number_cases::put_valid(n, out),
@@ -52,7 +51,7 @@ fn put_case(kind: Kind, n: &[u32; 64], word: &[u8], out: &mut [u8]) -> usize
 
 // The answer by what stands behind the numbers, whose last word ends at `end`.
 fn put_tail(kind: Kind, n: &[u32; 64], line: &[u8], end: usize, out: &mut [u8]) -> usize
-    ensures { λ r. ⌜ Answered (nth (now (n .entry)) 0) (nth (now (n .entry)) 1) (tailText (tailAt (now (line .entry)) end) kind (now (n .entry))) (now (out .entry)) r (now (out .exit)) ⌝ }
+    ensures { λ r. ⌜ Placed (now (out .entry)) 0 (tailText (tailAt (now (line .entry)) end) kind (now (n .entry))) r (now (out .exit)) ⌝ }
 {
     if end < line.len() {
         let start = end + 1;
@@ -63,7 +62,7 @@ fn put_tail(kind: Kind, n: &[u32; 64], line: &[u8], end: usize, out: &mut [u8]) 
 
 // The answer to a case of a kind whose name ends at `at`.
 fn put_kind(kind: Kind, line: &[u8], at: usize, out: &mut [u8]) -> usize
-    ensures { λ r. ⌜ AnsweredBy kind (rowOf kind .fields (tailAt (now (line .entry)) at)) (now (out .entry)) r (now (out .exit)) ⌝ }
+    ensures { λ r. ⌜ Placed (now (out .entry)) 0 (fieldsText kind (rowOf kind .fields (tailAt (now (line .entry)) at))) r (now (out .exit)) ⌝ }
 {
     let mut n = [0u32; 64];
     match kinds::read(kind, line, at, &mut n) {
@@ -74,7 +73,7 @@ fn put_kind(kind: Kind, line: &[u8], at: usize, out: &mut [u8]) -> usize
 
 // Answers a line: the answer is put at the buffer's start, and the index past it is returned.
 pub fn answer(line: &[u8], out: &mut [u8]) -> usize
-    ensures { λ r. ⌜ Answered (inputOf (now (line .entry))) (targetOf (now (line .entry))) (answerTo (now (line .entry))) (now (out .entry)) r (now (out .exit)) ⌝ }
+    ensures { λ r. ⌜ Placed (now (out .entry)) 0 (answerTo (now (line .entry))) r (now (out .exit)) ⌝ }
 {
     let at = text::index_from(line, 0, b' ');
     let kind = kinds::named(&line[..at]);

@@ -3,5 +3,4 @@
 pub mod Numbers
 pub mod Sheet
 pub mod Demand3
-pub mod Listing
 pub mod Run

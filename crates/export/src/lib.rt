@@ -7,16 +7,17 @@ use config::Planned;
 use plan_numbers::PlanRead;
 use pll::PllConfig;
 ghost use mathlib.Core.Path.{_≡_};
+ghost use lib.ListN.{length};
 ghost use Rattle.voltage.specs.Voltage.{coreVoltageOf};
 ghost use Rattle.divider.specs.Gpout.{gpoutOf};
 ghost use Rattle.divider.specs.Pio.{pioOf};
 ghost use Rattle.pll.specs.Setting.{validOf, outputOf};
 ghost use Rattle.pll.specs.Search.{searchOf};
 ghost use Rattle.config.specs.Presets.{plannedIs, systemPlan};
+ghost use Rattle.lister.specs.Lister.{listedOf, listedIn};
 ghost use Rattle.plan_numbers.specs.Plan.{planOf};
 ghost use Rattle.export.specs.Numbers.{answerNumber, itself, settingNumber, voltageNumber, dividersAre};
 ghost use Rattle.export.specs.Sheet.{SheetCall, PlanSheetCall};
-ghost use Rattle.export.specs.Listing.{ListCall};
 ghost use Rattle.export.specs.Run.{runNumber, runLeaves};
 
 #[no_mangle]
@@ -118,7 +119,8 @@ pub extern "C" fn dizbaral_plan_sheet(plan: &[u32], reading: u8, sheet: &mut [u8
 
 #[no_mangle]
 pub extern "C" fn dizbaral_list(input_hz: u32, target_hz: u32, list: &mut [u8]) -> u64
-    ensures { λ r. ⌜ ListCall «input_hz» «target_hz» (now (list .entry)) r (now (list .exit)) ⌝ }
+    ensures { λ r. ⌜ r ≡ answerNumber itself (listedOf «input_hz» «target_hz» (length (now (list .entry)))) ⌝ }
+    ensures { λ _. ⌜ now (list .exit) ≡ listedIn «input_hz» «target_hz» (now (list .entry)) ⌝ }
 {
     numbers::length(lister::list_exact(input_hz, target_hz, list))
 }

@@ -9,7 +9,6 @@ use lib.ListN.{length, take}
 use Rattle.base.specs.Choice.{pick}
 use Rattle.base.specs.Placed.{Placed}
 use Rattle.text.specs.Words.{upTo}
-use Rattle.pll.specs.declared.PllConfig.{PllConfig}
 use Rattle.replies.specs.Reply.{badCase}
 use Rattle.cases.specs.Cases.{answerTo}
 use Rattle.lines.specs.declared.Held.{Held}
@@ -25,6 +24,5 @@ pub record Holding (before : List ℕ) (len : ℕ) (over : Bool) (text : List �
   pub too-long : h .over ≡ over || ltb (length before - len) (length (upTo 10 text))
 
 -- the answer to the line held, and a newline; a line that is too long is no case
-abbrev pub heldText : List ℕ → ℕ → Bool → List PllConfig → List ℕ
-heldText held len over settings =
-    pick (over || ltb (length held) len) badCase (answerTo (take len held) settings) ++ (10 ∷ [])
+abbrev pub heldText : List ℕ → ℕ → Bool → List ℕ
+heldText held len over = pick (over || ltb (length held) len) badCase (answerTo (take len held)) ++ (10 ∷ [])

@@ -1,8 +1,5 @@
 // Lines gathered from pieces of a text, and the answer to each.
-ghost use mathlib.Core.Path.{_≡_};
-ghost use lib.ListN.{take};
-ghost use Rattle.cases.specs.Lists.{Answered};
-ghost use Rattle.cases.specs.Cases.{inputOf, targetOf};
+ghost use Rattle.base.specs.Placed.{Placed};
 ghost use Rattle.lines.specs.Lines.{Holding, heldText};
 
 // What is held of a line: how many bytes, whether there were more than the buffer holds, and how many bytes of the
@@ -29,7 +26,7 @@ pub fn hold(held: &mut [u8], len: usize, over: bool, text: &[u8]) -> Held
 
 // Answers the line held, and closes the answer with a newline.
 pub fn answer_held(held: &[u8], len: usize, over: bool, out: &mut [u8]) -> usize
-    ensures { λ r. ⌜ Answered (inputOf (take len (now (held .entry)))) (targetOf (take len (now (held .entry)))) (heldText (now (held .entry)) len over) (now (out .entry)) r (now (out .exit)) ⌝ }
+    ensures { λ r. ⌜ Placed (now (out .entry)) 0 (heldText (now (held .entry)) len over) r (now (out .exit)) ⌝ }
 {
     if over | (held.len() < len) {
         let bad = replies::put_bad(out);

@@ -14,7 +14,8 @@ use Rattle.base.specs.Choice.{inRange}
 use Rattle.base.proofs.Bools.{both-true, never-true, same-test, in-range}
 use Rattle.pll.specs.Ranges.{feedbackMin, vcoMin, vcoMax}
 use Rattle.pll.specs.Search.{falling, setting, keep}
-use Rattle.lister.specs.Order.{atPost1, atFeedback, hasProduct, meets, Wrote}
+use Rattle.lister.specs.Lister.{meets}
+use Rattle.lister.specs.Order.{atPost1, atFeedback, hasProduct, Wrote}
 use Rattle.lister.proofs.Writing.{nothing}
 use Rattle.lister.proofs.Walks.{same-feedback, none-kept}
 

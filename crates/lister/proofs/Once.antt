@@ -1,26 +1,26 @@
--- The list of the code, and that of the search, have each remainder-free setting once and nothing else.
+-- The list is right: it has each remainder-free setting once and nothing else, in order.
 -- Assumes nothing.
-use mathlib.Core.Path.{_≡_, sym, _∙_}
-use mathlib.Core.List.{List}
+use mathlib.Core.Path.{_≡_}
+use mathlib.Core.Logic.{inl, inr}
+use mathlib.Core.List.{List, [], _∷_}
 use mathlib.Core.Bool.{Bool, true, _&&_}
 use Prim.Native.Nat.{ℕ, _+_, _-_, _*_, _≤_, _<_}
 use native.Mathlib.Omega.{arith}
+use native.Mathlib.Decide.{decLe}
 use lib.Dec.{eqb}
-use lib.ListN.{length}
 use borrow.Author.Tests.{eqb-true, eq-eqb}
 use Rattle.base.specs.Choice.{pick, inRange}
 use Rattle.base.proofs.Bools.{both-true, in-range, range-true}
 use Rattle.pll.specs.Ranges.{feedbackMin, feedbackMax}
-use Rattle.pll.specs.Search.{permitted, exact, candidates}
+use Rattle.pll.specs.Search.{permitted, exact}
 use Rattle.pll.specs.Law.{Candidate}
-use Rattle.pll.specs.Walk.{key}
 use Rattle.pll.specs.declared.PllConfig.{PllConfig}
 use Rattle.pll.proofs.Order.{Kind, Lists, From, lists-same, lists-rising, lists-keep}
 use Rattle.pll.proofs.Candidates.{Posts, lists-feedback, permitted-candidate, candidate-posts, candidate-permitted}
-use Rattle.pll.proofs.Candidates.{lists-candidates}
-use Rattle.lister.specs.Lister.{remainderFree, exactCandidates, times}
-use Rattle.lister.specs.Order.{atFeedback, meets, inOrder, listOf}
-use Rattle.lister.proofs.Times.{times-listed, same-length}
+use Rattle.lister.specs.Lister.{remainderFree, meets, inOrder, listOf, times}
+use Rattle.lister.specs.Law.{Ahead, Ordered, RightList}
+use Rattle.lister.specs.Order.{atFeedback}
+use Rattle.lister.proofs.Times.{times-listed}
 
 -- the order of the list as one number: it falls as the feedback divider rises
 abbrev listKey : PllConfig → ℕ
@@ -38,12 +38,35 @@ lists-in-order =
     (lists-feedback listKey (λ c d e l. omega arith) fb))
     (λ c d a b l. omega arith) (feedbackMax + 1 - feedbackMin) feedbackMin (omega arith)
 
+-- the greater number comes first
+key-ahead : (c d : PllConfig) → InRange c → InRange d → listKey d < listKey c → Ahead c d
+key-ahead c d ranges rangesOf l = feedback (decLe (d .fbdiv) (c .fbdiv))
+  where
+    post1 : c .fbdiv ≡ d .fbdiv → Dec (c .«post_div1» ≤ d .«post_div1») → Ahead c d
+    post1 e (yes h) = let f : c .«post_div1» ≡ d .«post_div1» = omega arith in inr (e, inr (f, omega arith))
+    post1 e (no h) = inr (e, inl (omega arith))
+
+    feedback : Dec (d .fbdiv ≤ c .fbdiv) → Ahead c d
+    feedback (yes h) = let e : c .fbdiv ≡ d .fbdiv = omega arith in post1 e (decLe (c .«post_div1») (d .«post_div1»))
+    feedback (no h) = inl (omega arith)
+
+-- a list by falling numbers is in order
+lists-ordered : (C : Kind) → ((c : PllConfig) → C c → InRange c) → (cs : List PllConfig) → Lists listKey C cs
+    → Ordered cs
+unfolding Lists Ordered
+lists-ordered C ranges [] l = tt
+lists-ordered C ranges (c ∷ []) l = tt
+lists-ordered C ranges (c ∷ d ∷ ds) l = (
+  key-ahead c d (ranges c (l .0)) (ranges d (l .2 .0 .0)) (l .2 .0 .1),
+  lists-ordered (λ x. C x × (listKey x < listKey c)) (λ x m. ranges x (m .0)) (d ∷ ds) (l .2),
+)
+
 module _ (input target : ℕ) where
   -- the candidates that give the target with no remainder
-  abbrev Hit : Kind
+  abbrev pub Hit : Kind
   Hit c = Candidate input c × (exact input target c ≡ true)
 
-  hit-free : (c : PllConfig) → Hit c → remainderFree input target c ≡ true
+  pub hit-free : (c : PllConfig) → Hit c → remainderFree input target c ≡ true
   hit-free c h =
       let m = h .0 in
       simp (
@@ -55,7 +78,7 @@ module _ (input target : ℕ) where
         range-true 1 (c .«post_div1») (c .«post_div2») (m .post2-low) (m .post2-high),
       )
 
-  free-hit : (c : PllConfig) → remainderFree input target c ≡ true → Hit c
+  pub free-hit : (c : PllConfig) → remainderFree input target c ≡ true → Hit c
   free-hit c e =
       let fourth = both-true _ (inRange 1 (c .«post_div1») (c .«post_div2»)) e in
       let third = both-true _ (inRange 1 7 (c .«post_div1»)) (fourth .0) in
@@ -88,15 +111,9 @@ module _ (input target : ℕ) where
       times-listed listKey (remainderFree input target) _
       (lists-same listKey Hit (λ c. remainderFree input target c ≡ true) hit-free free-hit _ list-hits)
 
-  pub candidates-once : (c : PllConfig)
-      → times c (exactCandidates input target) ≡ pick (remainderFree input target c) 1 0
-  unfolding exactCandidates
-  candidates-once =
-      times-listed key (remainderFree input target) _
-      (lists-same key Hit (λ c. remainderFree input target c ≡ true) hit-free free-hit _
-      (lists-keep key (exact input target) (candidates input) (Candidate input) (lists-candidates input)))
+  pub list-ordered : Ordered (listOf input target)
+  list-ordered =
+      lists-ordered Hit (λ c h. (candidate-posts input c (h .0), h .0 .feedback-high)) (listOf input target) list-hits
 
-  -- a list that has each once and nothing else is as long as that of the search
-  pub once-length : (cs : List PllConfig) → ((c : PllConfig) → times c cs ≡ pick (remainderFree input target c) 1 0)
-      → length cs ≡ length (exactCandidates input target)
-  once-length cs once = same-length cs (exactCandidates input target) (λ c. once c ∙ sym (candidates-once c))
+  pub list-right : RightList input target (listOf input target)
+  list-right = record { once = list-once; ordered = list-ordered }

@@ -3,9 +3,8 @@
 use mathlib.Core.Path.{_≡_, refl}
 use mathlib.Core.List.{[], _∷_, flatMap}
 use Rattle.base.specs.Answer.{value, refusal}
-use Rattle.pll.specs.Search.{falling, rising, setting, settings, keep, candidates}
-use Rattle.lister.specs.Lister.{exactCandidates, listBytes, listedOf}
-use Rattle.lister.specs.Order.{inOrder, listOf}
+use Rattle.pll.specs.Search.{falling, rising, setting, keep}
+use Rattle.lister.specs.Lister.{inOrder, listOf, listBytes, listedOf}
 
 -- 125 MHz from 12 MHz, and the room for it
 pub rows :
@@ -13,7 +12,7 @@ pub rows :
     × (listBytes (listOf 12000000 125000000) ≡ 62 ∷ 228 ∷ 62 ∷ 198 ∷ [])
     × (listedOf 12000000 125000000 4 ≡ value 4)
     × (listedOf 12000000 125000000 3 ≡ refusal 19)
-unfolding listOf inOrder rising listBytes exactCandidates candidates keep settings falling flatMap
+unfolding listOf inOrder rising listBytes keep falling flatMap
 rows = (refl, refl, refl, refl)
 
 -- the order: the lowest feedback divider first
@@ -43,5 +42,5 @@ pub none-rows :
     × (listedOf 12000000 0 0 ≡ value 0)
     × (listedOf 0 125000000 0 ≡ value 0)
     × (listedOf 100000001 100000001 0 ≡ value 0)
-unfolding exactCandidates candidates keep settings falling flatMap
+unfolding listOf inOrder rising keep falling flatMap
 none-rows = (refl, refl, refl, refl)

@@ -1,16 +1,14 @@
--- What the lister writes: each setting of the search that has no remainder, once.
+-- What the lister writes: each setting of the search that has no remainder, once, the lowest feedback divider first.
 -- Assumes nothing.
-use mathlib.Core.Path.{_≡_}
-use mathlib.Core.List.{List, [], _∷_, _++_}
+use mathlib.Core.List.{List, [], _∷_, _++_, map, flatMap}
 use mathlib.Core.Bool.{Bool, _&&_}
-use Prim.Native.Nat.{ℕ, _+_, _*_, _/_, _%_}
+use Prim.Native.Nat.{ℕ, _+_, _-_, _*_, _/_, _%_}
 use lib.Dec.{leb, eqb}
 use lib.ListN.{length, drop}
 use Rattle.base.specs.Choice.{pick, inRange}
-use Rattle.base.specs.Answer.{Answer, value, refusal, lengthIs}
-use Rattle.base.specs.declared.Length.{Length}
+use Rattle.base.specs.Answer.{Answer, value, refusal}
 use Rattle.pll.specs.Ranges.{feedbackMin, feedbackMax}
-use Rattle.pll.specs.Search.{keep, permitted, candidates, exact}
+use Rattle.pll.specs.Search.{falling, rising, setting, keep, permitted, exact}
 use Rattle.pll.specs.declared.PllConfig.{PllConfig}
 
 -- remainder-free, in the search's ranges: VCO 750 to 1600 MHz, reference divider 1, feedback divider 16 to 320,
@@ -24,9 +22,19 @@ remainderFree input target c =
     && inRange 1 7 (c .«post_div1»)
     && inRange 1 (c .«post_div1») (c .«post_div2»)
 
--- the candidates of the search that have no remainder
-unfoldable pub exactCandidates : ℕ → ℕ → List PllConfig
-exactCandidates input target = keep (exact input target) (candidates input)
+-- the order: feedback divider from the least to the greatest, then post 1 from 7 and post 2 from post 1, each falling
+unfoldable pub inOrder : List PllConfig
+inOrder =
+    flatMap (λ fb. flatMap (λ p1. map (setting fb p1) (falling p1)) (falling 7))
+    (rising (feedbackMax + 1 - feedbackMin) feedbackMin)
+
+-- c is permitted and gives the target with no remainder
+abbrev pub meets : ℕ → ℕ → PllConfig → Bool
+meets input target c = permitted input c && exact input target c
+
+-- the settings listed
+unfoldable pub listOf : ℕ → ℕ → List PllConfig
+listOf input target = keep (meets input target) inOrder
 
 -- c and d have the same four dividers
 abbrev pub sameSetting : PllConfig → PllConfig → Bool
@@ -50,24 +58,20 @@ unfoldable pub listBytes : List PllConfig → List ℕ
 listBytes [] = []
 listBytes (c ∷ cs) = wordOf c / 256 ∷ wordOf c % 256 ∷ listBytes cs
 
--- the bytes that the remainder-free settings take
+-- the bytes that they take
 abbrev pub lengthOf : ℕ → ℕ → ℕ
-lengthOf input target = 2 * length (exactCandidates input target)
+lengthOf input target = 2 * length (listOf input target)
 
 -- there is room for them
 abbrev pub hasRoom : ℕ → ℕ → ℕ → Bool
 hasRoom input target room = leb (lengthOf input target) room
 
--- the bytes written, or refusal 19
+-- `list_exact`: the bytes written, or refusal 19
 abbrev pub listedOf : ℕ → ℕ → ℕ → Answer ℕ
 listedOf input target room = pick (hasRoom input target room) (value (lengthOf input target)) (refusal 19)
 
--- `list_exact`: its answer, and the bytes after it for the bytes before it. Only the order of `settings` is open.
-pub record Listing (input target : ℕ) (before : List ℕ) (r : Length) (after : List ℕ) : Type 0 where
-  pub answer : lengthIs r ≡ listedOf input target (length before)
-  -- the settings written: each that is remainder-free stands there exactly once, and nothing else does
-  pub settings : List PllConfig
-  pub once : (c : PllConfig) → times c settings ≡ pick (remainderFree input target c) 1 0
-  -- the bytes past them keep their values; after a refusal all do
-  pub bytes : after
-      ≡ pick (hasRoom input target (length before)) (listBytes settings ++ drop (lengthOf input target) before) before
+-- and the buffer after it: the bytes past those written keep their values; after a refusal all do
+abbrev pub listedIn : ℕ → ℕ → List ℕ → List ℕ
+listedIn input target before =
+    pick (hasRoom input target (length before)) (listBytes (listOf input target) ++ drop (lengthOf input target) before)
+    before

@@ -1,15 +1,14 @@
--- Inside: the order in which the code writes.
+-- Inside: how the code writes, feedback divider by feedback divider.
 -- Assumes nothing.
 use mathlib.Core.Path.{_≡_}
-use mathlib.Core.List.{List, [], _∷_, map, flatMap}
-use mathlib.Core.Bool.{Bool, _&&_}
-use Prim.Native.Nat.{ℕ, _+_, _-_, _*_}
+use mathlib.Core.List.{List, map, flatMap}
+use mathlib.Core.Bool.{Bool}
+use Prim.Native.Nat.{ℕ, _+_, _*_}
 use lib.Dec.{eqb}
 use lib.ListN.{length}
 use lib.Seq.{sets}
-use Rattle.pll.specs.Ranges.{feedbackMin, feedbackMax}
 use Rattle.pll.specs.Setting.{postsOf}
-use Rattle.pll.specs.Search.{falling, rising, setting, keep, permitted, exact}
+use Rattle.pll.specs.Search.{falling, setting}
 use Rattle.pll.specs.declared.PllConfig.{PllConfig}
 use Rattle.lister.specs.Lister.{listBytes}
 
@@ -18,18 +17,6 @@ atPost1 fb p1 = map (setting fb p1) (falling p1)
 
 abbrev pub atFeedback : ℕ → List PllConfig
 atFeedback fb = flatMap (atPost1 fb) (falling 7)
-
--- feedback divider from the least to the greatest, then post 1, then post 2, each falling
-unfoldable pub inOrder : List PllConfig
-inOrder = flatMap atFeedback (rising (feedbackMax + 1 - feedbackMin) feedbackMin)
-
--- c has its VCO in range and gives the target with no remainder
-abbrev pub meets : ℕ → ℕ → PllConfig → Bool
-meets input target c = permitted input c && exact input target c
-
--- what the code writes
-unfoldable pub listOf : ℕ → ℕ → List PllConfig
-listOf input target = keep (meets input target) inOrder
 
 abbrev pub hasProduct : ℕ → PllConfig → Bool
 hasProduct product c = eqb (postsOf c) product

@@ -7,11 +7,12 @@ use pll::VCO_MIN;
 ghost use mathlib.Core.Path.{_≡_};
 ghost use Prim.Native.Nat.{_+_, _≤_};
 ghost use mathlib.Core.List.{[], _∷_};
-ghost use lib.ListN.{set};
+ghost use lib.ListN.{length, set};
+ghost use Rattle.base.specs.Answer.{lengthIs};
 ghost use Rattle.pll.specs.Ranges.{feedbackMin, feedbackMax};
 ghost use Rattle.pll.specs.Search.{setting, keep};
-ghost use Rattle.lister.specs.Lister.{Listing};
-ghost use Rattle.lister.specs.Order.{atPost1, atFeedback, listOf, hasProduct, meets, Wrote};
+ghost use Rattle.lister.specs.Lister.{meets, listOf, listedOf, listedIn};
+ghost use Rattle.lister.specs.Order.{atPost1, atFeedback, hasProduct, Wrote};
 
 // Sets a byte, if the buffer reaches that far.
 fn set_byte(buf: &mut [u8], at: usize, value: u8)
@@ -85,8 +86,7 @@ fn put_feedback(buf: &mut [u8], at: usize, input_hz: u64, target_hz: u64, fbdiv:
     put_posts(buf, at, fbdiv, vco / target_hz)
 }
 
-// Puts every setting that gives the target with no remainder, the lowest feedback divider first, then the greatest
-// post 1. It answers the length of the list, whether or not the buffer has room for it.
+// Puts the whole list. It answers the length of the list, whether or not the buffer has room for it.
 fn put_list(buf: &mut [u8], input_hz: u64, target_hz: u64) -> usize
     requires { ⌜ «input_hz» ≤ 4294967295 ⌝ }
     ensures { λ r. ⌜ Wrote (now (buf .entry)) 0 (listOf «input_hz» «target_hz») (now (buf .exit)) r ⌝ }
@@ -100,10 +100,12 @@ fn put_list(buf: &mut [u8], input_hz: u64, target_hz: u64) -> usize
     next
 }
 
-// Writes every setting of the search that gives the target with no remainder, once each in an order left open, and
-// answers the bytes written. Where the buffer is too short for them, nothing is written.
+// Writes every setting of the search that gives the target with no remainder, the lowest feedback divider first, then
+// the greatest post 1, then the greatest post 2, and answers the bytes written. Where the buffer is too short for them,
+// nothing is written.
 pub fn list_exact(input_hz: u32, target_hz: u32, buf: &mut [u8]) -> Length
-    ensures { λ r. ⌜ Listing «input_hz» «target_hz» (now (buf .entry)) r (now (buf .exit)) ⌝ }
+    ensures { λ r. ⌜ lengthIs r ≡ listedOf «input_hz» «target_hz» (length (now (buf .entry))) ⌝ }
+    ensures { λ _. ⌜ now (buf .exit) ≡ listedIn «input_hz» «target_hz» (now (buf .entry)) ⌝ }
 {
     // A buffer with no room only counts.
     let mut nowhere = [0u8; 0];

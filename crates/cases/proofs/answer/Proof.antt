@@ -2,7 +2,7 @@
 use native.Mathlib.Omega.{arith}
 use borrow.Author.Needs.{needs}
 use lib.ListN.{length-take}
-use Rattle.cases.specs.Cases.{fieldsOf, inputOf, targetOf, answerTo}
+use Rattle.cases.specs.Cases.{fieldsOf, answerTo}
 use Rattle.fields.proofs.Tails.{first-word, behind-first}
 use Rattle.cases.proofs.answer.Statement.{statement}
 use Rattle.cases.proofs.answer.Tie as tie
@@ -11,7 +11,7 @@ slice-aggregate-named : tie.Need-slice-aggregate-named
 slice-aggregate-named c = simp length-take (omega arith)
 
 returns : tie.Need-returns
-unfolding fieldsOf inputOf targetOf answerTo
+unfolding fieldsOf answerTo
 returns c =
     let put-kind = c .before .before in let named = put-kind .before .before in
     let index-from = named .before .before in let start = index-from .before .before .before in

@@ -1,5 +1,4 @@
 -- `cases::put_kind` meets its contract. Assumes nothing.
-use Rattle.cases.proofs.Settled.{settled}
 use Rattle.fields.specs.Fields.{restIs}
 use mathlib.Core.Path.{sym, ap, _∙_}
 use borrow.Author.Needs.{needs}
@@ -18,7 +17,7 @@ returns-2 c =
     let put-bad = c .before .before in let enum-told = put-bad .before .before in
     let read = enum-told .before .before in let start = read .before .before .before .before in
     let tail = sym (ap (restIs (start .args .line .now)) (enum-told .enum-told .given .1)) ∙ read .read .ensures .tail in
-    rw (← tail) (settled _ _ _ (put-bad .put-bad .ensures))
+    rw (← tail) (put-bad .put-bad .ensures)
 
 pub put-kind-spec : {M : Type 1} → statement M
 put-kind-spec =

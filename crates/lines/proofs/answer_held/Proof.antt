@@ -7,14 +7,13 @@ use lib.ListN.{length, length-take}
 use lib.Dec.{ltb}
 use Rattle.base.proofs.Placing.{placed-append}
 use Rattle.base.proofs.Bools.{both-false}
-use Rattle.cases.proofs.Settled.{settled}
 use Rattle.lines.proofs.answer_held.Statement.{statement}
 use Rattle.lines.proofs.answer_held.Tie as tie
 
 returns : tie.Need-returns
 returns c =
     let put = placed-append (c .before .before .before .before .before .before .put-bad .ensures) (c .before .before .put-byte .ensures) in
-    settled _ _ _ (rw (c .before .before .before .before .before .before .before .before .if1 .taken) put)
+    rw (c .before .before .before .before .before .before .before .before .if1 .taken) put
 
 slice-aggregate-answer : tie.Need-slice-aggregate-answer
 slice-aggregate-answer c =
@@ -28,8 +27,8 @@ slice-aggregate-answer c =
 returns-2 : tie.Need-returns-2
 returns-2 c =
     let answer = c .before .before .before .before .before .before .answer .ensures in
-    let put = placed-append (answer .placed) (c .before .before .put-byte2 .ensures) in
-    record { settings = answer .settings; once = answer .once; placed = rw (c .before .before .before .before .before .before .before .before .before .if1 .left) put }
+    let put = placed-append answer (c .before .before .put-byte2 .ensures) in
+    rw (c .before .before .before .before .before .before .before .before .before .if1 .left) put
 
 pub answer-held-spec : {M : Type 1} → statement M
 answer-held-spec =

@@ -8,7 +8,8 @@ use native.Mathlib.Omega.{arith}
 use lib.ListN.{length}
 use Rattle.pll.specs.Ranges.{feedbackMin, feedbackMax}
 use Rattle.pll.specs.Search.{rising, keep}
-use Rattle.lister.specs.Order.{atFeedback, meets, inOrder, listOf, Wrote}
+use Rattle.lister.specs.Lister.{meets, inOrder, listOf}
+use Rattle.lister.specs.Order.{atFeedback, Wrote}
 use Rattle.lister.proofs.Writing.{same-size}
 use Rattle.lister.proofs.Walks.{rising-step, rising-end, one-more, done}
 use Rattle.lister.proofs.put_list.Statement.{statement}

@@ -6,7 +6,7 @@ use Rattle.replay.proofs.put_answer.Statement.{statement}
 use Rattle.replay.proofs.put_answer.Tie as tie
 
 slice-aggregate-write-all : tie.Need-slice-aggregate-write-all
-slice-aggregate-write-all c = simp length-take (omega (arith, c .before .before .before .answer-held .ensures .placed .index))
+slice-aggregate-write-all c = simp length-take (omega (arith, c .before .before .before .answer-held .ensures .index))
 
 pub put-answer-spec : {M : Type 1} → statement M
 put-answer-spec =

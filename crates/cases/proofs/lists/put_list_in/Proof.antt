@@ -1,18 +1,15 @@
 -- `cases::lists::put_list_in` meets its contract. Assumes nothing.
 use borrow.Author.Needs.{needs}
-use Rattle.cases.proofs.Settled.{listed-text}
+use denote.Ref.{now}
+use Rattle.cases.proofs.Listed.{listed-text}
 use Rattle.cases.proofs.lists.put_list_in.Statement.{statement}
 use Rattle.cases.proofs.lists.put_list_in.Tie as tie
 
 returns : tie.Need-returns
 returns c =
     let put-listed = c .before .before in let list-exact = put-listed .before .before .before .before .before in
-    let listing = list-exact .list-exact .ensures in
-    record {
-      settings = listing .settings;
-      once = listing .once;
-      placed = rw (listed-text _ _ _ _ _ listing) at (put-listed .put-listed .ensures);
-    }
+    let start = list-exact .before .before .before .before in
+    rw (listed-text _ _ (now (start .args .buf)) _ _ (list-exact .list-exact .ensures)) at (put-listed .put-listed .ensures)
 
 pub put-list-in-spec : {M : Type 1} → statement M
 put-list-in-spec =

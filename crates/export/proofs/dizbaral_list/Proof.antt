@@ -1,0 +1,14 @@
+-- `export::dizbaral_list` meets its contract. Assumes nothing.
+use mathlib.Core.Path.{ap, _∙_}
+use borrow.Author.Needs.{needs}
+use Rattle.export.specs.Numbers.{answerNumber, itself}
+use Rattle.export.proofs.dizbaral_list.Statement.{statement}
+use Rattle.export.proofs.dizbaral_list.Tie as tie
+
+returns : tie.Need-returns
+returns c =
+    let listed = c .before .before .before .list-exact .ensures in
+    (c .length .ensures ∙ ap (answerNumber itself) (listed .0), listed .1)
+
+pub dizbaral-list-spec : {M : Type 1} → statement M
+dizbaral-list-spec = tie.close (tie.spec (λ c κs. search needs) (λ c κs. search needs) (λ c. search needs) returns)

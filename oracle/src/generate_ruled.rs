@@ -1,0 +1,25 @@
+//! Cases that rest on rules of the port's own, as `generate` has those that rest on the Rust: first the limits, then
+//! random ones. Stored files hold none of these.
+
+use crate::case::{Case, Kind};
+use crate::generate;
+use crate::limits;
+use crate::random::Random;
+
+pub fn limits() -> Vec<Case> {
+    let mut cases = Vec::new();
+    for input in limits::SEARCH_INPUTS {
+        for target in [0, 1, 48_000_000, 125_000_000, 200_000_000, 800_000_000, 1_600_000_000, u32::MAX] {
+            cases.extend([0, 2, 1024].map(|room| Case::new(Kind::List, &[input, target, room])));
+        }
+    }
+    // 8 settings, up to a buffer that is just long enough.
+    cases.extend((0..=17).map(|room| Case::new(Kind::List, &[12_000_000, 48_000_000, room])));
+    cases
+}
+
+pub fn case(r: &mut Random) -> Case {
+    let mut numbers = generate::search(r);
+    numbers.push(if r.percent(80) { 1024 } else { r.between(0, 40) });
+    Case { kind: Kind::List, numbers }
+}

@@ -1,0 +1,36 @@
+//! What the Rust has no counterpart for, worked out plainly from docs/FORMAT.md and docs/PLL.md: every setting is tried.
+
+/// A setting of the search: feedback divider, post 1, post 2.
+pub type Setting = (u32, u32, u32);
+
+const VCO: std::ops::RangeInclusive<u64> = 750_000_000..=1_600_000_000;
+
+/// The search's candidates, in no order that counts.
+pub fn candidates(input: u32) -> impl Iterator<Item = Setting> {
+    let feedbacks = (16..=320).filter(move |&feedback| VCO.contains(&vco(input, feedback)));
+    feedbacks.flat_map(|feedback| {
+        (1..=7).flat_map(move |post1| (1..=post1).map(move |post2| (feedback, post1, post2)))
+    })
+}
+
+fn vco(input: u32, feedback: u32) -> u64 {
+    input as u64 * feedback as u64
+}
+
+/// The lister's answer: the settings that give the target with no remainder, in its order, 2 bytes each.
+pub fn list(input: u32, target: u32, room: usize) -> String {
+    let exact = |&(feedback, post1, post2): &Setting| {
+        vco(input, feedback) == target as u64 * post1 as u64 * post2 as u64
+    };
+    let mut settings: Vec<Setting> = candidates(input).filter(exact).collect();
+    settings.sort_by_key(|&(feedback, post1, post2)| (feedback, 7 - post1, 7 - post2));
+    let length = settings.len() * 2;
+    if length > room {
+        return "refused 19".to_string();
+    }
+    if length == 0 {
+        return "0 -".to_string();
+    }
+    let packed = |(feedback, post1, post2)| format!("{:04x}", feedback << 7 | post1 << 4 | post2 << 1);
+    format!("{length} {}", settings.into_iter().map(packed).collect::<String>())
+}
