@@ -99,7 +99,7 @@ impl Inputs {
         Line {
             name: "sheet, crystal preset",
             calls: 1,
-            goal: 1.0,
+            goal: 0.70,
             proved: Box::new(move || {
                 black_box(unsafe {
                     raw::dizbaral_system_sheet(black_box(125 * MHZ), READING, sheet.as_mut_ptr(), 520)
@@ -119,7 +119,7 @@ impl Inputs {
         Line {
             name: "sheet, random plans",
             calls: self.plans.len(),
-            goal: 1.0,
+            goal: 0.95,
             proved: Box::new(move || {
                 for plan in &self.plans {
                     let plan = black_box(plan);

@@ -15,7 +15,8 @@ use lib.Seq.{sets}
 use Rattle.text.specs.Decimal.{numberOf}
 use Rattle.text.specs.Words.{upTo, indexFrom}
 use Rattle.text.proofs.Lines.{take-up}
-use Rattle.fields.specs.Fields.{Tail, ended, more, bad, Fields, closed, noNumber, behind, withNumber, numbersIn, tailAt, restOf, Reading}
+use Rattle.fields.specs.Fields.{Tail, ended, more, bad, Fields, closed, noNumber, behind, withNumber}
+use Rattle.fields.specs.Fields.{numbersIn, tailAt, restOf, Reading}
 use Rattle.fields.specs.declared.Rest.the-variants.{At, Bad}
 
 -- what follows the first word starts where the word ends
@@ -100,7 +101,8 @@ module _ {line limits before numbers : List ℕ} {at end i : ℕ} (g : Going lin
       let tail = rw e at (g .tail) in
       record { answer = rest-at line at end (g .start) (g .within) tail; tail = tail; numbers = rw e at (g .placing) }
 
-  stopped : numbersIn (drop i limits) (tailAt line end) ≡ noNumber → Reading (numbersIn limits (tailAt line at)) line at before Bad numbers
+  stopped : numbersIn (drop i limits) (tailAt line end) ≡ noNumber
+      → Reading (numbersIn limits (tailAt line at)) line at before Bad numbers
   stopped e =
       let tail = rw e at (g .tail) in
       record { answer = rw (← tail); tail = tail; numbers = rw e at (g .placing) }

@@ -181,7 +181,7 @@ fn rank(vco: u32, target: u32, fbdiv: u32, posts: u32) -> u64
 {
     let key = fbdiv * 64 + posts;
     let s = score(vco, target, posts / 8 * (posts % 8));
-    (s as u64) * KEYS + (KEYS - 1 - key as u64)
+    (s as u64) * KEYS + ((KEYS as u32 - 1 - key) as u64)
 }
 
 // The lower of two ranks.

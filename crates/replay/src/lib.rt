@@ -9,28 +9,18 @@ struct Open {
     over: bool,
 }
 
-fn put_answer(held: &[u8], line: Open, out: &mut [u8]) {
-    let n = lines::answer_held(held, line.len, line.over, out);
-    io::write_all(STDOUT_FILENO, &out[..n]);
-}
-
 // Answers each line that a piece closes, and holds what is behind the last.
 fn take_piece(piece: &[u8], held: &mut [u8], line: Open, out: &mut [u8]) -> Open {
     let mut len = line.len;
     let mut over = line.over;
     let mut at = 0;
     while at < piece.len() {
-        let h = lines::hold(held, len, over, &piece[at..]);
-        let end = at + h.used;
-        len = h.len;
-        over = h.over;
-        at = end;
-        if end < piece.len() {
-            put_answer(held, Open { len, over }, out);
-            len = 0;
-            over = false;
-            at = end + 1;
-        }
+        let t = lines::next(held, len, over, &piece[at..], out);
+        let answer = t.answer;
+        io::write_all(STDOUT_FILENO, &out[..answer]);
+        len = t.len;
+        over = t.over;
+        at += t.used;
     }
     Open { len, over }
 }
@@ -75,7 +65,6 @@ pub fn run()
             turns = 0;
         }
     }
-    if (0 < line.len) | line.over {
-        put_answer(&held, line, &mut out);
-    }
+    let n = lines::last(&held, line.len, line.over, &mut out);
+    io::write_all(STDOUT_FILENO, &out[..n]);
 }

@@ -9,7 +9,18 @@ returns c =
     let number-at6 = number-at7 .before in let number-at5 = number-at6 .before in
     let number-at4 = number-at5 .before in let number-at3 = number-at4 .before in
     let number-at2 = number-at3 .before in let number-at = number-at2 .before in
-    rw (c .number-at10 .ensures, number-at9 .number-at9 .ensures, number-at8 .number-at8 .ensures, number-at7 .number-at7 .ensures, number-at6 .number-at6 .ensures, number-at5 .number-at5 .ensures, number-at4 .number-at4 .ensures, number-at3 .number-at3 .ensures, number-at2 .number-at2 .ensures, number-at .number-at .ensures)
+    rw (
+      c .number-at10 .ensures,
+      number-at9 .number-at9 .ensures,
+      number-at8 .number-at8 .ensures,
+      number-at7 .number-at7 .ensures,
+      number-at6 .number-at6 .ensures,
+      number-at5 .number-at5 .ensures,
+      number-at4 .number-at4 .ensures,
+      number-at3 .number-at3 .ensures,
+      number-at2 .number-at2 .ensures,
+      number-at .number-at .ensures,
+    )
 
 pub ten-at-spec : {M : Type 1} → statement M
 ten-at-spec =

@@ -8,7 +8,11 @@ returns c =
     let put-number = c .before .before in let calculate-pio-clock-divider-value = put-number .before in
     let number-at2 = calculate-pio-clock-divider-value .before .before in
     let number-at = number-at2 .before .before in
-    rw (calculate-pio-clock-divider-value .calculate-pio-clock-divider-value .ensures, number-at2 .number-at2 .ensures, number-at .number-at .ensures) at
+    rw (
+      calculate-pio-clock-divider-value .calculate-pio-clock-divider-value .ensures,
+      number-at2 .number-at2 .ensures,
+      number-at .number-at .ensures,
+    ) at
     (put-number .put-number .ensures)
 
 pub put-pio-spec : {M : Type 1} → statement M

@@ -5,7 +5,9 @@ use Rattle.replies.proofs.put_length.Statement.{statement}
 use Rattle.replies.proofs.put_length.Tie as tie
 
 returns : tie.Need-returns
-returns c = placed-append (c .before .before .before .before .before .before .put-decimal .ensures) (c .before .before .put-byte .ensures)
+returns c =
+    let put-byte = c .before .before in let put-decimal = put-byte .before .before .before .before in
+    placed-append (put-decimal .put-decimal .ensures) (put-byte .put-byte .ensures)
 
 pub put-length-spec : {M : Type 1} → statement M
 put-length-spec =

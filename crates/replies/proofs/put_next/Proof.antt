@@ -5,7 +5,9 @@ use Rattle.replies.proofs.put_next.Statement.{statement}
 use Rattle.replies.proofs.put_next.Tie as tie
 
 returns : tie.Need-returns
-returns c = placed-append (c .before .before .before .before .before .before .put-byte .ensures) (c .before .before .put-decimal .ensures)
+returns c =
+    let put-decimal = c .before .before in let put-byte = put-decimal .before .before .before .before in
+    placed-append (put-byte .put-byte .ensures) (put-decimal .put-decimal .ensures)
 
 pub put-next-spec : {M : Type 1} → statement M
 put-next-spec =

@@ -5,7 +5,9 @@ use Rattle.replies.proofs.put_refused.Statement.{statement}
 use Rattle.replies.proofs.put_refused.Tie as tie
 
 returns : tie.Need-returns
-returns c = placed-append (c .before .before .before .before .before .before .put-bytes .ensures) (c .before .before .put-decimal .ensures)
+returns c =
+    let put-decimal = c .before .before in let put-bytes = put-decimal .before .before .before .before in
+    placed-append (put-bytes .put-bytes .ensures) (put-decimal .put-decimal .ensures)
 
 pub put-refused-spec : {M : Type 1} → statement M
 put-refused-spec =

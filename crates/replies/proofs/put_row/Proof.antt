@@ -5,7 +5,9 @@ use Rattle.replies.proofs.put_row.Statement.{statement}
 use Rattle.replies.proofs.put_row.Tie as tie
 
 returns : tie.Need-returns
-returns c = placed-append (c .before .before .before .before .before .before .put-decimal .ensures) (c .before .before .put-spaced .ensures)
+returns c =
+    let put-spaced = c .before .before in let put-decimal = put-spaced .before .before .before .before in
+    placed-append (put-decimal .put-decimal .ensures) (put-spaced .put-spaced .ensures)
 
 pub put-row-spec : {M : Type 1} → statement M
 put-row-spec =

@@ -32,7 +32,10 @@ freqs-after-spec =
     (tie.spec
     (λ c. search needs) (λ c. unchanged (c .before .args .reply) (c .before .args .freqs) (c .match .keys2))
     (λ c. rw (c .before .before .before .reply .given .1, ne-eqb _ _ (c .if1 .taken)))
-    (λ c. let handed = c .before .before .before .before in omega (arith, store-fits _ (rw (handed .reply .given .1) at (handed .before .before .pre)) (c .before .if1 .left) .1))
-    (λ c. let handed = c .before .before .before .before in omega (arith, store-fits _ (rw (handed .reply .given .1) at (handed .before .before .pre)) (c .before .if1 .left) .0))
-    (λ c. let handed = c .before .before .before .before in omega (arith, store-fits _ (rw (handed .reply .given .1) at (handed .before .before .pre)) (c .before .if1 .left) .0))
+    (λ c. let handed = c .before .before .before .before in
+    omega (arith, store-fits _ (rw (handed .reply .given .1) at (handed .before .before .pre)) (c .before .if1 .left) .1))
+    (λ c. let handed = c .before .before .before .before in
+    omega (arith, store-fits _ (rw (handed .reply .given .1) at (handed .before .before .pre)) (c .before .if1 .left) .0))
+    (λ c. let handed = c .before .before .before .before in
+    omega (arith, store-fits _ (rw (handed .reply .given .1) at (handed .before .before .pre)) (c .before .if1 .left) .0))
     (λ c. rw (c .before .before .before .before .reply .given .1, eq-eqb _ _ (c .before .if1 .left))))

@@ -40,7 +40,8 @@ loop-again c =
 
 returns-3 : tie.Need-returns-3 Inv-loop μ-loop
 returns-3 c =
-    rw (drop-of-length-le (c .before .before .before .args .s .now) (c .loop-test .left)) at (c .before .loop .inv .1)
+    let loop = c .before in let start = loop .before .before in
+    rw (drop-of-length-le (start .args .s .now) (c .loop-test .left)) at (loop .loop .inv .1)
 
 pub are-pairs-spec : {M : Type 1} → statement M
 are-pairs-spec =

@@ -9,8 +9,9 @@ use Rattle.text.proofs.hex_bytes.Tie as tie
 
 returns : tie.Need-returns
 returns c =
-    let args = c .before .before .before .before .args in
-    no-word (args .s .now) (args .buf .now) (sym (c .before .is-hex-word .ensures) ∙ not-true _ (c .if1 .taken))
+    let is-hex-word = c .before in let start = is-hex-word .before .before .before in
+    let args = start .args in
+    no-word (args .s .now) (args .buf .now) (sym (is-hex-word .is-hex-word .ensures) ∙ not-true _ (c .if1 .taken))
 
 returns-2 : tie.Need-returns-2
 returns-2 c =

@@ -23,8 +23,9 @@ abbrev μ-loop : tie.MeasureT-loop
 
 returns : tie.Need-returns Inv-loop μ-loop
 returns c =
-    let s = c .before .before .before .args .s .now in
-    sym (bad-length s (sym (c .before .in-range .ensures) ∙ not-true _ (c .if1 .taken)))
+    let at-in-range = c .before in let start = at-in-range .before .before in
+    let s = start .args .s .now in
+    sym (bad-length s (sym (at-in-range .in-range .ensures) ∙ not-true _ (c .if1 .taken)))
 
 loop-holds : tie.Need-loop-holds Inv-loop μ-loop
 unfolding valueOf

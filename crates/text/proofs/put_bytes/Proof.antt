@@ -41,8 +41,9 @@ same-length c = c .before .loop .inv .1
 
 returns : tie.Need-returns Inv-loop μ-loop
 returns c =
-    let s = c .before .before .before .before .before .args .s .now in
-    rw (take-all (c .before .loop .i) s (c .loop-test .left)) at (c .before .loop .inv .2)
+    let loop = c .before in let start = loop .before .before .before .before in
+    let s = start .args .s .now in
+    rw (take-all (loop .loop .i) s (c .loop-test .left)) at (loop .loop .inv .2)
 
 pub put-bytes-spec : {M : Type 1} → statement M
 put-bytes-spec =

@@ -24,7 +24,9 @@ same-length : tie.Need-same-length Inv-loop μ-loop
 same-length c = c .before .before .put-byte .kept .0
 
 returns : tie.Need-returns Inv-loop μ-loop
-returns c = rw (hex-none _ (c .before .before .before .before .if1 .taken)) (c .before .before .put-byte .ensures)
+returns c =
+    let put-byte = c .before .before in let if1 = put-byte .before .before in
+    rw (hex-none _ (if1 .if1 .taken)) (put-byte .put-byte .ensures)
 
 loop-holds : tie.Need-loop-holds Inv-loop μ-loop
 loop-holds c = (omega arith, refl, record { index = omega arith; bytes = refl })

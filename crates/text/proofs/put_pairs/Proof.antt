@@ -48,7 +48,8 @@ same-length c = c .before .loop .inv .1
 
 returns : tie.Need-returns Inv-loop μ-loop
 returns c =
-    let at-loop = c .before .loop in let s = c .before .before .before .before .args .s .now in
+    let loop = c .before in let start = loop .before .before .before in
+    let at-loop = loop .loop in let s = start .args .s .now in
     let none = pairs-end (drop (at-loop .i) s) (simp length-drop (omega arith)) in
     at-loop .inv .3 (at-loop .end) (at-loop .buf) (rw none (record { index = omega arith; bytes = refl }))
 

@@ -5,7 +5,9 @@ use Rattle.export.proofs.numbers.found.Statement.{statement}
 use Rattle.export.proofs.numbers.found.Tie as tie
 
 returns : tie.Need-returns
-returns c = rw (c .before .before .before .before .before .answer .given .1)
+returns c =
+    let answer = c .before .before .before .before .before in
+    rw (answer .answer .given .1)
 
 returns-2 : tie.Need-returns-2
 returns-2 c = rw (c .before .answer2 .given .1)

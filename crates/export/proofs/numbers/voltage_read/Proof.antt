@@ -5,7 +5,9 @@ use Rattle.export.proofs.numbers.voltage_read.Statement.{statement}
 use Rattle.export.proofs.numbers.voltage_read.Tie as tie
 
 returns : tie.Need-returns
-returns c = rw (c .before .before .before .answer .given .1, c .recommended-bod .ensures, c .before .code .ensures)
+returns c =
+    let code = c .before in let answer = code .before .before in
+    rw (answer .answer .given .1, c .recommended-bod .ensures, code .code .ensures)
 
 returns-2 : tie.Need-returns-2
 returns-2 c = rw (c .before .answer2 .given .1)

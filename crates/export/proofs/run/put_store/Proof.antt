@@ -9,7 +9,8 @@ use Rattle.export.proofs.Runners.{set-behind, freqs-kept}
 use Rattle.export.proofs.run.put_store.Statement.{statement}
 use Rattle.export.proofs.run.put_store.Tie as tie
 
-fits : (c : tie.After-struct-known2) → (c .before .before .before .args .step .f0 < 10) × (c .before .before .before .args .step .f1 < 4294967296)
+fits : (c : tie.After-struct-known2)
+    → (c .before .before .before .args .step .f0 < 10) × (c .before .before .before .args .step .f1 < 4294967296)
 fits c =
     let e = c .before in
     store-fits (e .before .before .args .step) (e .before .before .pre) (e .if1 .left)

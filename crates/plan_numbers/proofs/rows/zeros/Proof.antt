@@ -32,7 +32,8 @@ loop-again : tie.Need-loop-again Inv-loop μ-loop
 loop-again c =
     let number-at = c .before in let loop-test = number-at .before in let loop = loop-test .before in
     let start = loop .before .before .before in
-    let step = zero-step (start .args .n .now) (start .args .limits .now) (loop .loop .at) (loop .loop .k) (loop-test .loop-test .taken) in (
+    let n = start .args .n .now in let limits = start .args .limits .now in
+    let step = zero-step n limits (loop .loop .at) (loop .loop .k) (loop-test .loop-test .taken) in (
       omega arith,
       omega arith,
       sym (step ∙ rw (← number-at .number-at .ensures, eq-eqb _ _ (c .if1 .left))) ∙ loop .loop .inv .2,

@@ -1,0 +1,31 @@
+-- `lines::next` meets its contract. Assumes nothing.
+use native.Mathlib.Omega.{arith}
+use Rattle.lines.proofs.Gathered.{closed-by, left-open}
+use borrow.Author.Needs.{needs}
+use Rattle.lines.proofs.next.Statement.{statement}
+use Rattle.lines.proofs.next.Tie as tie
+
+returns : tie.Need-returns
+returns c =
+    let answer-held = c .before .before in let if1 = answer-held .before .before .before in
+    let hold = if1 .before .before .before in (
+      (λ line h. closed-by h (hold .hold .ensures) (if1 .if1 .taken) (answer-held .answer-held .ensures)),
+      record {
+        used = omega arith;
+        moves = λ s. omega arith;
+        answer = omega (arith, answer-held .answer-held .ensures .index);
+      },
+    )
+
+returns-2 : tie.Need-returns-2
+returns-2 c =
+    let hold = c .before .before .before in (
+      (λ line h. left-open h (hold .hold .ensures) (c .if1 .left)),
+      record { used = hold .hold .ensures .used-within; moves = λ s. omega (arith, c .if1 .left); answer = omega arith },
+    )
+
+pub next-spec : {M : Type 1} → statement M
+next-spec =
+    tie.close
+    (tie.spec (λ c κs. search needs) (λ c κs. search needs) (λ c. search needs) (λ c. search needs)
+    (λ c. search needs) returns (λ c. search needs) returns-2)

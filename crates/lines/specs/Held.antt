@@ -1,0 +1,28 @@
+-- Inside: a line gathered from pieces, step by step.
+-- Assumes nothing.
+use mathlib.Core.Path.{_≡_}
+use mathlib.Core.Bool.{Bool, _||_}
+use mathlib.Core.List.{List, [], _∷_, _++_}
+use Prim.Native.Nat.{ℕ, _-_, _≤_}
+use lib.Dec.{ltb}
+use lib.ListN.{length, take}
+use Rattle.base.specs.Choice.{pick}
+use Rattle.base.specs.Placed.{Placed}
+use Rattle.text.specs.Words.{upTo}
+use Rattle.replies.specs.Reply.{badCase}
+use Rattle.cases.specs.Cases.{answerTo}
+use Rattle.lines.specs.declared.Held.{Held}
+
+-- the call that added to the len bytes held, of a line that was too long if over, the bytes of the text up to its
+-- newline or its end
+pub record Holding (before : List ℕ) (len : ℕ) (over : Bool) (text : List ℕ) (h : Held) (after : List ℕ) : Type 0 where
+  -- how many bytes of the text belong to the line
+  pub used : h .used ≡ length (upTo 10 text)
+  pub used-within : h .used ≤ length text
+  pub bytes : Placed before len (upTo 10 text) (h .len) after
+  -- whether the line is longer than the buffer
+  pub too-long : h .over ≡ over || ltb (length before - len) (length (upTo 10 text))
+
+-- the answer to the line held, and a newline; a line that is too long is no case
+abbrev pub heldText : List ℕ → ℕ → Bool → List ℕ
+heldText held len over = pick (over || ltb (length held) len) badCase (answerTo (take len held)) ++ (10 ∷ [])
