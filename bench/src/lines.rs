@@ -53,7 +53,7 @@ impl Inputs {
             exact: (16..=133).map(|mhz| (12 * MHZ, mhz * MHZ)).filter(is_exact).collect(),
             inexact: (16..=133).map(|mhz| (12 * MHZ, mhz * MHZ + 1)).filter(|x| !is_exact(x)).collect(),
             random: (0..100)
-                .map(|_| (r.between(3 * MHZ, 50 * MHZ), r.between(10 * MHZ, 300 * MHZ)))
+                .map(|_| (r.between(5 * MHZ, 50 * MHZ), r.between(10 * MHZ, 300 * MHZ)))
                 .collect(),
             plans: std::iter::repeat_with(|| random_plan::plan(&mut r).try_into().unwrap())
                 .filter(accepted)

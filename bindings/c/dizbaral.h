@@ -59,6 +59,9 @@ uint64_t dizbaral_gpout_frequency(uint8_t source, uint32_t whole, uint8_t fracti
  * buffer. The length in bytes; bytes past it keep their values. Refusals 18, 1 to 14, 19. */
 uint64_t dizbaral_system_sheet(uint32_t hz, uint8_t reading, uint8_t *sheet, size_t length);
 
+/* The same for a crystal of crystal_hz, with the PLL that dizbaral_search finds. Before the other refusals 15. */
+uint64_t dizbaral_system_sheet_from(uint32_t crystal_hz, uint32_t hz, uint8_t reading, uint8_t *sheet, size_t length);
+
 /* The same for a plan of 48 numbers: docs/CASES.md, A plan in numbers. Malformed where they are of no plan. */
 uint64_t dizbaral_plan_sheet(const uint32_t *plan, size_t numbers, uint8_t reading, uint8_t *sheet, size_t length);
 

@@ -83,6 +83,11 @@ pub fn answer(case: &Case) -> Answer {
         Kind::Rosc => sheet(n[0], ClockConfig::rosc),
         Kind::Default => sheet(n[0], ClockConfig::default),
         Kind::System => sheet(n[0], || ClockConfig::system_freq(n[2]).expect("system_freq never errs")),
+        Kind::SystemFrom if n[2] < rules::MINIMUM => Answer::Ruled("refused 15".to_string()),
+        Kind::SystemFrom => match plan::system_freq_from(n[2], n[3]) {
+            Some(config) => sheet(n[0], || config),
+            None => Answer::Refused(15),
+        },
         Kind::Manual => sheet(n[0], || ClockConfig::manual_pll(n[2], pll(&n[3..7]), plan::voltage(n[7]))),
         Kind::List => Answer::Ruled(rules::list(n[0], n[1], n[2] as usize)),
         Kind::Run => Answer::NoCounterpart,

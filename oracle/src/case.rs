@@ -14,6 +14,7 @@ pub enum Kind {
     Rosc,
     Default,
     System,
+    SystemFrom,
     Manual,
     Run,
 }
@@ -50,7 +51,7 @@ pub const U16: Fits = UpTo(u16::MAX as u32);
 pub const U32: Fits = UpTo(u32::MAX);
 pub const ROOM: Fits = UpTo(1024);
 
-pub const KINDS: [(&str, Kind); 14] = [
+pub const KINDS: [(&str, Kind); 15] = [
     ("valid", Kind::Valid),
     ("output", Kind::Output),
     ("search", Kind::Search),
@@ -63,6 +64,7 @@ pub const KINDS: [(&str, Kind); 14] = [
     ("rosc", Kind::Rosc),
     ("default", Kind::Default),
     ("system", Kind::System),
+    ("system_from", Kind::SystemFrom),
     ("manual", Kind::Manual),
     ("run", Kind::Run),
 ];
@@ -78,6 +80,7 @@ impl Kind {
             Kind::Gpout => &[U8, U32, U8, U32, U32, U32, U32, U32, U32, U32, U32, U32, U32],
             Kind::Sheet | Kind::Rosc | Kind::Default => &[U8, ROOM],
             Kind::Crystal | Kind::System => &[U8, ROOM, U32],
+            Kind::SystemFrom => &[U8, ROOM, U32, U32],
             Kind::Manual => &[U8, ROOM, U32, U8, U16, U8, U8, Code],
             Kind::Run => &[],
         }

@@ -8,6 +8,7 @@ use std::process::{Command, Stdio};
 use crate::answer::{Answer, answer};
 use crate::case::{Case, Kind, PLAN, at};
 use crate::generate;
+use crate::rules;
 
 /// Cases a run of the program gets at once.
 const BATCH: usize = 20_000;
@@ -32,6 +33,8 @@ pub enum Class {
     ExactVco,
     PioShift,
     GpoutWhole0,
+    /// The search refuses a reference under the datasheet's minimum.
+    UnderMinimum,
 }
 
 impl Class {
@@ -47,6 +50,7 @@ impl Class {
             Class::ExactVco => "not valid by the exact VCO, the Rust's product overflows".to_string(),
             Class::PioShift => "PIO value, the Rust's shifts lose bits".to_string(),
             Class::GpoutWhole0 => "Gpout whole part 0 is 65536, the Rust takes 65535".to_string(),
+            Class::UnderMinimum => "refused 15, reference under 5 MHz: the Rust has no minimum".to_string(),
         }
     }
 }
@@ -69,6 +73,7 @@ pub fn class(case: &Case, rust: &Answer, ours: &str) -> Option<Class> {
         (Answer::Says(says), _) if gpout_whole_0(case) && gpout_value(case) != *says => {
             (gpout_value(case) == ours).then_some(Class::GpoutWhole0)
         }
+        (Answer::Says(_), _) if under_minimum(case) => (refused == Some(15)).then_some(Class::UnderMinimum),
         (Answer::Unknown(_) | Answer::NoCounterpart, _) => None,
         _ if rust.to_string() != ours => None,
         (Answer::Ruled(_), _) => Some(Class::SameByRule(case.word())),
@@ -80,6 +85,10 @@ pub fn class(case: &Case, rust: &Answer, ours: &str) -> Option<Class> {
 /// Over what the datasheet's field holds, 0xAA0 included.
 pub fn ring_divider(case: &Case) -> bool {
     case.kind == Kind::Sheet && case.numbers[PLAN + at::RING + 11] > 0xfff - 0xaa0
+}
+
+pub fn under_minimum(case: &Case) -> bool {
+    case.kind == Kind::Search && case.numbers[0] < rules::MINIMUM
 }
 
 fn exact_vco(case: &Case) -> bool {

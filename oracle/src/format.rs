@@ -4,7 +4,8 @@
 use std::collections::BTreeMap;
 
 use crate::answer::{Answer, answer, answer_line};
-use crate::case::{Case, KINDS};
+use crate::case::{Case, KINDS, Kind};
+use crate::compare::class;
 
 const PAPERS: &str = concat!(
     include_str!("../../docs/FORMAT.md"),
@@ -115,6 +116,20 @@ fn the_example_of_clocks_is_what_the_rust_stores() {
     let stored = stored.map(|(clock, hz)| format!("{} {hz}", CLOCKS[clock as usize]));
     let shown = section("Program clocks").skip_while(|line| *line != "```").skip(1);
     assert!(shown.take(10).eq(stored));
+}
+
+/// `limits` holds docs/FORMAT.md: its stored answers are the Rust's too, or differ as docs/DIFFERENCES.md says.
+#[test]
+fn the_answers_of_limits_are_right() {
+    let _alone = crate::tests::alone();
+    let cases = include_str!("../../crates/limits/stdin").lines();
+    for (line, stored) in cases.zip(include_str!("../../crates/limits/stdout").lines()) {
+        match Case::parse(line) {
+            None => assert_eq!(stored, "bad case", "{line}"),
+            Some(case) if case.kind == Kind::Run => {}
+            Some(case) => assert!(class(&case, &answer(&case), stored).is_some(), "{line}: {stored}"),
+        }
+    }
 }
 
 #[test]

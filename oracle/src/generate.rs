@@ -55,7 +55,7 @@ fn case(r: &mut Random) -> Case {
 }
 
 /// A reading and a buffer's length before the rest.
-fn with_buffer(r: &mut Random, rest: impl FnOnce(&mut Random) -> Vec<u32>) -> Vec<u32> {
+pub fn with_buffer(r: &mut Random, rest: impl FnOnce(&mut Random) -> Vec<u32>) -> Vec<u32> {
     let reading = match r.between(0, 49) {
         0..=15 => 11,
         16..=48 => r.between(0, 15),
@@ -82,13 +82,16 @@ pub fn search(r: &mut Random) -> Vec<u32> {
         6..=8 => r.between(2_343_750, 100_000_000),
         _ => r.any(),
     };
-    let target = match r.between(0, 9) {
+    vec![input, search_target(r, input)]
+}
+
+pub fn search_target(r: &mut Random, input: u32) -> u32 {
+    match r.between(0, 9) {
         0..=3 => output(r, input).wrapping_add(r.pick(&[0, 0, 1, u32::MAX])),
         4..=6 => between_outputs(r, input),
         7..=8 => r.between(10_000_000, 1_700_000_000),
         _ => r.any(),
-    };
-    vec![input, target]
+    }
 }
 
 /// An output of the search's ranges, without a remainder where one is found soon.

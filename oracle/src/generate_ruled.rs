@@ -1,5 +1,5 @@
-//! Cases that rest on rules of the port's own, as `generate` has those that rest on the Rust: first the limits, then
-//! random ones. Stored files hold none of these.
+//! Cases of requests, some of which rest on rules of the port's own, as `generate` has those that rest on the Rust:
+//! first the limits, then random ones. Stored files hold none of these.
 
 use crate::case::{Case, Kind};
 use crate::generate;
@@ -19,7 +19,25 @@ pub fn limits() -> Vec<Case> {
 }
 
 pub fn case(r: &mut Random) -> Case {
+    let (kind, numbers) = match r.between(0, 1) {
+        0 => (Kind::List, list(r)),
+        _ => (Kind::SystemFrom, generate::with_buffer(r, system_from)),
+    };
+    Case { kind, numbers }
+}
+
+fn list(r: &mut Random) -> Vec<u32> {
     let mut numbers = generate::search(r);
     numbers.push(if r.percent(80) { 1024 } else { r.between(0, 40) });
-    Case { kind: Kind::List, numbers }
+    numbers
+}
+
+fn system_from(r: &mut Random) -> Vec<u32> {
+    let crystal = match r.between(0, 9) {
+        0..=1 => r.pick(&limits::CRYSTALS),
+        2..=4 => r.between(10, 64) * 500_000,
+        5..=8 => r.between(5_000_000, 33_000_000),
+        _ => generate::search(r)[0],
+    };
+    vec![crystal, generate::search_target(r, crystal)]
 }

@@ -22,6 +22,14 @@ pub const PLL_INPUTS: [u32; 19] = [
     46_875_000, 50_000_000, 100_000_000, 100_000_001, 314_999_999, 315_000_000, 800_000_000, 800_000_001, MAX,
 ];
 
+/// Crystals of `system_from`: common ones, and the ends of what search, USB PLL and startup delay accept.
+#[rustfmt::skip]
+pub const CRYSTALS: [u32; 22] = [
+    3_000_000, 4_999_999, 5_000_000, 5_000_001, 6_249_999, 6_250_000, 8_000_000, 10_000_000, 12_000_000,
+    13_333_333, 13_333_334, 16_000_000, 20_000_000, 20_250_000, 24_000_000, 25_000_000, 32_767_999,
+    32_768_000, 48_000_000, 55_000_000, 100_000_000, 100_000_001,
+];
+
 /// Values worth trying at a place of a plan.
 pub fn values_at(place: usize) -> &'static [u32] {
     #[rustfmt::skip]
@@ -124,6 +132,15 @@ fn presets(cases: &mut Vec<Case>) {
     }
     for hz in [0, 1, 15_306_122, 125_000_000, 132_999_999, 133_000_000, 133_000_001, 200_000_000, MAX] {
         cases.extend([11, 12].map(|reading| Case::new(Kind::System, &[reading, ROOM, hz])));
+    }
+    for crystal in CRYSTALS {
+        for hz in [0, 48_000_000, 125_000_000, 133_000_000, 133_000_001, MAX] {
+            cases.push(Case::new(Kind::SystemFrom, &[READING, ROOM, crystal, hz]));
+        }
+    }
+    for (reading, room) in [(12, ROOM), (15, ROOM), (16, ROOM), (READING, 487), (READING, 496)] {
+        cases.push(Case::new(Kind::SystemFrom, &[reading, room, 8_000_000, 200_000_000]));
+        cases.push(Case::new(Kind::SystemFrom, &[reading, room, 3_000_000, 200_000_000]));
     }
     for code in 0..=15 {
         cases.push(Case::new(Kind::Manual, &[READING, ROOM, 12_000_000, 1, 125, 6, 2, code]));

@@ -19,6 +19,17 @@ pub fn pll(dividers: &[u32]) -> PllConfig {
     }
 }
 
+/// The plan of `system_freq` with another crystal and the search at that crystal, from the Rust's own pieces. Nothing
+/// where the search finds none.
+pub fn system_freq_from(crystal_hz: u32, hz: u32) -> Option<ClockConfig> {
+    let sys_pll = search(crystal_hz, hz)?;
+    // The voltage goes by the target alone.
+    let mut config = ClockConfig::system_freq(hz).ok()?;
+    let crystal = config.xosc.as_mut()?;
+    (crystal.hz, crystal.sys_pll) = (crystal_hz, Some(sys_pll));
+    Some(config)
+}
+
 /// `n` is well formed: every number fits its place.
 pub fn config(n: &[u32]) -> ClockConfig {
     ClockConfig {

@@ -7,7 +7,7 @@ use std::path::Path;
 
 use crate::answer::{Answer, answer};
 use crate::case::Case;
-use crate::compare::{gpout_whole_0, named, ring_divider};
+use crate::compare::{gpout_whole_0, named, ring_divider, under_minimum};
 use crate::generate;
 
 /// Why a case is left out; nothing where it stays.
@@ -24,6 +24,7 @@ fn left_out(case: &Case, rust: &Answer) -> Option<String> {
         }
         Answer::Sheet(_) if ring_divider(case) => "ring divider over the register's 12 bits".to_string(),
         Answer::Says(_) if gpout_whole_0(case) => "Gpout whole part 0".to_string(),
+        Answer::Says(_) if under_minimum(case) => "reference under 5 MHz".to_string(),
         _ => return None,
     })
 }

@@ -3,11 +3,14 @@
 /// A setting of the search: feedback divider, post 1, post 2.
 pub type Setting = (u32, u32, u32);
 
+/// The datasheet's least reference frequency of a PLL.
+pub const MINIMUM: u32 = 5_000_000;
 const VCO: std::ops::RangeInclusive<u64> = 750_000_000..=1_600_000_000;
 
 /// The search's candidates, in no order that counts.
 pub fn candidates(input: u32) -> impl Iterator<Item = Setting> {
-    let feedbacks = (16..=320).filter(move |&feedback| VCO.contains(&vco(input, feedback)));
+    let permitted = move |feedback: &u32| input >= MINIMUM && VCO.contains(&vco(input, *feedback));
+    let feedbacks = (16..=320).filter(permitted);
     feedbacks.flat_map(|feedback| {
         (1..=7).flat_map(move |post1| (1..=post1).map(move |post2| (feedback, post1, post2)))
     })

@@ -1,6 +1,6 @@
 //! Worked rows of docs/FORMAT.md, and that the stand-in says what it does not know.
 
-use std::sync::{Mutex, MutexGuard, PoisonError};
+use std::sync::{Mutex, MutexGuard, Once, PoisonError};
 
 use crate::answer::{Answer, answer, answer_line};
 use crate::case::Case;
@@ -14,6 +14,8 @@ use crate::reset;
 
 /// The ten frequencies are shared: tests that run the published code come one after another.
 pub fn alone() -> MutexGuard<'static, ()> {
+    static INSTALLED: Once = Once::new();
+    INSTALLED.call_once(crate::panics::install);
     static ALONE: Mutex<()> = Mutex::new(());
     ALONE.lock().unwrap_or_else(PoisonError::into_inner)
 }
@@ -51,6 +53,10 @@ fn worked_values() {
         ("list 12000000 125000000 1024", "4 3ee43ec6"),
         ("list 12000000 125000000 3", "refused 19"),
         ("list 12000000 125000001 0", "0 -"),
+        ("list 3000000 125000000 1024", "0 -"),
+        ("system_from 11 520 4999999 125000000", "refused 15"),
+        ("system_from 16 520 100000001 125000000", "refused 15"),
+        ("system_from 16 520 12000000 125000000", "drops 18"),
     ];
     for (case, answer) in rows {
         assert_eq!(answer_line(case), answer, "{case}");
@@ -85,6 +91,20 @@ fn stored_values_of_125_mhz() {
 }
 
 #[test]
+fn another_crystal_is_the_crystal_presets_own_at_12_mhz() {
+    let _alone = alone();
+    for hz in [125_000_000, 133_000_000, 133_000_001, 48_000_000, 0] {
+        let sheet = answer_line(&format!("system 11 520 {hz}"));
+        assert_eq!(answer_line(&format!("system_from 11 520 12000000 {hz}")), sheet);
+    }
+    let Answer::Sheet(steps) = answer(&Case::parse("system_from 11 520 8000000 125000000").unwrap()) else {
+        panic!("no sheet");
+    };
+    let stored: Vec<u32> = steps.iter().filter_map(|step| step.stored()).map(|(_, hz)| hz).collect();
+    assert_eq!(stored[..6], [6_500_000, 8_000_000, 125_000_000, 32_000_000, 8_000_000, 125_000_000]);
+}
+
+#[test]
 fn differences_and_findings() {
     let _alone = alone();
     let class = |case: &str, ours: &str| {
@@ -110,6 +130,13 @@ fn differences_and_findings() {
         ("voltage 16", "0 4", None),
         ("list 12000000 125000000 1024", "4 3ee43ec6", Some(Class::SameByRule("list"))),
         ("list 12000000 125000000 1024", "4 3ec63ee4", None),
+        ("search 4999999 125000000", "refused 15", Some(Class::UnderMinimum)),
+        ("search 4999999 125000000", "1 300 6 2", None),
+        ("search 2343749 125000000", "refused 15", Some(Class::Same)),
+        ("search 5000000 125000000", "refused 15", None),
+        ("system_from 11 520 4999999 125000000", "refused 15", Some(Class::SameByRule("system_from"))),
+        ("system_from 11 520 100000001 125000000", "refused 15", Some(Class::Same)),
+        ("system_from 11 520 16000000 125000000", "refused 6", Some(Class::Panics(6))),
     ];
     for (case, ours, expected) in rows {
         assert_eq!(class(case, ours), expected, "{case}: {ours}");

@@ -99,6 +99,14 @@ pub fn system_sheet(hz: u32, reading: u8, sheet: &mut [u8]) -> Result<usize, Ref
     answer(number).map(|length| length as usize)
 }
 
+/// Writes the sheet of a crystal, a system frequency and the PLL found for them, and answers its length.
+pub fn system_sheet_from(crystal_hz: u32, hz: u32, reading: u8, sheet: &mut [u8]) -> Result<usize, Refused> {
+    let number = unsafe {
+        raw::dizbaral_system_sheet_from(crystal_hz, hz, reading, sheet.as_mut_ptr(), sheet.len())
+    };
+    answer(number).map(|length| length as usize)
+}
+
 /// Why there is no sheet of a plan given as numbers.
 #[derive(Clone, Copy, Debug, PartialEq, Eq)]
 pub enum PlanError {

@@ -15,6 +15,13 @@ unsafe extern "C" {
     pub fn dizbaral_pio_divider(sys_hz: u32, target_hz: u32) -> u64;
     pub fn dizbaral_gpout_frequency(source: u8, whole: u32, fraction: u8, freqs: *const [u32; 10]) -> u64;
     pub fn dizbaral_system_sheet(hz: u32, reading: u8, sheet: *mut u8, length: usize) -> u64;
+    pub fn dizbaral_system_sheet_from(
+        crystal_hz: u32,
+        hz: u32,
+        reading: u8,
+        sheet: *mut u8,
+        length: usize,
+    ) -> u64;
     pub fn dizbaral_plan_sheet(
         plan: *const u32,
         numbers: usize,

@@ -14,10 +14,10 @@ fn search() {
     for (target, fbdiv, post_div1, post_div2) in rows {
         assert_eq!(find_pll_params(12 * MHZ, target), Ok(setting(fbdiv, post_div1, post_div2)));
     }
-    for input in [2_343_750, 100_000_000] {
+    for input in [5_000_000, 100_000_000] {
         assert!(find_pll_params(input, 48 * MHZ).is_ok());
     }
-    for input in [2_343_749, 100_000_001] {
+    for input in [3_000_000, 4_999_999, 100_000_001] {
         assert_eq!(find_pll_params(input, 48 * MHZ), Err(Refused(15)));
     }
 }

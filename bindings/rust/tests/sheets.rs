@@ -2,7 +2,9 @@
 
 use std::error::Error;
 
-use dizbaral::{PlanError, Progress, Refused, Runner, SHEET_BYTES, list, listed, plan_sheet, system_sheet};
+use dizbaral::{
+    PlanError, Progress, Refused, Runner, SHEET_BYTES, list, listed, plan_sheet, system_sheet, system_sheet_from,
+};
 
 const MHZ: u32 = 1_000_000;
 
@@ -39,6 +41,18 @@ fn a_plan_as_numbers_gives_the_same_sheet() {
     assert_eq!(plan_sheet(&crystal(), 11, &mut sheet), Ok(496));
     assert_eq!(sheet[..496], sheet_of(125 * MHZ));
     assert_eq!(sheet[496..], [0xEE; SHEET_BYTES - 496]);
+}
+
+#[test]
+fn another_crystal_has_its_own_search() {
+    let mut sheet = [0xEE; SHEET_BYTES];
+    assert_eq!(system_sheet_from(12 * MHZ, 125 * MHZ, 11, &mut sheet), Ok(496));
+    assert_eq!(sheet[..496], sheet_of(125 * MHZ));
+    assert_eq!(system_sheet_from(8 * MHZ, 125 * MHZ, 11, &mut sheet), Ok(496));
+    assert_ne!(sheet[..496], sheet_of(125 * MHZ));
+    let before = sheet;
+    assert_eq!(system_sheet_from(5 * MHZ - 1, 125 * MHZ, 16, &mut sheet), Err(Refused(15)));
+    assert_eq!(sheet, before);
 }
 
 #[test]

@@ -10,7 +10,8 @@ use Rattle.fields.specs.Row.{u8, u16, u32, room}
 use Rattle.fields.specs.Fields.{Tail, Fields, noNumber, numbersIn, numbersOnly}
 use Rattle.replies.specs.Reply.{badCase}
 use Rattle.number_cases.specs.Numbers.{validText, outputText, searchText, voltageText, pioText, gpoutText}
-use Rattle.sheet_cases.specs.Sheets.{crystalText, roscText, defaultText, systemText, manualText, planSheetText}
+use Rattle.sheet_cases.specs.Sheets.{crystalText, roscText, defaultText, systemText, systemFromText}
+use Rattle.sheet_cases.specs.Sheets.{manualText, planSheetText}
 use Rattle.run_cases.specs.Runs.{runText}
 use Rattle.cases.specs.Lists.{listText}
 use Rattle.cases.specs.declared.Kind.{Kind}
@@ -27,6 +28,7 @@ use Rattle.cases.specs.declared.Kind.the-variants.{
   Rosc,
   Default,
   System,
+  SystemFrom,
   Manual,
   Run,
   Unknown,
@@ -76,6 +78,8 @@ rowOf Rosc = plain "rosc" (u8 ∷ room ∷ []) roscText
 rowOf Default = plain "default" (u8 ∷ room ∷ []) defaultText
 -- READING ROOM HZ
 rowOf System = plain "system" (u8 ∷ room ∷ u32 ∷ []) systemText
+-- READING ROOM CRYSTAL HZ
+rowOf SystemFrom = plain "system_from" (u8 ∷ room ∷ u32 ∷ u32 ∷ []) systemFromText
 -- READING ROOM HZ REFDIV FBDIV POST1 POST2 CODE
 rowOf Manual = plain "manual" (u8 ∷ room ∷ u32 ∷ u8 ∷ u16 ∷ u8 ∷ u8 ∷ 15 ∷ []) manualText
 -- POSITION POLLS TOTAL STOPPED F0 to F9 READY, then SHEET
@@ -88,7 +92,7 @@ rowOf Unknown = nameless
 abbrev pub kinds : List Kind
 kinds =
     Valid ∷ Output ∷ Search ∷ Settings ∷ Voltage ∷ Pio ∷ Gpout
-    ∷ Sheet ∷ Crystal ∷ Rosc ∷ Default ∷ System ∷ Manual ∷ Run ∷ []
+    ∷ Sheet ∷ Crystal ∷ Rosc ∷ Default ∷ System ∷ SystemFrom ∷ Manual ∷ Run ∷ []
 
 abbrev pub firstNamed : List ℕ → List Kind → Kind
 firstNamed name [] = Unknown

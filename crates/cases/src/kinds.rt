@@ -32,7 +32,8 @@ pub(crate) fn named(name: &[u8]) -> Kind
 {
     let from_run = where_named(name, b"run", Kind::Run, Kind::Unknown);
     let from_manual = where_named(name, b"manual", Kind::Manual, from_run);
-    let from_system = where_named(name, b"system", Kind::System, from_manual);
+    let from_system_from = where_named(name, b"system_from", Kind::SystemFrom, from_manual);
+    let from_system = where_named(name, b"system", Kind::System, from_system_from);
     let from_default = where_named(name, b"default", Kind::Default, from_system);
     let from_rosc = where_named(name, b"rosc", Kind::Rosc, from_default);
     let from_crystal = where_named(name, b"crystal", Kind::Crystal, from_rosc);
@@ -73,6 +74,7 @@ pub(crate) fn read(kind: Kind, line: &[u8], at: usize, n: &mut [u32; 64]) -> Res
         Kind::Rosc => read_all(line, at, &[U8, ROOM], n),
         Kind::Default => read_all(line, at, &[U8, ROOM], n),
         Kind::System => read_all(line, at, &[U8, ROOM, U32], n),
+        Kind::SystemFrom => read_all(line, at, &[U8, ROOM, U32, U32], n),
         Kind::Manual => read_all(line, at, &[U8, ROOM, U32, U8, U16, U8, U8, 15], n),
         Kind::Run => {
             let mut limits = [U32; 15];

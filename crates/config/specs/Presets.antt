@@ -99,13 +99,18 @@ abbrev pub systemVoltage : ℕ → CoreVoltage
 systemVoltage hz = pick (ltb 133000000 hz) CoreVoltage.V1_15 CoreVoltage.V1_10
 
 -- the crystal preset with the system PLL found for the frequency
-abbrev pub withFound : ℕ → Answer PllConfig → Answer ClockConfig
-withFound hz (value p) = value (fromPlls (ringConfig 6500000 RoscRange.Medium 16) (feeding 12000000 p) (systemVoltage hz))
-withFound hz (refusal n) = refusal n
+abbrev pub withFound : ℕ → ℕ → Answer PllConfig → Answer ClockConfig
+withFound from hz (value p) =
+    value (fromPlls (ringConfig 6500000 RoscRange.Medium 16) (feeding from p) (systemVoltage hz))
+withFound from hz (refusal n) = refusal n
 
--- always from 12 MHz; 125 MHz is the crystal preset
+-- from a crystal: always what the search finds, or its refusal 15
+unfoldable pub systemPlanFrom : ℕ → ℕ → Answer ClockConfig
+systemPlanFrom from hz = withFound from hz (searchOf from hz)
+
+-- from 12 MHz; 125 MHz is the crystal preset
 unfoldable pub systemPlan : ℕ → Answer ClockConfig
-systemPlan hz = pick (eqb hz 125000000) (value (crystalPlan 12000000)) (withFound hz (searchOf 12000000 hz))
+systemPlan hz = pick (eqb hz 125000000) (value (crystalPlan 12000000)) (systemPlanFrom 12000000 hz)
 
 -- no ring, and 5 for a PLL that is not valid
 unfoldable pub manualPlan : ℕ → PllConfig → CoreVoltage → Answer ClockConfig

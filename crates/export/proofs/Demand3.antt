@@ -10,7 +10,7 @@ use native.Mathlib.Omega.{arith}
 use Rattle.base.specs.Answer.{Answer, value, refusal}
 use Rattle.base.specs.declared.Length.the-variants.{Bytes}
 use Rattle.config.specs.declared.ClockConfig.{ClockConfig}
-use Rattle.config.specs.Presets.{systemPlan}
+use Rattle.config.specs.Presets.{systemPlan, systemPlanFrom}
 use Rattle.settings.specs.Settings.{settingsOf}
 use Rattle.sheet.specs.Writer.{initAnswer, InitCall}
 use Rattle.sheet.specs.Demand3.{SameUpTo}
@@ -18,7 +18,7 @@ use Rattle.sheet.proofs.Demand3.{demand-3}
 use Rattle.plan_numbers.specs.Plan.{planOf}
 use Rattle.export.specs.Numbers.{answerNumber, itself, refusals, malformed}
 use Rattle.export.specs.Sheet.{planIn, SheetCall, PlanSheetCall}
-use Rattle.export.specs.Demand3.{settingsIn, PlanSheets, SystemSheets}
+use Rattle.export.specs.Demand3.{settingsIn, PlanSheets, PresetSheets, SystemSheets, SystemSheetsFrom}
 
 -- a call that answered a length is one of `init`
 record Wrote (plan : Option ClockConfig) (reading : ℕ) (before : List ℕ) (r : ℕ) (after : List ℕ) : Type 0 where
@@ -76,7 +76,12 @@ pub plan-sheets : PlanSheets
 plan-sheets ns ms reading b b′ c c′ r s call low call′ low′ =
     both (planOf ns) (planOf ms) reading b b′ c c′ r s (plan-wrote (planOf ns) call low) (plan-wrote (planOf ms) call′ low′)
 
+pub preset-sheets : (p q : Answer ClockConfig) → PresetSheets p q
+preset-sheets p q reading b b′ c c′ r s call low call′ low′ =
+    both (planIn p) (planIn q) reading b b′ c c′ r s (preset-wrote p call low) (preset-wrote q call′ low′)
+
 pub system-sheets : SystemSheets
-system-sheets hz hz′ reading b b′ c c′ r s call low call′ low′ =
-    both (planIn (systemPlan hz)) (planIn (systemPlan hz′)) reading b b′ c c′ r s
-    (preset-wrote (systemPlan hz) call low) (preset-wrote (systemPlan hz′) call′ low′)
+system-sheets hz hz′ = preset-sheets (systemPlan hz) (systemPlan hz′)
+
+pub system-sheets-from : SystemSheetsFrom
+system-sheets-from from hz from′ hz′ = preset-sheets (systemPlanFrom from hz) (systemPlanFrom from′ hz′)

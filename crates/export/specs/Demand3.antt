@@ -5,8 +5,9 @@ use mathlib.Core.Logic.{_↔_}
 use mathlib.Core.List.{List}
 use mathlib.Core.Option.{Option, none, some}
 use Prim.Native.Nat.{ℕ, _<_}
+use Rattle.base.specs.Answer.{Answer}
 use Rattle.config.specs.declared.ClockConfig.{ClockConfig}
-use Rattle.config.specs.Presets.{systemPlan}
+use Rattle.config.specs.Presets.{systemPlan, systemPlanFrom}
 use Rattle.settings.specs.Settings.{settingsOf}
 use Rattle.settings.specs.declared.Settings.{Settings}
 use Rattle.sheet.specs.Demand3.{SameUpTo}
@@ -27,10 +28,16 @@ PlanSheets =
     → PlanSheetCall (planOf ms) reading c s c′ → s < refusals
     → ((r ≡ s) × SameUpTo r b′ c′) ↔ (settingsIn (planOf ns) reading ≡ settingsIn (planOf ms) reading)
 
+-- the same of two presets
+abbrev pub PresetSheets : Answer ClockConfig → Answer ClockConfig → Type 0
+PresetSheets p q =
+    (reading : ℕ) (b b′ c c′ : List ℕ) (r s : ℕ)
+    → SheetCall p reading b r b′ → r < refusals
+    → SheetCall q reading c s c′ → s < refusals
+    → ((r ≡ s) × SameUpTo r b′ c′) ↔ (settingsIn (planIn p) reading ≡ settingsIn (planIn q) reading)
+
 abbrev pub SystemSheets : Type 0
-SystemSheets =
-    (hz hz′ reading : ℕ) (b b′ c c′ : List ℕ) (r s : ℕ)
-    → SheetCall (systemPlan hz) reading b r b′ → r < refusals
-    → SheetCall (systemPlan hz′) reading c s c′ → s < refusals
-    → ((r ≡ s) × SameUpTo r b′ c′)
-    ↔ (settingsIn (planIn (systemPlan hz)) reading ≡ settingsIn (planIn (systemPlan hz′)) reading)
+SystemSheets = (hz hz′ : ℕ) → PresetSheets (systemPlan hz) (systemPlan hz′)
+
+abbrev pub SystemSheetsFrom : Type 0
+SystemSheetsFrom = (from hz from′ hz′ : ℕ) → PresetSheets (systemPlanFrom from hz) (systemPlanFrom from′ hz′)

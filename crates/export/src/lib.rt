@@ -13,7 +13,7 @@ ghost use Rattle.divider.specs.Gpout.{gpoutOf};
 ghost use Rattle.divider.specs.Pio.{pioOf};
 ghost use Rattle.pll.specs.Setting.{validOf, outputOf};
 ghost use Rattle.pll.specs.Search.{searchOf};
-ghost use Rattle.config.specs.Presets.{plannedIs, systemPlan};
+ghost use Rattle.config.specs.Presets.{plannedIs, systemPlan, systemPlanFrom};
 ghost use Rattle.lister.specs.Lister.{listedOf, listedIn};
 ghost use Rattle.plan_numbers.specs.Plan.{planOf};
 ghost use Rattle.export.specs.Numbers.{answerNumber, itself, settingNumber, voltageNumber, dividersAre};
@@ -105,6 +105,22 @@ pub extern "C" fn dizbaral_system_sheet(hz: u32, reading: u8, sheet: &mut [u8]) 
     ensures { λ r. ⌜ SheetCall (systemPlan hz) reading (now (sheet .entry)) r (now (sheet .exit)) ⌝ }
 {
     write_planned(ClockConfig::system_freq(hz), reading, sheet)
+}
+
+#[no_mangle]
+pub extern "C" fn dizbaral_system_sheet_from(
+    crystal_hz: u32,
+    hz: u32,
+    reading: u8,
+    sheet: &mut [u8],
+) -> u64
+    ensures { λ r. ⌜ SheetCall (systemPlanFrom «crystal_hz» hz) reading (now (sheet .entry)) r (now (sheet .exit)) ⌝ }
+{
+    write_planned(
+        ClockConfig::system_freq_from(crystal_hz, hz),
+        reading,
+        sheet,
+    )
 }
 
 #[no_mangle]

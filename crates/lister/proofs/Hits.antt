@@ -9,15 +9,15 @@ use native.Mathlib.Omega.{arith}
 use native.Mathlib.Nat.{eq-or-lt-of-le, eq-of-mul-eq-mul-left, div-one, div-add-mod'}
 use native.Mathlib.Nat.{mul-mod-right, mul-div-cancel-left}
 use lib.Dec.{leb, eqb}
-use borrow.Author.Tests.{le-leb, eqb-true, eq-eqb, ne-eqb}
+use borrow.Author.Tests.{le-leb, lt-leb, eqb-true, eq-eqb, ne-eqb}
 use Rattle.base.specs.Choice.{inRange}
 use Rattle.base.proofs.Bools.{both-true, never-true, same-test, in-range}
-use Rattle.pll.specs.Ranges.{feedbackMin, vcoMin, vcoMax}
+use Rattle.pll.specs.Ranges.{referenceMin, feedbackMin, vcoMin, vcoMax}
 use Rattle.pll.specs.Search.{falling, setting, keep}
-use Rattle.lister.specs.Lister.{meets}
+use Rattle.lister.specs.Lister.{meets, inOrder, listOf}
 use Rattle.lister.specs.Order.{atPost1, atFeedback, hasProduct, Wrote}
 use Rattle.lister.proofs.Writing.{nothing}
-use Rattle.lister.proofs.Walks.{same-feedback, none-kept}
+use Rattle.lister.proofs.Walks.{same-feedback, none, none-kept}
 
 -- the quotient is a post 2, and nothing remains
 abbrev pub divides : ℕ → ℕ → Bool
@@ -71,6 +71,11 @@ module _ (fb p1 : ℕ) (positive : 1 ≤ p1) where
       let y : _≡_ {A = ℕ} 0 1 = cc in
       omega arith)
 
+-- under the minimum of the reference nothing is listed
+pub none-listed : (input target : ℕ) → input < referenceMin → listOf input target ≡ []
+unfolding listOf
+none-listed input target l = none (meets input target) (λ c. rw (lt-leb referenceMin input l)) inOrder
+
 module _ (input target fb : ℕ) where
   -- where no product gives the target, nothing is put
   pub none-put : (buf : List ℕ) (at : ℕ)
@@ -83,21 +88,27 @@ module _ (input target fb : ℕ) where
           never-true (meets input target (setting fb p1 p2))
           (λ e.
           let v : input / 1 * fb ≡ input * fb = rw div-one in
-          let t = both-true (leb feedbackMin fb && inRange vcoMin vcoMax (input / 1 * fb))
+          let t = both-true (leb referenceMin input && leb feedbackMin fb && inRange vcoMin vcoMax (input / 1 * fb))
           (eqb (target * (p1 * p2)) (input / 1 * fb)) e in
-          let p = both-true (leb feedbackMin fb) (inRange vcoMin vcoMax (input / 1 * fb)) (t .0) in
+          let p = both-true (leb referenceMin input && leb feedbackMin fb) (inRange vcoMin vcoMax (input / 1 * fb)) (t .0) in
           let r = in-range vcoMin vcoMax (input / 1 * fb) (p .1) in
           h (p1 * p2) (omega arith) (omega arith) (eqb-true (target * (p1 * p2)) (input / 1 * fb) (t .1) ∙ v))
 
   -- where the target goes into the VCO frequency, the quotient is the product
-  pub product-meets : feedbackMin ≤ fb → vcoMin ≤ input * fb → input * fb ≤ vcoMax → 0 < target
+  pub product-meets : referenceMin ≤ input → feedbackMin ≤ fb → vcoMin ≤ input * fb → input * fb ≤ vcoMax → 0 < target
       → input * fb % target ≡ 0
       → keep (meets input target) (atFeedback fb) ≡ keep (hasProduct (input * fb / target)) (atFeedback fb)
-  product-meets low from to positive whole =
+  product-meets least low from to positive whole =
       same-feedback (meets input target) (hasProduct (input * fb / target)) fb
       (λ p1 p2.
       let m : target * (input * fb / target) ≡ input * fb = omega (arith, div-add-mod' (input * fb) target) in
-      rw (div-one, le-leb feedbackMin fb low, le-leb vcoMin (input * fb) from, le-leb (input * fb) vcoMax to)
+      rw (
+        div-one,
+        le-leb referenceMin input least,
+        le-leb feedbackMin fb low,
+        le-leb vcoMin (input * fb) from,
+        le-leb (input * fb) vcoMax to,
+      )
       (same-test (eqb (target * (p1 * p2)) (input * fb)) (eqb (p1 * p2) (input * fb / target))
       (λ e. eq-eqb (p1 * p2) (input * fb / target)
       (eq-of-mul-eq-mul-left target positive (p1 * p2) (input * fb / target)

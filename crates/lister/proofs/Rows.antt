@@ -30,17 +30,18 @@ pub rising-row :
 unfolding listOf inOrder rising keep falling flatMap
 rising-row = refl
 
--- the ends of the feedback dividers and of the VCO
+-- the ends of the input, of the feedback dividers and of the VCO
 pub end-rows :
-    (listOf 2343750 750000000 ≡ setting 320 1 1 ∷ []) × (listOf 100000000 100000000 ≡ setting 16 4 4 ∷ [])
+    (listOf 5000000 1600000000 ≡ setting 320 1 1 ∷ []) × (listOf 100000000 100000000 ≡ setting 16 4 4 ∷ [])
 unfolding listOf inOrder rising keep falling flatMap
 end-rows = (refl, refl)
 
--- none: a target that nothing meets, no target, no input, and an input that the search refuses
+-- none: a target that nothing meets, no target, no input, and inputs that the search refuses
 pub none-rows :
     (listedOf 12000000 1 0 ≡ value 0)
     × (listedOf 12000000 0 0 ≡ value 0)
     × (listedOf 0 125000000 0 ≡ value 0)
     × (listedOf 100000001 100000001 0 ≡ value 0)
+    × (listedOf 4999999 1599999680 0 ≡ value 0)
 unfolding listOf inOrder rising keep falling flatMap
-none-rows = (refl, refl, refl, refl)
+none-rows = (refl, refl, refl, refl, refl)

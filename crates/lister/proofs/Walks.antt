@@ -65,12 +65,13 @@ module _ (t u : PllConfig → Bool) (fb : ℕ) (agree : (p1 p2 : ℕ) → t (set
   pub same-feedback : keep t (atFeedback fb) ≡ keep u (atFeedback fb)
   same-feedback = same-posts (falling 7)
 
-none : (cs : List PllConfig) → keep (λ c. false) cs ≡ []
+-- no setting passes the test
+pub none : (t : PllConfig → Bool) → ((c : PllConfig) → t c ≡ false) → (cs : List PllConfig) → keep t cs ≡ []
 unfolding keep
-none [] = refl
-none (c ∷ cs) = none cs
+none t h [] = refl
+none t h (c ∷ cs) = rw (h c) (none t h cs)
 
--- no setting of a feedback divider passes the test
+-- none of a feedback divider does
 pub none-kept : (t : PllConfig → Bool) (fb : ℕ) → ((p1 p2 : ℕ) → t (setting fb p1 p2) ≡ false)
     → keep t (atFeedback fb) ≡ []
-none-kept t fb h = rw (same-feedback t (λ c. false) fb h) (none (atFeedback fb))
+none-kept t fb h = rw (same-feedback t (λ c. false) fb h) (none (λ c. false) (λ c. refl) (atFeedback fb))

@@ -11,8 +11,8 @@ use Rattle.pll.specs.Ranges.{feedbackMin, feedbackMax}
 use Rattle.pll.specs.Search.{falling, rising, setting, keep, permitted, exact}
 use Rattle.pll.specs.declared.PllConfig.{PllConfig}
 
--- remainder-free, in the search's ranges: VCO 750 to 1600 MHz, reference divider 1, feedback divider 16 to 320,
--- post 1 from 1 to 7, post 2 from 1 to post 1
+-- remainder-free, in the search's ranges: input from 5 MHz, VCO 750 to 1600 MHz, reference divider 1, feedback
+-- divider 16 to 320, post 1 from 1 to 7, post 2 from 1 to post 1
 abbrev pub remainderFree : ℕ → ℕ → PllConfig → Bool
 remainderFree input target c =
     permitted input c

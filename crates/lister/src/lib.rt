@@ -2,6 +2,7 @@
 use base::Length;
 use pll::FEEDBACK_MAX;
 use pll::FEEDBACK_MIN;
+use pll::REFERENCE_MIN;
 use pll::VCO_MAX;
 use pll::VCO_MIN;
 ghost use mathlib.Core.Path.{_≡_};
@@ -9,7 +10,7 @@ ghost use Prim.Native.Nat.{_+_, _≤_};
 ghost use mathlib.Core.List.{[], _∷_};
 ghost use lib.ListN.{length, set};
 ghost use Rattle.base.specs.Answer.{lengthIs};
-ghost use Rattle.pll.specs.Ranges.{feedbackMin, feedbackMax};
+ghost use Rattle.pll.specs.Ranges.{referenceMin, feedbackMin, feedbackMax};
 ghost use Rattle.pll.specs.Search.{setting, keep};
 ghost use Rattle.lister.specs.Lister.{meets, listOf, listedOf, listedIn};
 ghost use Rattle.lister.specs.Order.{atPost1, atFeedback, hasProduct, Wrote};
@@ -66,7 +67,8 @@ fn put_posts(buf: &mut [u8], at: usize, fbdiv: u64, product: u64) -> usize
 
 // Puts the settings of a feedback divider that give the target with no remainder.
 fn put_feedback(buf: &mut [u8], at: usize, input_hz: u64, target_hz: u64, fbdiv: u64) -> usize
-    requires { ⌜ (at ≤ 4900) × («input_hz» ≤ 4294967295) × (feedbackMin ≤ fbdiv) × (fbdiv ≤ feedbackMax) ⌝ }
+    requires { ⌜ (at ≤ 4900) × (feedbackMin ≤ fbdiv) × (fbdiv ≤ feedbackMax) ⌝ }
+    requires { ⌜ (referenceMin ≤ «input_hz») × («input_hz» ≤ 4294967295) ⌝ }
     ensures { λ r. ⌜ Wrote (now (buf .entry)) at (keep (meets «input_hz» «target_hz») (atFeedback fbdiv)) (now (buf .exit)) r ⌝ }
     ensures { λ r. ⌜ r ≤ at + 14 ⌝ }
 {
@@ -86,11 +88,15 @@ fn put_feedback(buf: &mut [u8], at: usize, input_hz: u64, target_hz: u64, fbdiv:
     put_posts(buf, at, fbdiv, vco / target_hz)
 }
 
-// Puts the whole list. It answers the length of the list, whether or not the buffer has room for it.
+// Puts the whole list, which is empty for an input under the reference's minimum. It answers the length of the list,
+// whether or not the buffer has room for it.
 fn put_list(buf: &mut [u8], input_hz: u64, target_hz: u64) -> usize
     requires { ⌜ «input_hz» ≤ 4294967295 ⌝ }
     ensures { λ r. ⌜ Wrote (now (buf .entry)) 0 (listOf «input_hz» «target_hz») (now (buf .exit)) r ⌝ }
 {
+    if input_hz < REFERENCE_MIN {
+        return 0;
+    }
     let mut next = 0;
     let mut fbdiv = FEEDBACK_MIN;
     while fbdiv <= FEEDBACK_MAX {

@@ -3,7 +3,7 @@
 use mathlib.Core.Path.{_≡_, refl, sym, ap, _∙_}
 use mathlib.Core.Logic.{inl, inr, ⊎-elim}
 use mathlib.Core.List.{List, map, flatMap}
-use mathlib.Core.Bool.{true}
+use mathlib.Core.Bool.{true, _&&_}
 use Prim.Native.Nat.{ℕ, zero, suc, _+_, _*_, _≤_, _<_}
 use native.Mathlib.Omega.{arith}
 use native.Mathlib.Nat.{eq-or-lt-of-le, div-one}
@@ -11,10 +11,10 @@ use lib.Dec.{leb}
 use borrow.Author.Tests.{leb-true, le-leb}
 use Rattle.base.specs.Choice.{inRange}
 use Rattle.base.proofs.Bools.{both-true, in-range}
-use Rattle.pll.specs.Ranges.{feedbackMin, feedbackMax, vcoMin, vcoMax}
+use Rattle.pll.specs.Ranges.{referenceMin, feedbackMin, feedbackMax, vcoMin, vcoMax}
 use Rattle.pll.specs.Setting.{vcoOf}
 use Rattle.pll.specs.Search.{falling, setting, settings, permitted, candidates}
-use Rattle.pll.specs.Law.{InVco, Candidate}
+use Rattle.pll.specs.Law.{VcoPermits, Candidate}
 use Rattle.pll.specs.Walk.{key}
 use Rattle.pll.specs.declared.PllConfig.{PllConfig}
 use Rattle.pll.proofs.Order.{Kind, Lists, UpTo, Only, lists-same, lists-falling, lists-keep}
@@ -80,11 +80,13 @@ module _ (input : ℕ) where
   pub permitted-candidate : (c : PllConfig) → Posts c → c .fbdiv ≤ feedbackMax → permitted input c ≡ true
       → Candidate input c
   permitted-candidate c p high e =
-      let t = both-true (leb feedbackMin (c .fbdiv)) (inRange vcoMin vcoMax (vcoOf c input)) e in
+      let t = both-true (leb referenceMin input && leb feedbackMin (c .fbdiv)) (inRange vcoMin vcoMax (vcoOf c input)) e in
+      let l = both-true (leb referenceMin input) (leb feedbackMin (c .fbdiv)) (t .0) in
       let v = in-range vcoMin vcoMax (vcoOf c input) (t .1) in
       record {
         reference = p .0;
-        feedback-low = leb-true feedbackMin (c .fbdiv) (t .0);
+        reference-low = leb-true referenceMin input (l .0);
+        feedback-low = leb-true feedbackMin (c .fbdiv) (l .1);
         feedback-high = high;
         vco = record { low = v .0; high = v .1 };
         post1-high = p .3;
@@ -97,7 +99,12 @@ module _ (input : ℕ) where
 
   pub candidate-permitted : (c : PllConfig) → Candidate input c → permitted input c ≡ true
   candidate-permitted c m =
-      simp (le-leb feedbackMin _ (m .feedback-low), le-leb vcoMin _ (m .vco .low), le-leb _ vcoMax (m .vco .high))
+      simp (
+        le-leb referenceMin input (m .reference-low),
+        le-leb feedbackMin _ (m .feedback-low),
+        le-leb vcoMin _ (m .vco .low),
+        le-leb _ vcoMax (m .vco .high),
+      )
 
   pub lists-candidates : Lists key (Candidate input) (candidates input)
   unfolding candidates
@@ -111,14 +118,20 @@ module _ (input : ℕ) where
   pub vco-is : (c : PllConfig) → c .refdiv ≡ 1 → vcoOf c input ≡ input * c .fbdiv
   vco-is c e = rw (e, div-one)
 
-  pub a-candidate : (fb p1 p2 : ℕ) → feedbackMin ≤ fb → fb ≤ feedbackMax → InVco (input * fb) → p1 ≤ 7 → 1 ≤ p2
-      → p2 ≤ p1 → Candidate input (setting fb p1 p2)
-  a-candidate fb p1 p2 lo hi v h1 l2 h2 =
+  -- its feedback divider
+  pub candidate-permits : (c : PllConfig) → Candidate input c → VcoPermits input (c .fbdiv)
+  candidate-permits c m =
+      record { low = m .feedback-low; high = m .feedback-high; vco = rw (vco-is c (m .reference)) at (m .vco) }
+
+  pub a-candidate : (fb p1 p2 : ℕ) → referenceMin ≤ input → VcoPermits input fb → p1 ≤ 7 → 1 ≤ p2 → p2 ≤ p1
+      → Candidate input (setting fb p1 p2)
+  a-candidate fb p1 p2 least v h1 l2 h2 =
       record {
         reference = refl;
-        feedback-low = lo;
-        feedback-high = hi;
-        vco = rw (vco-is (setting fb p1 p2) refl) v;
+        reference-low = least;
+        feedback-low = v .low;
+        feedback-high = v .high;
+        vco = rw (vco-is (setting fb p1 p2) refl) (v .vco);
         post1-high = h1;
         post2-low = l2;
         post2-high = h2;

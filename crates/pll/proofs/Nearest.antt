@@ -6,10 +6,10 @@ use Prim.Native.Nat.{ℕ, suc, min, _+_, _-_, _*_, _/_, _%_, _≤_, _<_}
 use native.Mathlib.Omega.{arith, min-cases}
 use native.Mathlib.Nat.{mul-le-mul-left, suc-mul, mul-suc, div-mul-le-self, le-div-iff-mul-le}
 use native.Mathlib.Nat.{div-lt-iff-lt-mul, div-eq-of-eq-mul-left, eq-or-lt-of-le}
-use Rattle.pll.specs.Ranges.{feedbackMin, feedbackMax}
+use Rattle.pll.specs.Ranges.{referenceMin}
 use Rattle.pll.specs.Setting.{postsOf}
 use Rattle.pll.specs.Search.{apart, setting}
-use Rattle.pll.specs.Law.{InVco, Candidate}
+use Rattle.pll.specs.Law.{VcoPermits, Candidate}
 use Rattle.pll.specs.Walk.{keys, noRank, scoreOf, key, rankOf, codeRankOf, product, PostCode, NearestPosts}
 use Rattle.pll.specs.Walk.{WantedProduct, LowestRank, CandidatesAt}
 use Rattle.pll.specs.declared.PllConfig.{PllConfig}
@@ -57,7 +57,7 @@ module _ (input target fb : ℕ) where
   unfolding codeRankOf
   rank-code posts = refl
 
-  module _ (lo : feedbackMin ≤ fb) (hi : fb ≤ feedbackMax) (vco : InVco (input * fb)) (q pair : ℕ)
+  module _ (least : referenceMin ≤ input) (permits : VcoPermits input fb) (q pair : ℕ)
       (w : WantedProduct (input * fb) target q) (near : NearestPosts q pair) where
     abbrev low : ℕ
     low = pair / 64
@@ -85,7 +85,7 @@ module _ (input target fb : ℕ) where
         let most : product low ≤ 49 = omega (arith, w .most, n .0) in
         let t : target * product low ≤ v = omega (arith, mul-le-mul-left target (n .0), w .within) in
         ⊎-elim (λ s. omega (arith, ap score s, n .1))
-        (λ l. omega (arith, score-below v target p (product low) some l most (omega (arith, vco .low)) t))
+        (λ l. omega (arith, score-below v target p (product low) some l most (omega (arith, permits .vco .low)) t))
         (eq-or-lt-of-le {n = p} {m = product low} (omega (arith, n .1))))
         (λ n.
         let e = rank-code high in
@@ -95,7 +95,7 @@ module _ (input target fb : ℕ) where
         let o = w .over (omega (arith, n .1)) in
         let t : v < target * product high = omega (arith, mul-le-mul-left target u) in
         ⊎-elim (λ s. omega (arith, ap score s, n .1))
-        (λ l. omega (arith, score-above v target p (product high) (omega arith) l most (omega (arith, vco .low)) t))
+        (λ l. omega (arith, score-above v target p (product high) (omega arith) l most (omega (arith, permits .vco .low)) t))
         (eq-or-lt-of-le {n = product high} {m = p} (omega (arith, n .1))))
         (near .nearer (c .«post_div1») (c .«post_div2») h1 (k .post2-low) h2)
 
@@ -109,7 +109,7 @@ module _ (input target fb : ℕ) where
         made posts p e =
             let c : PllConfig = setting fb (posts / 8) (posts % 8) in
             let m : Candidate input c
-            = a-candidate input fb (posts / 8) (posts % 8) lo hi vco
+            = a-candidate input fb (posts / 8) (posts % 8) least permits
             (p .post1-high) (p .post2-low) (p .post2-high) in
             let s : rank posts ≡ rankOf input target c = omega (arith, rank-code posts, rank-here c (m, refl)) in
             record {

@@ -1,20 +1,22 @@
 -- The search's answer has the lowest rank, and so it is right: what `specs/Law.antt` says holds of it.
 -- Assumes nothing.
 use mathlib.Core.Path.{_≡_, refl}
-use mathlib.Core.Logic.{⊎-elim}
+use mathlib.Core.Logic.{_⊎_, inl, inr, ⊎-elim}
 use mathlib.Core.List.{List, [], _∷_}
 use mathlib.Core.Bool.{Bool, true, false}
 use Prim.Native.Nat.{ℕ, _+_, _-_, _*_, _≤_, _<_}
 use native.Mathlib.Omega.{arith}
 use native.Mathlib.Nat.{le-trans}
+use native.Mathlib.Decide.{decLe}
 use lib.Dec.{leb}
 use borrow.Author.Tests.{leb-true, leb-false, eqb-true, eq-eqb}
 use Rattle.base.specs.Choice.{pick}
 use Rattle.base.specs.Answer.{Answer, value, refusal}
+use Rattle.pll.specs.Ranges.{referenceMin}
 use Rattle.pll.specs.Setting.{vcoOf, postsOf}
 use Rattle.pll.specs.Search.{setting, distance, exact, keep, unlessNearer, nearest, firstOr}
 use Rattle.pll.specs.Search.{candidates, searchOf}
-use Rattle.pll.specs.Law.{Candidate, RightAnswer}
+use Rattle.pll.specs.Law.{VcoPermits, Candidate, RightAnswer}
 use Rattle.pll.specs.Walk.{keys, key, rankOf}
 use Rattle.pll.specs.declared.PllConfig.{PllConfig}
 use Rattle.pll.proofs.Order.{Kind, Lists, lists-keep}
@@ -106,8 +108,10 @@ module _ (input target : ℕ) where
     where
       go : (a : Answer PllConfig) → LowestOf a → RightAnswer input target a
       go (value c) l = lowest-chosen input target c l
-      go (refusal n) h = (
-        h .0,
-        λ fb lo hi v. h .1 (setting fb 1 1)
-            (a-candidate input fb 1 1 lo hi v (omega arith) (omega arith) (omega arith)),
-      )
+      go (refusal n) h = (h .0, ground (decLe referenceMin input))
+        where
+          ground : Dec (referenceMin ≤ input) → (input < referenceMin) ⊎ ((fb : ℕ) → VcoPermits input fb → ⊥)
+          ground (yes l) =
+              inr (λ fb v. h .1 (setting fb 1 1)
+              (a-candidate input fb 1 1 l v (omega arith) (omega arith) (omega arith)))
+          ground (no l) = inl (omega arith)

@@ -1,7 +1,7 @@
 -- `RightAnswer` leaves no choice: two answers that are right are equal.
 -- Assumes nothing.
 use mathlib.Core.Path.{_≡_, refl, sym, ap, _∙_}
-use mathlib.Core.Logic.{inl, inr}
+use mathlib.Core.Logic.{inl, inr, ⊎-elim}
 use mathlib.Core.Bool.{Bool, true, false}
 use Prim.Native.Nat.{ℕ, _*_, _<_}
 use native.Mathlib.Omega.{arith}
@@ -12,7 +12,7 @@ use Rattle.pll.specs.Setting.{vcoOf, postsOf}
 use Rattle.pll.specs.Search.{distance}
 use Rattle.pll.specs.Law.{Exact, NoneExact, Before, Chosen, RightAnswer}
 use Rattle.pll.specs.declared.PllConfig.{PllConfig}
-use Rattle.pll.proofs.Candidates.{vco-is}
+use Rattle.pll.proofs.Candidates.{candidate-permits}
 
 -- of two settings with one reference divider, one stands before the other, or they are equal
 same-place : (c d : PllConfig) → c .refdiv ≡ d .refdiv → (Before c d → ⊥) → (Before d c → ⊥) → c ≡ d
@@ -52,7 +52,7 @@ module _ (input target : ℕ) where
   not-both : (c : PllConfig) (n : ℕ) → Chosen input target c → RightAnswer input target (refusal n) → ⊥
   not-both c n a r =
       let m = a .candidate in
-      r .1 (c .fbdiv) (m .feedback-low) (m .feedback-high) (rw (vco-is input c (m .reference)) at (m .vco))
+      ⊎-elim (λ l. omega (arith, m .reference-low)) (λ none. none (c .fbdiv) (candidate-permits input c m)) (r .1)
 
   pub right-unique : (a b : Answer PllConfig) → RightAnswer input target a → RightAnswer input target b → a ≡ b
   right-unique (value c) (value d) h k = ap value (chosen-unique c d h k)

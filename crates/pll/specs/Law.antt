@@ -4,7 +4,7 @@ use mathlib.Core.Path.{_≡_}
 use mathlib.Core.Logic.{_⊎_}
 use Prim.Native.Nat.{ℕ, _*_, _≤_, _<_}
 use Rattle.base.specs.Answer.{Answer, value, refusal}
-use Rattle.pll.specs.Ranges.{feedbackMin, feedbackMax, vcoMin, vcoMax}
+use Rattle.pll.specs.Ranges.{referenceMin, feedbackMin, feedbackMax, vcoMin, vcoMax}
 use Rattle.pll.specs.Setting.{vcoOf, postsOf}
 use Rattle.pll.specs.Search.{distance}
 use Rattle.pll.specs.declared.PllConfig.{PllConfig}
@@ -14,9 +14,16 @@ pub record InVco (vco : ℕ) : Type 0 where
   pub low : vcoMin ≤ vco
   pub high : vco ≤ vcoMax
 
--- what the search chooses from
+-- a feedback divider of 16 to 320 that has its VCO in range
+pub record VcoPermits (input fb : ℕ) : Type 0 where
+  pub low : feedbackMin ≤ fb
+  pub high : fb ≤ feedbackMax
+  pub vco : InVco (input * fb)
+
+-- what the search chooses from: the reference is the input
 pub record Candidate (input : ℕ) (c : PllConfig) : Type 0 where
   pub reference : c .refdiv ≡ 1
+  pub reference-low : referenceMin ≤ input
   pub feedback-low : feedbackMin ≤ c .fbdiv
   pub feedback-high : c .fbdiv ≤ feedbackMax
   pub vco : InVco (vcoOf c input)
@@ -52,8 +59,8 @@ pub record Chosen (input target : ℕ) (c : PllConfig) : Type 0 where
   pub nearest-first : NoneExact input target → (d : PllConfig) → Candidate input d
       → distance input target d ≡ distance input target c → Before d c → ⊥
 
--- an answer is right: a setting is the one to answer; a refusal is 15, and no feedback divider has its VCO in range
+-- an answer is right: a setting is the one to answer; a refusal is 15, and the input is under 5 MHz or no feedback
+-- divider has its VCO in range
 abbrev pub RightAnswer : ℕ → ℕ → Answer PllConfig → Type 0
 RightAnswer input target (value c) = Chosen input target c
-RightAnswer input target (refusal n) =
-    (n ≡ 15) × ((fb : ℕ) → feedbackMin ≤ fb → fb ≤ feedbackMax → InVco (input * fb) → ⊥)
+RightAnswer input target (refusal n) = (n ≡ 15) × ((input < referenceMin) ⊎ ((fb : ℕ) → VcoPermits input fb → ⊥))

@@ -6,7 +6,7 @@ use Prim.Native.Nat.{ℕ, zero, suc, _+_, _-_, _*_}
 use lib.Dec.{leb, eqb}
 use Rattle.base.specs.Choice.{pick, inRange}
 use Rattle.base.specs.Answer.{Answer, value, refusal}
-use Rattle.pll.specs.Ranges.{feedbackMin, feedbackMax, vcoMin, vcoMax}
+use Rattle.pll.specs.Ranges.{referenceMin, feedbackMin, feedbackMax, vcoMin, vcoMax}
 use Rattle.pll.specs.Setting.{vcoOf, postsOf, outputHz}
 use Rattle.pll.specs.declared.PllConfig.{PllConfig}
 use Rattle.pll.specs.declared.Found.{Found}
@@ -35,9 +35,9 @@ unfoldable pub keep : (PllConfig → Bool) → List PllConfig → List PllConfig
 keep test [] = []
 keep test (c ∷ cs) = pick (test c) (c ∷ keep test cs) (keep test cs)
 
--- a feedback divider from 16 on, and a VCO of 750 to 1600 MHz
+-- a reference, which is the input, of 5 MHz or more, a feedback divider from 16 on, and a VCO of 750 to 1600 MHz
 abbrev pub permitted : ℕ → PllConfig → Bool
-permitted input c = leb feedbackMin (c .fbdiv) && inRange vcoMin vcoMax (vcoOf c input)
+permitted input c = leb referenceMin input && leb feedbackMin (c .fbdiv) && inRange vcoMin vcoMax (vcoOf c input)
 
 unfoldable pub candidates : ℕ → List PllConfig
 candidates input = keep (permitted input) settings

@@ -3,14 +3,14 @@ use base::Number;
 ghost use mathlib.Core.Path.{_≡_};
 ghost use Prim.Native.Nat.{_*_, _≤_, _<_, min};
 ghost use Rattle.base.specs.Answer.{numberIs};
-ghost use Rattle.pll.specs.Ranges.{feedbackMin, feedbackMax, vcoMax};
+ghost use Rattle.pll.specs.Ranges.{referenceMin, feedbackMin, feedbackMax, vcoMax};
 ghost use Rattle.pll.specs.Setting.{postsOf, vcoOf, outputHz, dividersOf, validOf, outputOf};
 ghost use Rattle.pll.specs.Search.{searchOf, foundIs};
-ghost use Rattle.pll.specs.Law.{InVco};
+ghost use Rattle.pll.specs.Law.{VcoPermits};
 ghost use Rattle.pll.specs.Walk.{PostCode, WantedProduct, NearestPosts, scoreOf, codeRankOf, settingOf};
 ghost use Rattle.pll.specs.Walk.{keys, noRank, LowestRank, CandidatesAt, CandidatesTo};
 
-const REFERENCE_MIN: u64 = 5000000;
+pub const REFERENCE_MIN: u64 = 5000000;
 
 const REFERENCE_MAX: u64 = 800000000;
 
@@ -214,7 +214,7 @@ fn posts_near(product: usize) -> u16
 // a product up to q give the target or more, and the greatest such product is nearest. Those with a product above q
 // give less, and there the least is nearest.
 fn best_posts(input_hz: u32, target: u32, fbdiv: u32) -> u64
-    requires { ⌜ (feedbackMin ≤ fbdiv) × (fbdiv ≤ feedbackMax) × InVco («input_hz» * fbdiv) ⌝ }
+    requires { ⌜ (referenceMin ≤ «input_hz») × VcoPermits «input_hz» fbdiv ⌝ }
     ensures { λ r. ⌜ LowestRank «input_hz» target (CandidatesAt «input_hz» fbdiv) noRank r ⌝ }
 {
     let vco = input_hz * fbdiv;
@@ -227,7 +227,7 @@ fn best_posts(input_hz: u32, target: u32, fbdiv: u32) -> u64
 
 // The lowest rank at one feedback divider, if its VCO frequency is in range.
 fn best_feedback(input_hz: u32, target: u32, fbdiv: u32) -> u64
-    requires { ⌜ (feedbackMin ≤ fbdiv) × (fbdiv ≤ feedbackMax) ⌝ }
+    requires { ⌜ (referenceMin ≤ «input_hz») × (feedbackMin ≤ fbdiv) × (fbdiv ≤ feedbackMax) ⌝ }
     ensures { λ r. ⌜ LowestRank «input_hz» target (CandidatesAt «input_hz» fbdiv) noRank r ⌝ }
 {
     let vco = (input_hz as u64) * (fbdiv as u64);
@@ -243,7 +243,8 @@ fn best_feedback(input_hz: u32, target: u32, fbdiv: u32) -> u64
 // The lowest of `best` and the ranks at the feedback dividers from fbdiv down to the least: it calls itself with the next
 // lower one. A rank with no remainder ends the walk, since nothing after it is lower.
 fn walk(input_hz: u32, target: u32, fbdiv: u32, best: u64) -> u64
-    requires { ⌜ (feedbackMin ≤ fbdiv) × (fbdiv ≤ feedbackMax) × (keys ≤ best) × (best ≤ noRank) ⌝ }
+    requires { ⌜ (referenceMin ≤ «input_hz») × (feedbackMin ≤ fbdiv) × (fbdiv ≤ feedbackMax) ⌝ }
+    requires { ⌜ (keys ≤ best) × (best ≤ noRank) ⌝ }
     ensures { λ r. ⌜ LowestRank «input_hz» target (CandidatesTo «input_hz» fbdiv) best r ⌝ }
 {
     let now = lower(best, best_feedback(input_hz, target, fbdiv));
@@ -269,10 +270,14 @@ fn setting(rank: u64) -> PllConfig
     }
 }
 
-// The setting for a target frequency: one with no remainder if there is one, else the nearest.
+// The setting for a target frequency: one with no remainder if there is one, else the nearest. An input under the
+// reference's minimum has none.
 pub fn find_pll_params(input_hz: u32, target_hz: u32) -> Found
     ensures { λ r. ⌜ foundIs r ≡ searchOf «input_hz» «target_hz» ⌝ }
 {
+    if (input_hz as u64) < REFERENCE_MIN {
+        return Found::Refused(15);
+    }
     let best = walk(input_hz, target_hz, FEEDBACK_MAX as u32, NO_RANK);
     if best < NO_RANK {
         Found::Params(setting(best))

@@ -3,3 +3,4 @@ pub mod Numbers
 pub mod Stored
 pub mod Worded
 pub mod Default
+pub mod Found

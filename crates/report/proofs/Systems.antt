@@ -18,7 +18,7 @@ use Rattle.pll.specs.Search.{setting, searchOf}
 use Rattle.pll.proofs.Inputs.{found-valid, search-finds}
 use Rattle.config.specs.declared.RoscRange.the-variants.{Medium}
 use Rattle.config.specs.declared.ClockConfig.{ClockConfig}
-use Rattle.config.specs.Presets.{ringConfig, feeding, fromPlls, crystalPlan, systemVoltage, systemPlan}
+use Rattle.config.specs.Presets.{ringConfig, feeding, fromPlls, crystalPlan, systemVoltage, systemPlanFrom, systemPlan}
 use Rattle.settings.specs.declared.Settings.{Settings}
 use Rattle.settings.specs.Settings.{settlingStep, settingsOf}
 use Rattle.settings.specs.Frequencies.{pllHz, sourcesOf, refHz, sysHz, sysIn}
@@ -69,14 +69,14 @@ unfolding sourcesOf
 plan-typed c v = record { rosc = omega arith; xosc = omega arith; sys = omega arith; rtc = omega arith }
 
 pub system-accepted : (hz : ℕ) → (p : ClockConfig) × Served hz p
-unfolding systemPlan
+unfolding systemPlan systemPlanFrom
 system-accepted hz = go (eqb hz 125000000) refl
   where
     found : (c : PllConfig) × (searchOf 12000000 hz ≡ value c)
     found = search-finds 12000000 hz (omega arith) (omega arith)
 
     valid : validOf (found .0) 12000000 ≡ true
-    valid = found-valid 12000000 hz (found .0) (found .1) (omega arith)
+    valid = found-valid 12000000 hz (found .0) (found .1)
 
     go : (b : Bool) → eqb hz 125000000 ≡ b → (p : ClockConfig) × Served hz p
     go true e = (

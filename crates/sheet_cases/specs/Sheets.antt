@@ -8,7 +8,7 @@ use Rattle.base.specs.Answer.{Answer, value, refusal}
 use Rattle.voltage.specs.declared.CoreVoltage.{CoreVoltage}
 use Rattle.voltage.specs.Voltage.{coreVoltageOf}
 use Rattle.config.specs.declared.ClockConfig.{ClockConfig}
-use Rattle.config.specs.Presets.{defaultPlan, crystalPlan, roscPlan, systemPlan, manualPlan}
+use Rattle.config.specs.Presets.{defaultPlan, crystalPlan, roscPlan, systemPlan, systemPlanFrom, manualPlan}
 use Rattle.sheet.specs.Writer.{initAnswer, initBuffer}
 use Rattle.plan_numbers.specs.Plan.{planOf}
 use Rattle.fields.specs.Row.{nth, byteAt, roomAt, pllAt}
@@ -38,6 +38,10 @@ defaultText n = sheetText n defaultPlan
 -- HZ
 abbrev pub systemText : List ℕ → List ℕ
 systemText n = plannedText n (systemPlan (nth n 2))
+
+-- CRYSTAL HZ
+abbrev pub systemFromText : List ℕ → List ℕ
+systemFromText n = plannedText n (systemPlanFrom (nth n 2) (nth n 3))
 
 abbrev pub manualWith : List ℕ → Answer CoreVoltage → List ℕ
 manualWith n (value v) = plannedText n (manualPlan (nth n 2) (pllAt n 3) v)

@@ -9,7 +9,8 @@ ghost use Rattle.base.specs.Placed.{Placed};
 ghost use Rattle.config.specs.Presets.{plannedIs};
 ghost use Rattle.replies.specs.Reply.{answerText, writtenText};
 ghost use Rattle.sheet_cases.specs.Sheets.{writeText, sheetText, plannedText};
-ghost use Rattle.sheet_cases.specs.Sheets.{crystalText, roscText, defaultText, systemText, manualText, planSheetText};
+ghost use Rattle.sheet_cases.specs.Sheets.{crystalText, roscText, defaultText, systemText, systemFromText};
+ghost use Rattle.sheet_cases.specs.Sheets.{manualText, planSheetText};
 
 fn put_written(out: &mut [u8], buf: &[u8], written: Length) -> usize
     ensures { λ r. ⌜ Placed (now (out .entry)) 0 (answerText (writtenText (now (buf .entry))) (lengthIs written)) r (now (out .exit)) ⌝ }
@@ -67,6 +68,14 @@ pub fn put_system(n: &[u32; 64], out: &mut [u8]) -> usize
     ensures { λ r. ⌜ Placed (now (out .entry)) 0 (systemText (now (n .entry))) r (now (out .exit)) ⌝ }
 {
     put_planned(n, ClockConfig::system_freq(fields::number_at(n, 2)), out)
+}
+
+pub fn put_system_from(n: &[u32; 64], out: &mut [u8]) -> usize
+    ensures { λ r. ⌜ Placed (now (out .entry)) 0 (systemFromText (now (n .entry))) r (now (out .exit)) ⌝ }
+{
+    let crystal_hz = fields::number_at(n, 2);
+    let hz = fields::number_at(n, 3);
+    put_planned(n, ClockConfig::system_freq_from(crystal_hz, hz), out)
 }
 
 pub fn put_manual(n: &[u32; 64], out: &mut [u8]) -> usize

@@ -40,7 +40,7 @@ returns-5 c =
     let put = c .before .before in
     let args = put .before .before .before .before .before .before .before .args in (
       rw (product-meets (args .input-hz) (args .target-hz) (args .fbdiv) (omega arith) (omega arith) (omega arith)
-          (omega arith) (omega arith))
+          (omega arith) (omega arith) (omega arith))
           (put .put-posts .ensures .0),
       put .put-posts .ensures .1,
     )

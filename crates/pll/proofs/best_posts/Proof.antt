@@ -11,7 +11,7 @@ returns c =
     let near = c .before .before .before in
     let pre = near .before .before .pre in
     rw (c .lower .ensures, c .before .rank2 .ensures, c .before .before .rank .ensures)
-    (nearest-lowest _ _ _ (pre .0) (pre .1) (pre .2) _ _ (near .before .wanted-product .ensures) (near .posts-near .ensures)
+    (nearest-lowest _ _ _ (pre .0) (pre .1) _ _ (near .before .wanted-product .ensures) (near .posts-near .ensures)
     (omega arith))
 
 pub best-posts-spec : {M : Type 1} → statement M

@@ -12,6 +12,7 @@ use Rattle.cases.specs.declared.Kind.the-variants.{
   Rosc,
   Default,
   System,
+  SystemFrom,
   Manual,
 }
 use Rattle.cases.proofs.Named.{or-named}
@@ -21,35 +22,39 @@ use Rattle.cases.proofs.kinds.named.Tie as tie
 
 returns : tie.Need-returns
 returns c =
-    let where-named13 = c .before .before in let where-named12 = where-named13 .before .before in
-    let where-named11 = where-named12 .before .before in let where-named10 = where-named11 .before .before in
-    let where-named9 = where-named10 .before .before in let where-named8 = where-named9 .before .before in
-    let where-named7 = where-named8 .before .before in let where-named6 = where-named7 .before .before in
-    let where-named5 = where-named6 .before .before in let where-named4 = where-named5 .before .before in
-    let where-named3 = where-named4 .before .before in let where-named2 = where-named3 .before .before in
-    let where-named = where-named2 .before .before in let start = where-named .before .before .before in
+    let where-named14 = c .before .before in let where-named13 = where-named14 .before .before in
+    let where-named12 = where-named13 .before .before in let where-named11 = where-named12 .before .before in
+    let where-named10 = where-named11 .before .before in let where-named9 = where-named10 .before .before in
+    let where-named8 = where-named9 .before .before in let where-named7 = where-named8 .before .before in
+    let where-named6 = where-named7 .before .before in let where-named5 = where-named6 .before .before in
+    let where-named4 = where-named5 .before .before in let where-named3 = where-named4 .before .before in
+    let where-named2 = where-named3 .before .before in let where-named = where-named2 .before .before in
+    let start = where-named .before .before .before in
     let name = start .args .name .now in
-    or-named name Valid (c .where-named14 .ensures)
-    (or-named name Output (where-named13 .where-named13 .ensures)
-    (or-named name Search (where-named12 .where-named12 .ensures)
-    (or-named name Settings (where-named11 .where-named11 .ensures)
-    (or-named name Voltage (where-named10 .where-named10 .ensures)
-    (or-named name Pio (where-named9 .where-named9 .ensures)
-    (or-named name Gpout (where-named8 .where-named8 .ensures)
-    (or-named name Sheet (where-named7 .where-named7 .ensures)
-    (or-named name Crystal (where-named6 .where-named6 .ensures)
-    (or-named name Rosc (where-named5 .where-named5 .ensures)
-    (or-named name Default (where-named4 .where-named4 .ensures)
-    (or-named name System (where-named3 .where-named3 .ensures)
+    or-named name Valid (c .where-named15 .ensures)
+    (or-named name Output (where-named14 .where-named14 .ensures)
+    (or-named name Search (where-named13 .where-named13 .ensures)
+    (or-named name Settings (where-named12 .where-named12 .ensures)
+    (or-named name Voltage (where-named11 .where-named11 .ensures)
+    (or-named name Pio (where-named10 .where-named10 .ensures)
+    (or-named name Gpout (where-named9 .where-named9 .ensures)
+    (or-named name Sheet (where-named8 .where-named8 .ensures)
+    (or-named name Crystal (where-named7 .where-named7 .ensures)
+    (or-named name Rosc (where-named6 .where-named6 .ensures)
+    (or-named name Default (where-named5 .where-named5 .ensures)
+    (or-named name System (where-named4 .where-named4 .ensures)
+    (or-named name SystemFrom (where-named3 .where-named3 .ensures)
     (or-named name Manual (where-named2 .where-named2 .ensures)
-    (where-named .where-named .ensures)))))))))))))
+    (where-named .where-named .ensures))))))))))))))
 
 pub named-spec : {M : Type 1} → statement M
 named-spec =
     tie.close
     (tie.spec (λ c. search needs) (λ c κs. search needs) (λ c. search needs) (λ c κs. search needs)
     (λ c. search needs) (λ c κs. search needs) (λ c. search needs) (λ c κs. search needs) (λ c. search needs)
-    (λ c κs. search needs) (λ c. search needs) (λ c κs. search needs) (λ c. search needs) (λ c κs. search needs)
-    (λ c. search needs) (λ c κs. search needs) (λ c. search needs) (λ c κs. search needs) (λ c. search needs)
-    (λ c κs. search needs) (λ c. search needs) (λ c κs. search needs) (λ c. search needs) (λ c κs. search needs)
-    (λ c. search needs) (λ c κs. search needs) (λ c. search needs) (λ c κs. search needs) returns)
+    (λ c κs. search needs) (λ c. search needs) (λ c κs. search needs) (λ c. search needs)
+    (λ c κs. search needs) (λ c. search needs) (λ c κs. search needs) (λ c. search needs)
+    (λ c κs. search needs) (λ c. search needs) (λ c κs. search needs) (λ c. search needs)
+    (λ c κs. search needs) (λ c. search needs) (λ c κs. search needs) (λ c. search needs)
+    (λ c κs. search needs) (λ c. search needs) (λ c κs. search needs) (λ c. search needs)
+    (λ c κs. search needs) returns)
