@@ -269,9 +269,12 @@ fn is_exact(&(input, target): &(u32, u32)) -> bool {
     vco == target as u64 * found.post_div1 as u64 * found.post_div2 as u64
 }
 
-/// Accepted at the reading, and with no ring divider that the Rust's register cannot hold.
+/// Accepted at the reading, and the Rust settles for as long: it does not at all, or its ring has whole megahertz.
 fn accepted(plan: &[u32; 48]) -> bool {
-    dizbaral::plan_sheet(plan, READING, &mut [0; 520]).is_ok()
+    let (ring_hz, code, given, time) = (plan[1], plan[25], plan[26], plan[27]);
+    let settles = code != READING as u32 && if given == 1 { time != 0 } else { code > 11 };
+    let alike = !settles || ring_hz != 0 && ring_hz.is_multiple_of(MHZ);
+    alike && dizbaral::plan_sheet(plan, READING, &mut [0; 520]).is_ok()
 }
 
 #[inline(never)]

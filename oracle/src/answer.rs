@@ -22,6 +22,8 @@ pub enum Answer {
     /// The Rust has no counterpart: what our papers say.
     Ruled(String),
     Sheet(Vec<Step>),
+    /// The Rust's sheet, but with the settling delay of docs/FORMAT.md, which is longer.
+    Settled(Vec<Step>),
     Refused(u8),
     /// It panics. The refusals that this place of the code belongs to.
     Panic(Vec<u8>),
@@ -36,7 +38,7 @@ impl Display for Answer {
     fn fmt(&self, f: &mut Formatter<'_>) -> fmt::Result {
         match self {
             Answer::Says(text) | Answer::Ruled(text) => f.write_str(text),
-            Answer::Sheet(steps) => {
+            Answer::Sheet(steps) | Answer::Settled(steps) => {
                 write!(f, "{} ", steps.len() * 8)?;
                 steps.iter().try_for_each(|step| write!(f, "{:016x}", step.word))
             }
@@ -200,14 +202,17 @@ fn sheet(reading: u32, config: impl FnOnce() -> ClockConfig) -> Answer {
     }
     cuts.add_to(&mut record);
     match (done, record.lost) {
+        (Some(()), None) if cuts.settle(&mut record.steps) => Answer::Settled(record.steps),
         (Some(()), None) => Answer::Sheet(record.steps),
         (Some(()), Some(number)) => Answer::Drops(number),
         (None, lost) => {
             let panics = cuts.refusals_after(&record.steps);
-            Answer::Panic(match lost {
-                Some(number) if panics.iter().all(|&panic| number < panic) => vec![number],
-                _ => panics,
-            })
+            match lost.filter(|&number| panics.iter().all(|&panic| number < panic)) {
+                // The Rust waits for a shorter time and goes on.
+                Some(3) => Answer::Drops(3),
+                Some(number) => Answer::Panic(vec![number]),
+                None => Answer::Panic(panics),
+            }
         }
     }
 }

@@ -22,6 +22,8 @@ pub enum Class {
     SameByRule(&'static str),
     /// The step holds 16 bits of the ring divider, the register 12.
     SameRingDivider,
+    /// The sheet but for the settling delay, which is the rule's.
+    SameSettling,
     /// Both say it is no case.
     NoCase,
     /// Refused with this number where the Rust panics.
@@ -43,8 +45,12 @@ impl Class {
             Class::Same => "same answer".to_string(),
             Class::SameByRule(word) => format!("`{word}` as the rule says, no counterpart in the Rust"),
             Class::SameRingDivider => "same answer, ring divider over the register's 12 bits".to_string(),
+            Class::SameSettling => {
+                "same steps, settling delay by the rule, the Rust's is shorter".to_string()
+            }
             Class::NoCase => "no case on both sides".to_string(),
             Class::Panics(number) => format!("refused {number}, the Rust panics"),
+            Class::Loses(3) => "refused 3 by the rule, the Rust's shorter settling delay fits".to_string(),
             Class::Loses(number) => format!("refused {number}, the Rust loses bits"),
             Class::Room => "refused 19, no counterpart: the Rust has no buffer".to_string(),
             Class::ExactVco => "not valid by the exact VCO, the Rust's product overflows".to_string(),
@@ -59,7 +65,7 @@ impl Class {
 pub fn class(case: &Case, rust: &Answer, ours: &str) -> Option<Class> {
     let refused: Option<u8> = ours.strip_prefix("refused ").and_then(|number| number.parse().ok());
     match (rust, refused) {
-        (Answer::Sheet(steps), _) if case.room() < steps.len() * 8 => {
+        (Answer::Sheet(steps) | Answer::Settled(steps), _) if case.room() < steps.len() * 8 => {
             (refused == Some(19)).then_some(Class::Room)
         }
         (Answer::Panic(_), None) => (exact_vco(case) && ours == "no").then_some(Class::ExactVco),
@@ -77,6 +83,7 @@ pub fn class(case: &Case, rust: &Answer, ours: &str) -> Option<Class> {
         (Answer::Unknown(_) | Answer::NoCounterpart, _) => None,
         _ if rust.to_string() != ours => None,
         (Answer::Ruled(_), _) => Some(Class::SameByRule(case.word())),
+        (Answer::Settled(_), _) => Some(Class::SameSettling),
         _ if ring_divider(case) => Some(Class::SameRingDivider),
         _ => Some(Class::Same),
     }

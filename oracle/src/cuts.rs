@@ -1,9 +1,10 @@
-//! Where the published code loses bits itself, before a register's field could show it; and which refusal
-//! the place of a panic belongs to.
+//! Where the published code loses bits itself, before a register's field could show it; where it settles for a shorter
+//! time than the rule; and which refusal the place of a panic belongs to.
 
-use crate::clocks::{ClockConfig, RtcClkSrc};
+use crate::clocks::{ClockConfig, CoreVoltage, RtcClkSrc};
 use crate::recorder::Record;
-use crate::steps::Step;
+use crate::rules;
+use crate::steps::{self, Step};
 
 /// `remainder << 8` and `integer << 8` have 32 bits.
 pub fn pio(system: u32, target: u32) -> bool {
@@ -12,6 +13,8 @@ pub fn pio(system: u32, target: u32) -> bool {
 
 /// What has to be known of a plan after the run.
 pub struct Cuts {
+    /// Cycles of the settling delay, where there is one.
+    settling: u64,
     startup: bool,
     system_pll: bool,
     system_whole_0: bool,
@@ -22,7 +25,9 @@ pub struct Cuts {
 impl Cuts {
     pub fn of(config: &ClockConfig) -> Cuts {
         let xosc = config.xosc.as_ref();
+        let ring_hz = config.rosc.as_ref().map_or(0, |ring| ring.hz);
         Cuts {
+            settling: rules::settling_cycles(settling_time(config), ring_hz),
             startup: xosc.is_some_and(|x| startup_over(x.hz, x.delay_multiplier)),
             system_pll: xosc.is_some_and(|x| x.sys_pll.is_some()),
             system_whole_0: config.sys_clk.div_int == 0,
@@ -32,6 +37,9 @@ impl Cuts {
 
     /// Adds the losses that no register's field has seen.
     pub fn add_to(&self, record: &mut Record) {
+        if voltage_step(&record.steps).is_some() && self.settling > u32::MAX as u64 {
+            record.lose(3);
+        }
         if self.startup {
             record.lose(4);
         }
@@ -44,6 +52,16 @@ impl Cuts {
         {
             record.lose(14);
         }
+    }
+
+    /// Puts the rule's settling delay in the place of the Rust's, and says whether it is another one. It has to fit.
+    pub fn settle(&self, steps: &mut [Step]) -> bool {
+        let after = voltage_step(steps).map(|at| at + 1);
+        let Some(delay) = after.and_then(|at| steps.get_mut(at)).filter(|step| step.kind == 14) else {
+            return false;
+        };
+        let ruled = steps::delay(self.settling as u32).expect("32 bits");
+        std::mem::replace(delay, ruled) != ruled
     }
 
     /// The refusals of the tests that come next after the steps so far.
@@ -66,6 +84,20 @@ impl Cuts {
             _ => vec![],
         }
     }
+}
+
+/// The settling time in microseconds, by docs/FORMAT.md, Voltages, where none is given.
+fn settling_time(config: &ClockConfig) -> u32 {
+    config.voltage_stabilization_delay_us.unwrap_or(match config.core_voltage {
+        CoreVoltage::V1_15 => 1000,
+        CoreVoltage::V1_20 | CoreVoltage::V1_25 | CoreVoltage::V1_30 => 2000,
+        _ => 0,
+    })
+}
+
+/// Where the voltage changes; the next step is the settling delay, or the brownout level.
+fn voltage_step(steps: &[Step]) -> Option<usize> {
+    steps.iter().position(|step| step.kind == 13)
 }
 
 fn clock_of(source: RtcClkSrc) -> u32 {

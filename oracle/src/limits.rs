@@ -38,6 +38,12 @@ pub fn values_at(place: usize) -> &'static [u32] {
         5_000_000, 6_249_999, 6_250_000, 12_000_000, 12_800_000, 12_800_001, 511_999_999, 512_000_000,
         2_047_999_999, MAX,
     ];
+    // 12, 7 and 140 cycles a microsecond at their ends; 6 where rounded down.
+    #[rustfmt::skip]
+    const SETTLING: [u32; 12] = [
+        0, 1, 1000, 2000, 30_678_337, 30_678_338, 357_913_941, 357_913_942, 613_566_756, 613_566_757,
+        715_827_882, MAX,
+    ];
     const WHOLE: [u32; 9] = [0, 1, 2, 1024, 65_535, 16_777_215, 16_777_216, 16_777_217, MAX];
     const FRACTION: [u32; 4] = [0, 1, 128, 255];
     const SMALL: [u32; 8] = [0, 1, 2, 3, 4, 5, 8, 255];
@@ -50,7 +56,7 @@ pub fn values_at(place: usize) -> &'static [u32] {
         17 | 22 => &[0, 15, 16, 17, 62, 63, 133, 134, 319, 320, 321, 4095, 4096, 65_535],
         18 | 19 | 23 | 24 => &[0, 1, 2, 5, 6, 7, 8, 255],
         at::VOLTAGE => &[0, 6, 7, 8, 9, 10, 11, 12, 13, 14, 15],
-        27 => &[0, 1, 1000, 2000, 30_678_337, 30_678_338, 715_827_882, 715_827_883, MAX],
+        27 => &SETTLING,
         _ if place == at::SYSTEM + 1 || place == at::RTC + 2 => &WHOLE,
         _ if place == at::SYSTEM + 2 || place == at::RTC + 3 => &FRACTION,
         _ => &SMALL,
@@ -185,11 +191,23 @@ fn plans(cases: &mut Vec<Case>) {
     }
     let base = &RING_PLAN;
     let ring_hz = at::RING + 1;
-    for hz in [1_999_999, 2_000_000, 3_000_000, 139_999_999, 140_000_000, MAX] {
+    for hz in [1_000_000, 1_000_001, 2_000_000, 6_500_000, 139_999_999, 140_000_000, 140_000_001, MAX] {
         for &time in values_at(27) {
             sheet(cases, READING, base, &[(ring_hz, hz), (27, time)]);
             sheet(cases, 15, base, &[(ring_hz, hz), (27, time)]);
         }
+    }
+    // No ring, and a ring of 0 Hz.
+    let mut ringless = CRYSTAL_PLAN;
+    ringless[at::VOLTAGE..at::REFERENCE].copy_from_slice(&[12, 1, 0]);
+    for flag in [1, 0] {
+        ringless[at::RING..at::CRYSTAL].fill(0);
+        ringless[at::RING] = flag;
+        for &time in values_at(27) {
+            sheet(cases, READING, &ringless, &[(27, time)]);
+            sheet(cases, READING, &ringless, &[(27, time), (at::SYSTEM_PLL + 1, 0)]);
+        }
+        sheet(cases, READING, &ringless, &[(at::SETTLING, 0)]);
     }
     for hz in values_at(at::CRYSTAL + 1) {
         for &multiplier in values_at(14) {

@@ -17,6 +17,8 @@ fn left_out(case: &Case, rust: &Answer) -> Option<String> {
             "the Rust panics, the VCO's product overflows".to_string()
         }
         Answer::Panic(refusals) => format!("the Rust panics, refusal {}", either(refusals)),
+        Answer::Drops(3) => "the Rust settles for a shorter time, refusal 3".to_string(),
+        Answer::Settled(_) => "the Rust settles for a shorter time".to_string(),
         Answer::Drops(number) => format!("the Rust loses bits, refusal {number}"),
         Answer::Ruled(_) => "no counterpart, a rule of our own".to_string(),
         Answer::Sheet(steps) if case.room() < steps.len() * 8 => {

@@ -20,6 +20,12 @@ fn vco(input: u32, feedback: u32) -> u64 {
     input as u64 * feedback as u64
 }
 
+/// Cycles of the settling delay: the ring's MHz rounded up for each microsecond, 12 where it has no frequency.
+pub fn settling_cycles(time_us: u32, ring_hz: u32) -> u64 {
+    let each = if ring_hz == 0 { 12 } else { ring_hz.div_ceil(1_000_000) };
+    time_us as u64 * each as u64
+}
+
 /// The lister's answer: the settings that give the target with no remainder, in its order, 2 bytes each.
 pub fn list(input: u32, target: u32, room: usize) -> String {
     let exact = |&(feedback, post1, post2): &Setting| {

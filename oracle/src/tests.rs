@@ -3,10 +3,11 @@
 use std::sync::{Mutex, MutexGuard, Once, PoisonError};
 
 use crate::answer::{Answer, answer, answer_line};
-use crate::case::Case;
+use crate::case::{Case, Kind, at};
 use crate::compare::{Class, class, compare};
 use crate::cortex_m::asm::delay;
 use crate::generate;
+use crate::limits;
 use crate::pac::values::clocks::{ClkRefCtrlAuxsrc, ClkRefCtrlSrc, ClkSysCtrlSrc};
 use crate::pac::{self, fields};
 use crate::recorder::{self, Record};
@@ -88,6 +89,61 @@ fn stored_values_of_125_mhz() {
     let hz = [6_500_000, 12_000_000, 125_000_000, 48_000_000, 12_000_000];
     let more = [125_000_000, 125_000_000, 48_000_000, 48_000_000, 46_875];
     assert_eq!(stored, (0..10).zip(hz.into_iter().chain(more)).collect::<Vec<_>>());
+}
+
+/// The crystal preset with 1.15 V, a settling time and a ring of these hertz, or none.
+fn settling_case(time: u32, ring: Option<u32>) -> Case {
+    let mut plan = limits::CRYSTAL_PLAN;
+    plan[at::VOLTAGE..at::REFERENCE].copy_from_slice(&[12, 1, time]);
+    match ring {
+        Some(hz) => plan[at::RING + 1] = hz,
+        None => plan[at::RING..at::CRYSTAL].fill(0),
+    }
+    Case { kind: Kind::Sheet, numbers: [&[11, 520], plan.as_slice()].concat() }
+}
+
+#[test]
+fn settling_is_the_rules() {
+    let _alone = alone();
+    let rows = [
+        (1, Some(6_500_000), Some(7)),
+        (1000, Some(6_500_000), Some(7000)),
+        (1000, Some(6_000_001), Some(7000)),
+        (1, Some(1), Some(1)),
+        (1, Some(0), Some(12)),
+        (1, None, Some(12)),
+        (357_913_941, None, Some(4_294_967_292)),
+        (357_913_942, None, None),
+        (613_566_756, Some(6_500_000), Some(4_294_967_292)),
+        (613_566_757, Some(6_500_000), None),
+    ];
+    for (time, ring, cycles) in rows {
+        let case = settling_case(time, ring);
+        match (answer(&case), cycles) {
+            (Answer::Settled(steps), Some(cycles)) => {
+                let at = steps.iter().position(|step| step.kind == 13).unwrap() + 1;
+                assert_eq!(steps[at].word, 14 << 58 | cycles << 26, "{time} {ring:?}");
+            }
+            (Answer::Drops(3), None) => {}
+            (other, _) => panic!("{time} {ring:?}: {other}"),
+        }
+    }
+    // Where the ring's MHz are whole, the Rust is right; where its own product overflows, it panics.
+    assert!(matches!(answer(&settling_case(1, Some(7_000_000))), Answer::Sheet(_)));
+    assert_eq!(answer(&settling_case(u32::MAX, Some(2_000_000))), Answer::Panic(vec![3]));
+}
+
+#[test]
+fn a_shorter_settling_delay_is_a_finding() {
+    let _alone = alone();
+    let case = Case::parse("system 11 520 133000001").unwrap();
+    let rust = answer(&case);
+    let ours = rust.to_string();
+    assert_eq!(class(&case, &rust, &ours), Some(Class::SameSettling));
+    let (settled, shorter) =
+        (format!("{:016x}", 14u64 << 58 | 7000 << 26), format!("{:016x}", 14u64 << 58 | 6000 << 26));
+    assert!(ours.contains(&settled));
+    assert_eq!(class(&case, &rust, &ours.replace(&settled, &shorter)), None);
 }
 
 #[test]

@@ -4,12 +4,15 @@ ghost use mathlib.Core.Path.{_≡_};
 ghost use Prim.Native.Nat.{_≤_};
 ghost use Rattle.base.specs.Answer.{numberIs};
 ghost use Rattle.divider.specs.Clock.{dividedHz};
-ghost use Rattle.divider.specs.Delay.{startupSum, settlingCycles};
+ghost use Rattle.divider.specs.Delay.{startupSum, cyclesPerUs, settlingCycles};
 ghost use Rattle.divider.specs.Gpout.{gpoutClock, gpoutWhole, gpoutOf};
 ghost use Rattle.divider.specs.Pio.{pioOf};
 
 // The refusal of a Gpout that has no frequency.
 const NO_GPOUT: u8 = 23;
+
+// Cycles per microsecond where the ring has no frequency: from reset it runs at 12 MHz at most.
+const NO_RING: u64 = 12;
 
 // A source over a divider of a whole part and 256ths, rounded down; 0 over a divider of 0.
 pub fn divided_hz(source: u32, whole: u32, fraction: u8) -> u64
@@ -25,11 +28,22 @@ pub fn startup_sum(hz: u32, multiplier: u32) -> u64
     (hz / 1000) as u64 * multiplier as u64 + 128
 }
 
-// Cycles of the ring in the settling time of the core voltage.
+// Cycles that last at least a microsecond: the ring's MHz rounded up.
+fn cycles_per_us(ring_hz: u32) -> u64
+    ensures { λ r. ⌜ (r ≡ cyclesPerUs «ring_hz») × (r ≤ 4295) ⌝ }
+{
+    if ring_hz == 0 {
+        NO_RING
+    } else {
+        (ring_hz as u64 + 999999) / 1000000
+    }
+}
+
+// Cycles that last at least the settling time of the core voltage.
 pub fn settling_cycles(time_us: u32, ring_hz: u32) -> u64
     ensures { λ r. ⌜ r ≡ settlingCycles «time_us» «ring_hz» ⌝ }
 {
-    time_us as u64 * (ring_hz / 1000000) as u64
+    time_us as u64 * cycles_per_us(ring_hz)
 }
 
 // The clock that a Gpout source code stands for, 10 where there is none.

@@ -2,7 +2,7 @@
 -- Assumes nothing.
 use mathlib.Core.Path.{_≡_, refl, sym}
 use mathlib.Core.Bool.{Bool, true, false, _||_, _&&_, not}
-use Prim.Native.Nat.{ℕ, _*_, _/_, _≤_, _<_}
+use Prim.Native.Nat.{ℕ, _/_, _≤_, _<_}
 use native.Mathlib.Omega.{arith}
 use native.Mathlib.Decide.{decLe}
 use lib.Dec.{ltb, eqb}
@@ -22,11 +22,11 @@ unfolding settlingOver settlingStep settlingCycles
 settling-worded reading code time hz = go (eqb code reading) (eqb time 0) refl
   where
     go : (same still : Bool) → eqb time 0 ≡ still
-        → settlingOver (pick same noCycles (pick still noCycles (cycles (time * (hz / 1000000)))))
-        ≡ (not same && ltb 4294967295 (time * (hz / 1000000)))
+        → settlingOver (pick same noCycles (pick still noCycles (cycles (settlingCycles time hz))))
+        ≡ (not same && ltb 4294967295 (settlingCycles time hz))
     go true still e = refl
     go false true e =
-        sym (le-ltb 4294967295 (time * (hz / 1000000)) (rw (eqb-true time 0 e) (omega arith)))
+        sym (le-ltb 4294967295 (settlingCycles time hz) (rw (eqb-true time 0 e) (omega arith)))
     go false false e = refl
 
 -- startup sum over 32 bits or delay over 16383

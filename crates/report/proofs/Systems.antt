@@ -11,7 +11,7 @@ use Rattle.voltage.specs.declared.CoreVoltage.{CoreVoltage}
 use Rattle.voltage.specs.declared.CoreVoltage.the-variants.{V1_10, V1_15}
 use Rattle.config.specs.declared.OptionPll.the-variants.{Some as pll}
 use Rattle.divider.specs.Clock.{dividedHz}
-use Rattle.divider.specs.Delay.{startupSum, settlingCycles}
+use Rattle.divider.specs.Delay.{startupSum, cyclesPerUs, settlingCycles}
 use Rattle.pll.specs.declared.PllConfig.{PllConfig}
 use Rattle.pll.specs.Setting.{validOf}
 use Rattle.pll.specs.Search.{setting, searchOf}
@@ -54,7 +54,7 @@ module _ (c : PllConfig) (v : CoreVoltage) where
 -- the settling time at 1.15 V fits, and at 1.10 V nothing settles
 settles : (b : Bool) (c : PllConfig)
     → let v = pick b V1_15 V1_10 in settlingOver (set c v .settling) ≡ false
-unfolding settlingOver settlingStep settlingCycles
+unfolding settlingOver settlingStep cyclesPerUs settlingCycles
 settles true c = refl
 settles false c = refl
 

@@ -5,7 +5,7 @@ use Prim.Native.Nat.{ℕ}
 use lib.ListN.{length}
 use native.Mathlib.Omega.{arith}
 use Rattle.voltage.specs.declared.CoreVoltage.the-variants.{V1_15}
-use Rattle.divider.specs.Delay.{startupSum, settlingCycles}
+use Rattle.divider.specs.Delay.{startupSum, cyclesPerUs, settlingCycles}
 use Rattle.divider.specs.Clock.{dividedHz}
 use Rattle.step.specs.Sheet.{maxSteps}
 use Rattle.config.specs.declared.RoscRange.the-variants.{Medium}
@@ -33,7 +33,7 @@ pub longestPlan : ClockConfig
 longestPlan = fromPlls (ringConfig 6500000 Medium 16) (feeding 12000000 (setting 133 6 2)) V1_15
 
 pub crystal-steps : Gives (crystalPlan 12000000) 11 62
-unfolding startupSum settlingCycles dividedHz settlingStep pllHz sourcesOf refHz sysHz strengthsOver ringDividerOver
+unfolding startupSum cyclesPerUs settlingCycles dividedHz settlingStep pllHz sourcesOf refHz sysHz strengthsOver ringDividerOver
     settlingOver startupOver sysPllInvalid usbPllInvalid dividerBad referenceBad wholeBad periBad auxBad rtcBad
     refusalOf headPart ringPart voltagePart crystalPart switchSteps
     sysPart periPart auxPart rtcPart clocksPart stepsWith
@@ -45,7 +45,7 @@ crystal-steps =
     }
 
 pub longest-steps : Gives longestPlan 11 maxSteps
-unfolding longestPlan startupSum settlingCycles dividedHz settlingStep pllHz sourcesOf refHz sysHz strengthsOver
+unfolding longestPlan startupSum cyclesPerUs settlingCycles dividedHz settlingStep pllHz sourcesOf refHz sysHz strengthsOver
     ringDividerOver settlingOver startupOver sysPllInvalid usbPllInvalid dividerBad referenceBad wholeBad periBad
     auxBad rtcBad refusalOf headPart ringPart voltagePart crystalPart
     switchSteps sysPart periPart auxPart rtcPart clocksPart stepsWith

@@ -1,5 +1,4 @@
 -- `divider::settling_cycles` meets its contract. Assumes nothing.
-use Prim.Native.Nat.{_/_}
 use borrow.Author.Needs.{needs}
 use native.Mathlib.Omega.{arith}
 use Rattle.divider.specs.Delay.{settlingCycles}
@@ -12,6 +11,6 @@ unfolding settlingCycles
 settling-cycles-spec =
     tie.close
     (tie.spec
-    (λ c. search needs)
-    (λ c. omega (arith, product-most (c .args .time-us) (c .args .ring-hz / 1000000) (omega arith) (omega arith)))
-    (λ c. search needs))
+    (λ c κs. search needs)
+    (λ c. omega (arith, product-most (c .before .args .time-us) (c .cycles-per-us .result) (omega arith) (omega arith)))
+    (λ c. rw (c .cycles-per-us .ensures .0)))

@@ -1,0 +1,30 @@
+-- The settling delay is never too short.
+-- Assumes nothing.
+use mathlib.Core.Path.{_≡_, refl}
+use mathlib.Core.Bool.{Bool, true, false}
+use Prim.Native.Nat.{ℕ, _+_, _*_, _/_, _≤_}
+use native.Mathlib.Nat.{le-refl, mul-le-mul}
+use native.Mathlib.Omega.{arith}
+use lib.Dec.{eqb}
+use borrow.Author.Tests.{eqb-true}
+use Rattle.base.specs.Choice.{pick}
+use Rattle.divider.specs.Delay.{cyclesPerUs, settlingCycles}
+
+-- the cycles per microsecond last at least a microsecond
+covers : (hz : ℕ) → hz ≤ cyclesPerUs hz * 1000000
+unfolding cyclesPerUs
+covers hz = go (eqb hz 0) refl
+  where
+    go : (none : Bool) → eqb hz 0 ≡ none → hz ≤ pick none 12 ((hz + 999999) / 1000000) * 1000000
+    go true e = omega (arith, eqb-true hz 0 e)
+    go false e = omega arith
+
+-- cycles × 1000000 ≥ time × ring Hz, for every time and ring
+pub settles : (time hz : ℕ) → time * hz ≤ settlingCycles time hz * 1000000
+unfolding settlingCycles
+settles time hz = omega (arith, mul-le-mul (le-refl time) (covers hz))
+
+-- and with no ring 12 cycles for each microsecond
+pub settles-ringless : (time : ℕ) → settlingCycles time 0 ≡ time * 12
+unfolding settlingCycles cyclesPerUs
+settles-ringless time = refl

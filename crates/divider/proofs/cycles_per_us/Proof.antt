@@ -1,0 +1,16 @@
+-- `divider::cycles_per_us` meets its contract. Assumes nothing.
+use borrow.Author.Needs.{needs}
+use native.Mathlib.Omega.{arith}
+use borrow.Author.Tests.{eq-eqb, ne-eqb}
+use Rattle.divider.specs.Delay.{cyclesPerUs}
+use Rattle.divider.proofs.cycles_per_us.Statement.{statement}
+use Rattle.divider.proofs.cycles_per_us.Tie as tie
+
+pub cycles-per-us-spec : {M : Type 1} → statement M
+unfolding cyclesPerUs
+cycles-per-us-spec =
+    tie.close
+    (tie.spec
+    (λ c. search needs)
+    (λ c. (rw (eq-eqb _ _ (c .if1 .taken)), omega arith))
+    (λ c. (rw (ne-eqb _ _ (c .if1 .left)), omega arith)))
