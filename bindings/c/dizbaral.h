@@ -78,6 +78,11 @@ uint64_t dizbaral_list(uint32_t input_hz, uint32_t target_hz, uint8_t *list, siz
  * and frequencies stay. */
 uint64_t dizbaral_run(uint32_t runner[14], const uint8_t *sheet, size_t length, bool ready);
 
+/* How long to wait for a sheet of this library: where no wait of a fresh runner's run hears more than k unready polls,
+ * at most this many calls of dizbaral_run come before the first that answers DIZBARAL_DONE, and none is refused.
+ * 65 + 10 * k. From 1000000 on a lock may time out, and the answer is 4294967295. */
+uint32_t dizbaral_longest_wait(uint32_t k);
+
 #ifdef __cplusplus
 }
 #endif

@@ -204,3 +204,10 @@ impl Runner {
         })
     }
 }
+
+/// How many calls may come before the first that answers done, for a fresh runner over a sheet of this library where
+/// no wait hears more than `k` unready polls: 65 + 10 × k. From 1000000 on a lock may time out: nothing.
+pub fn longest_wait(k: u32) -> Option<u32> {
+    let calls = unsafe { raw::dizbaral_longest_wait(k) };
+    (calls != u32::MAX).then_some(calls)
+}

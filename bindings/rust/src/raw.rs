@@ -31,6 +31,7 @@ unsafe extern "C" {
     ) -> u64;
     pub fn dizbaral_list(input_hz: u32, target_hz: u32, list: *mut u8, length: usize) -> u64;
     pub fn dizbaral_run(runner: *mut [u32; 14], sheet: *const u8, length: usize, ready: bool) -> u64;
+    pub fn dizbaral_longest_wait(k: u32) -> u32;
 }
 
 /// Refusal n is this and n.

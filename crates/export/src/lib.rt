@@ -15,6 +15,7 @@ ghost use Rattle.pll.specs.Setting.{validOf, outputOf};
 ghost use Rattle.pll.specs.Search.{searchOf};
 ghost use Rattle.config.specs.Presets.{plannedIs, systemPlan, systemPlanFrom};
 ghost use Rattle.lister.specs.Lister.{listedOf, listedIn};
+ghost use Rattle.up.specs.ComesUp.{longestWait};
 ghost use Rattle.plan_numbers.specs.Plan.{planOf};
 ghost use Rattle.export.specs.Numbers.{answerNumber, itself, settingNumber, voltageNumber, dividersAre};
 ghost use Rattle.export.specs.Sheet.{SheetCall, PlanSheetCall};
@@ -157,4 +158,11 @@ pub extern "C" fn dizbaral_run(runner: &mut [u32; 14], sheet: &[u8], ready: bool
     let number = run::answer(runner, reply, word);
     run::put_state(runner, after);
     number
+}
+
+#[no_mangle]
+pub extern "C" fn dizbaral_longest_wait(k: u32) -> u32
+    ensures { λ r. ⌜ r ≡ longestWait k ⌝ }
+{
+    up::longest_wait(k)
 }

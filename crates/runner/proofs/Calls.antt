@@ -50,7 +50,7 @@ module _ (s : State) (sheet : List ℕ) (ready : Bool) where
         unfolding turnOf
         call-read h a e = simp (o, t, l, lt-leb _ _ h, e)
 
-both : {A : Type 0} (P : A → Type 0) (b : Bool) (x y : A) → P x → P y → P (pick b x y)
+pub both : {A : Type 0} (P : A → Type 0) (b : Bool) (x y : A) → P x → P y → P (pick b x y)
 both P true x y p q = p
 both P false x y p q = q
 

@@ -2,37 +2,21 @@
 -- Assumes nothing.
 use mathlib.Core.Bool.{Bool, true, false}
 use mathlib.Core.List.{List, [], _∷_, _++_, map}
-use mathlib.Core.Path.{_≡_, refl, sym, ap, _∙_}
-use Prim.Native.Nat.{ℕ, suc, _+_, _*_, _%_, _≤_, _<_}
+use mathlib.Core.Path.{_≡_, refl, ap, _∙_}
+use Prim.Native.Nat.{ℕ, suc, _+_, _*_, _≤_, _<_}
 use native.Mathlib.Nat.{add-zero, zero-add}
 use native.Mathlib.Numerals.{add-one}
 use native.Mathlib.Omega.{arith}
-use borrow.Author.Tests.{le-ltb, eq-eqb, eqb-true}
-use lib.Dec.{eqb}
 use lib.ListN.{length, getD, replicate}
 use Rattle.base.specs.Answer.{Answer, value}
 use Rattle.step.specs.declared.Step.{Step}
-use Rattle.step.specs.Kinds as kind
 use Rattle.step.specs.Access.{readAt}
-use Rattle.step.specs.Sheet.{maxSteps, maxBytes, encoded, AllFormed}
+use Rattle.step.specs.Sheet.{maxSteps, encoded, AllFormed}
 use Rattle.step.proofs.Sheets.{length-encoded, read-encoded}
 use Rattle.runner.specs.declared.Runner.{Runner}
-use Rattle.runner.specs.Run.{Progress, done, Outcome, outcome, fresh, isWait, takeStep, takeRead}
-use Rattle.runner.specs.Run.{outside, badLength, storedBy, freqsAfter, advanceOf}
+use Rattle.runner.specs.Run.{Progress, done, Outcome, outcome, fresh, isWait, takeStep, storedBy, freqsAfter, advanceOf}
 use Rattle.runner.specs.Calls.{answers, after, readyAnswer, storesOf, readyState, readyAt}
-use Rattle.runner.proofs.Calls.{call-done, call-read}
-
--- a wait is no store
-wait-stores : (step : Step) (freqs : List ℕ) → isWait (step .kind) ≡ true → storedBy step freqs ≡ freqs
-unfolding storedBy
-wait-stores step freqs w = go (eqb (step .kind) kind.store) refl
-  where
-    go : (b : Bool) → eqb (step .kind) kind.store ≡ b → storedBy step freqs ≡ freqs
-    go true k =
-        let waits : isWait kind.store ≡ true = rw (eqb-true (step .kind) kind.store k) at w in
-        let z : _≡_ {A = ℕ} 0 1 = cc in
-        absurd (omega arith)
-    go false k = simp k
+use Rattle.runner.proofs.Going.{wait-stores, done-at, step-at}
 
 -- a ready call at a step
 takes : (step : Step) (p : ℕ) → takeStep (readyState p) step true ≡ outcome (readyAnswer step) (readyState (p + 1))
@@ -52,27 +36,11 @@ stores step freqs = go (isWait (step .kind)) refl
     go false w = simp w
 
 module _ (sheet : List ℕ) (n : ℕ) (few : n ≤ maxSteps) (size : length sheet ≡ 8 * n) where
-  within : (p : ℕ) → p ≤ n → outside (readyState p) ≡ false
-  unfolding outside
-  within p h = simp (le-ltb maxSteps p (omega arith))
-
-  good-length : badLength sheet ≡ false
-  unfolding badLength
-  good-length = simp (le-ltb maxBytes (length sheet) (omega arith), eq-eqb (length sheet % 8) 0 (omega arith))
-
-  done-at : (freqs : List ℕ) → advanceOf (readyAt n freqs) sheet true ≡ outcome (value done) (readyAt n freqs)
-  unfolding advanceOf
-  done-at freqs =
-      rw (sym (call-done (readyState n) sheet true (within n (omega arith)) refl good-length (omega arith)))
-
-  step-at : (step : Step) (p : ℕ) (freqs : List ℕ) → p < n → readAt sheet (8 * p) ≡ value step
+  ready-at : (step : Step) (p : ℕ) (freqs : List ℕ) → p < n → readAt sheet (8 * p) ≡ value step
       → advanceOf (readyAt p freqs) sheet true
       ≡ outcome (readyAnswer step) (readyAt (p + 1) (storedBy step freqs))
-  unfolding advanceOf takeRead
-  step-at step p freqs h read =
-      let fine = within p (omega arith) in
-      let taken = call-read (readyState p) sheet true fine refl good-length (omega arith) (value step) read in
-      rw (sym taken ∙ takes step p, stores step freqs)
+  ready-at step p freqs h read =
+      step-at sheet n few size step p 0 0 freqs true _ h (omega arith) read (takes step p) ∙ rw (stores step freqs)
 
   -- a runner with the steps ts before it takes them all, then is done
   record Through (p : ℕ) (freqs : List ℕ) (ts : List Step) : Type 0 where
@@ -84,9 +52,9 @@ module _ (sheet : List ℕ) (n : ℕ) (few : n ≤ maxSteps) (size : length shee
       → ((i : ℕ) → i < length ts → readAt sheet (8 * (p + i)) ≡ value (getD ts i d)) → Through p freqs ts
   through d [] p freqs e reads =
       let end : p ≡ n = omega arith in
-      record { answered = rw (end, done-at freqs); left = rw end }
+      record { answered = rw (end, done-at sheet n few size 0 freqs true); left = rw end }
   through d (step ∷ ts) p freqs e reads =
-      let call = step-at step p freqs (omega arith) (rw add-zero at (reads 0 (omega arith))) in
+      let call = ready-at step p freqs (omega arith) (rw add-zero at (reads 0 (omega arith))) in
       let rest = through d ts (p + 1) (storedBy step freqs) (omega arith)
       (λ i h. let next : p + suc i ≡ p + 1 + i = omega arith in rw next at (reads (suc i) (omega arith))) in
       record {

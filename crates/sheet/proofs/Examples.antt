@@ -29,7 +29,7 @@ pub record Gives (p : ClockConfig) (reading n : ℕ) : Type 0 where
   pub count : length (stepsOf reading (settingsOf p reading)) ≡ n
 
 -- 133 MHz from 12 MHz at 1.15 V
-pub longestPlan : ClockConfig
+unfoldable pub longestPlan : ClockConfig
 longestPlan = fromPlls (ringConfig 6500000 Medium 16) (feeding 12000000 (setting 133 6 2)) V1_15
 
 pub crystal-steps : Gives (crystalPlan 12000000) 11 62

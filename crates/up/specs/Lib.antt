@@ -1,1 +1,4 @@
 pub mod Up
+pub mod Wait
+pub mod Slow
+pub mod ComesUp

@@ -1,0 +1,68 @@
+-- What done leaves: the runner as it was, for ever.
+-- Assumes nothing.
+use mathlib.Core.Bool.{Bool, true, false, not}
+use mathlib.Core.List.{List}
+use mathlib.Core.Logic.{_⊎_, inl, inr}
+use mathlib.Core.Path.{_≡_, refl}
+use Prim.Native.Nat.{ℕ, _+_, _*_}
+use lib.Dec.{eqb, ltb, leb}
+use lib.ListN.{length}
+use Rattle.base.specs.Answer.{Answer, value, refusal}
+use Rattle.base.specs.Choice.{pick}
+use Rattle.step.specs.declared.Step.{Step}
+use Rattle.step.specs.Kinds as kind
+use Rattle.step.specs.Access.{readAt}
+use Rattle.runner.specs.declared.State.{State}
+use Rattle.runner.specs.declared.Runner.{Runner}
+use Rattle.runner.specs.Run.{Progress, done, handed, passed, waiting, Outcome, outcome, isWait, unready}
+use Rattle.runner.specs.Run.{takeStep, takeRead, outside, badLength, turnOf, advanceOf}
+use Rattle.runner.proofs.Calls.{both}
+
+abbrev NotDone : Answer Progress → Type 0
+NotDone (value done) = ⊥
+NotDone (value (handed step)) = Unit {0}
+NotDone (value passed) = Unit {0}
+NotDone (value waiting) = Unit {0}
+NotDone (refusal n) = Unit {0}
+
+not-at-step : (s : State) (a : Answer Step) (ready : Bool) → NotDone (takeRead s a ready .answer)
+unfolding takeRead takeStep unready
+not-at-step s (value step) ready =
+    let N : Outcome State → Type 0 = λ x. NotDone (x .answer) in
+    both N (isWait (step .kind)) _ _
+    (both N ready _ _ tt
+    (both N (not (eqb (step .kind) kind.wait-lock)) _ _ tt (both N (ltb (s .«lock_polls» + 1) 1000000) _ _ tt tt)))
+    tt
+not-at-step s (refusal n) ready = tt
+
+-- a call is not done, or any call is
+either : (s : State) (sheet : List ℕ) (heard ready : Bool)
+    → NotDone (turnOf s sheet heard .answer) ⊎ (turnOf s sheet ready ≡ outcome (value done) s)
+unfolding turnOf
+either s sheet heard ready =
+    go (outside s) (s .stopped) (badLength sheet) (leb (length sheet) (8 * s .position)) _ _
+    (not-at-step s (readAt sheet (8 * s .position)) heard)
+  where
+    calls : Bool → Bool → Bool → Bool → Outcome State → Outcome State
+    calls a b c d x =
+        pick a (outcome (refusal 21) s)
+        (pick b (outcome (refusal 22) s) (pick c (outcome (refusal 20) s) (pick d (outcome (value done) s) x)))
+
+    go : (a b c d : Bool) (x y : Outcome State) → NotDone (x .answer)
+        → NotDone (calls a b c d x .answer) ⊎ (calls a b c d y ≡ outcome (value done) s)
+    go true b c d x y n = inl tt
+    go false true c d x y n = inl tt
+    go false false true d x y n = inl tt
+    go false false false true x y n = inr refl
+    go false false false false x y n = inl n
+
+-- a runner that answers done answers done at each call, whatever it hears, and stays as it is
+pub done-stays : (r : Runner) (sheet : List ℕ) (heard ready : Bool) → advanceOf r sheet heard .answer ≡ value done
+    → advanceOf r sheet ready ≡ outcome (value done) r
+unfolding advanceOf
+done-stays r sheet heard ready e = go (either (r .state) sheet heard ready)
+  where
+    go : NotDone (turnOf (r .state) sheet heard .answer) ⊎ (turnOf (r .state) sheet ready ≡ outcome (value done) (r .state))
+        → advanceOf r sheet ready ≡ outcome (value done) r
+    go (inl n) = absurd (rw e at n)
+    go (inr s) = rw s

@@ -1,0 +1,102 @@
+-- What a call gives to a runner that is under way over a sheet of well-formed steps.
+-- Assumes nothing.
+use Prim.Native.Nat.{ℕ, _+_, _*_, _%_, _≤_, _<_}
+use native.Mathlib.Omega.{arith}
+use mathlib.Core.Bool.{Bool, true, false}
+use mathlib.Core.List.{List}
+use mathlib.Core.Path.{_≡_, refl, sym, _∙_}
+use borrow.Author.Tests.{lt-ltb, le-ltb, eq-eqb, eqb-true}
+use lib.Dec.{eqb}
+use lib.ListN.{length}
+use Rattle.base.specs.Answer.{value}
+use Rattle.step.specs.declared.Step.{Step}
+use Rattle.step.specs.Kinds as kind
+use Rattle.step.specs.Access.{readAt}
+use Rattle.step.specs.Sheet.{maxSteps, maxBytes}
+use Rattle.runner.specs.declared.State.{State}
+use Rattle.runner.specs.declared.Runner.{Runner}
+use Rattle.runner.specs.Run.{done, handed, passed, waiting, Outcome, outcome, isWait, oneMore, movedOn, unready}
+use Rattle.runner.specs.Run.{takeStep, takeRead, outside, badLength, storedBy, joined, advanceOf}
+use Rattle.runner.proofs.Calls.{call-done, call-read}
+
+abbrev pub going : ℕ → ℕ → ℕ → State
+going p polls total = record { position = p; «lock_polls» = polls; total = total; stopped = false }
+
+abbrev pub standing : ℕ → ℕ → ℕ → List ℕ → Runner
+standing p polls total freqs = record { state = going p polls total; freqs = freqs }
+
+-- a wait is no store
+pub wait-stores : (step : Step) (freqs : List ℕ) → isWait (step .kind) ≡ true → storedBy step freqs ≡ freqs
+unfolding storedBy
+wait-stores step freqs w = go (eqb (step .kind) kind.store) refl
+  where
+    go : (b : Bool) → eqb (step .kind) kind.store ≡ b → storedBy step freqs ≡ freqs
+    go true k =
+        let waits : isWait kind.store ≡ true = rw (eqb-true (step .kind) kind.store k) at w in
+        let z : _≡_ {A = ℕ} 0 1 = cc in
+        absurd (omega arith)
+    go false k = simp k
+
+-- a step that is no wait is handed out
+pub hands : (s : State) (step : Step) (ready : Bool) → isWait (step .kind) ≡ false
+    → takeStep s step ready ≡ outcome (value (handed step)) (movedOn s (s .«lock_polls»))
+unfolding takeStep
+hands s step ready w = simp w
+
+-- a wait that hears ready is passed
+pub passes : (s : State) (step : Step) → isWait (step .kind) ≡ true
+    → takeStep s step true ≡ outcome (value passed) (movedOn s 0)
+unfolding takeStep
+passes s step w = simp w
+
+-- a wait that hears unready waits, with at most one lock poll more
+pub record Polled (p polls total : ℕ) (step : Step) : Type 0 where
+  pub now : ℕ
+  pub more : now ≤ polls + 1
+  pub is : takeStep (going p polls total) step false ≡ outcome (value waiting) (going p now (oneMore total))
+
+at-unready : (s : State) (step : Step) → isWait (step .kind) ≡ true → takeStep s step false ≡ unready s (step .kind)
+unfolding takeStep
+at-unready s step w = simp w
+
+pub polls-on : (p polls total : ℕ) (step : Step) → isWait (step .kind) ≡ true → polls < 999999
+    → Polled p polls total step
+unfolding unready
+polls-on p polls total step w h = go (eqb (step .kind) kind.wait-lock) refl
+  where
+    go : (b : Bool) → eqb (step .kind) kind.wait-lock ≡ b → Polled p polls total step
+    go true e =
+        record {
+          now = polls + 1;
+          more = omega arith;
+          is = at-unready (going p polls total) step w ∙ simp (e, lt-ltb (polls + 1) 1000000 (omega arith));
+        }
+    go false e = record { now = polls; more = omega arith; is = at-unready (going p polls total) step w ∙ simp e }
+
+-- over a sheet of n steps
+module _ (sheet : List ℕ) (n : ℕ) (few : n ≤ maxSteps) (size : length sheet ≡ 8 * n) where
+  within : (p polls total : ℕ) → p ≤ n → polls < 1000000 → outside (going p polls total) ≡ false
+  unfolding outside
+  within p polls total h l = simp (le-ltb maxSteps p (omega arith), le-ltb 999999 polls (omega arith))
+
+  good-length : badLength sheet ≡ false
+  unfolding badLength
+  good-length = simp (le-ltb maxBytes (length sheet) (omega arith), eq-eqb (length sheet % 8) 0 (omega arith))
+
+  -- past the last step
+  pub done-at : (total : ℕ) (freqs : List ℕ) (ready : Bool)
+      → advanceOf (standing n 0 total freqs) sheet ready ≡ outcome (value done) (standing n 0 total freqs)
+  unfolding advanceOf
+  done-at total freqs ready =
+      let fine = within n 0 total (omega arith) (omega arith) in
+      rw (sym (call-done (going n 0 total) sheet ready fine refl good-length (omega arith)))
+
+  -- at a step
+  pub step-at : (step : Step) (p polls total : ℕ) (freqs : List ℕ) (ready : Bool) (x : Outcome State)
+      → p < n → polls < 1000000 → readAt sheet (8 * p) ≡ value step → takeStep (going p polls total) step ready ≡ x
+      → advanceOf (standing p polls total freqs) sheet ready ≡ joined x freqs
+  unfolding advanceOf takeRead
+  step-at step p polls total freqs ready x h l read e =
+      let fine = within p polls total (omega arith) l in
+      let taken = call-read (going p polls total) sheet ready fine refl good-length (omega arith) (value step) read in
+      rw (sym taken ∙ e)

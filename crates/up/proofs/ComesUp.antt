@@ -1,0 +1,86 @@
+-- Will it come up? The sheet of an accepted plan, at its reading, under a fresh runner.
+-- Assumes nothing.
+use Prim.Native.Nat.{ℕ, _+_, _*_, _≤_, _<_}
+use native.Mathlib.Omega.{arith}
+use native.Mathlib.Nat.{mul-le-mul-left, lt-of-not-le}
+use native.Mathlib.Decide.{decLe}
+use mathlib.Core.Bool.{Bool}
+use mathlib.Core.List.{List}
+use mathlib.Core.Path.{_≡_, refl}
+use lib.ListN.{length}
+use Rattle.step.specs.Sheet.{maxSteps, encoded}
+use Rattle.divider.specs.Delay.{cyclesPerUs, settlingCycles}
+use Rattle.divider.specs.Clock.{dividedHz}
+use Rattle.config.specs.declared.ClockConfig.{ClockConfig}
+use Rattle.settings.specs.Settings.{settlingStep, settingsOf}
+use Rattle.settings.specs.Frequencies.{pllHz, sourcesOf, refHz, sysHz, storedOf}
+use Rattle.settings.specs.Typed.{Typed}
+use Rattle.refusals.specs.Refusals.{Accepted}
+use Rattle.sheet.specs.Steps.{headPart, ringPart, voltagePart, crystalPart, switchSteps, sysPart, periPart, auxPart}
+use Rattle.sheet.specs.Steps.{rtcPart, clocksPart, stepsWith}
+use Rattle.sheet.specs.Writer.{sheetBytes}
+use Rattle.sheet.proofs.Counts.{steps-few}
+use Rattle.sheet.proofs.Sheets.{steps-formed}
+use Rattle.sheet.proofs.Examples.{longestPlan, longest-steps}
+use Rattle.up.specs.Up.{planSteps}
+use Rattle.up.specs.Wait.{HearsAtMost, waitsIn, UpAfter, UpWithin}
+use Rattle.up.specs.Slow.{slowest}
+use Rattle.up.specs.ComesUp.{maxWaits, mostCalls, ComesUp, ComesUpReady}
+use Rattle.up.proofs.Stored.{steps-store}
+use Rattle.up.proofs.Wait.{steps-come-up, steps-come-up-ready}
+use Rattle.up.proofs.Slow.{slow-few, steps-come-up-slowest}
+use Rattle.up.proofs.Waits.{waits-ten}
+
+module _ (p : ClockConfig) (reading : ℕ) (ok : Accepted p reading) (t : Typed (settingsOf p reading)) where
+  pub comes-up : ComesUp p reading
+  unfolding sheetBytes
+  comes-up k small ready hears =
+      let s = settingsOf p reading in
+      let steps = planSteps p reading in
+      let up = steps-come-up steps (steps-formed s reading ok t) (steps-few reading s) k small ready hears in
+      let polls : k * waitsIn steps ≤ k * maxWaits = mul-le-mul-left k (waits-ten reading s) in
+      record {
+        calls = up .calls;
+        few = omega (arith, up .few, polls, steps-few reading s);
+        up = rw (steps-store reading s) at (up .up);
+      }
+
+  pub comes-up-ready : ComesUpReady p reading
+  unfolding sheetBytes
+  comes-up-ready ready hears =
+      let s = settingsOf p reading in
+      rw (steps-store reading s) at
+      (steps-come-up-ready (planSteps p reading) (steps-formed s reading ok t) (steps-few reading s) ready hears)
+
+-- the bound is reached: the longest plan at reading 11, kept waiting by the slowest stream
+longest-waits : waitsIn (planSteps longestPlan 11) ≡ maxWaits
+unfolding longestPlan cyclesPerUs settlingCycles dividedHz settlingStep pllHz sourcesOf refHz sysHz headPart ringPart
+    voltagePart crystalPart switchSteps sysPart periPart auxPart rtcPart clocksPart stepsWith
+longest-waits = refl
+
+pub bound-reached : (k : ℕ) → k < 1000000 → let sheet = sheetBytes longestPlan 11 in
+    HearsAtMost k sheet (slowest k sheet)
+    × UpAfter (mostCalls k) sheet (slowest k sheet) (storedOf (settingsOf longestPlan 11))
+unfolding sheetBytes
+bound-reached k small =
+    let g = longest-steps in
+    let s = settingsOf longestPlan 11 in
+    let xs = planSteps longestPlan 11 in
+    let calls : length xs + k * waitsIn xs ≡ mostCalls k = rw (g .count, longest-waits) (omega arith) in (
+      slow-few k (encoded xs),
+      rw (calls, steps-store 11 s) at
+          (steps-come-up-slowest xs (steps-formed s 11 (g .accepted) (g .typed)) (steps-few 11 s) k small),
+    )
+
+least : (n m : ℕ) (sheet : List ℕ) (ready : ℕ → Bool) (held freqs : List ℕ) → UpAfter n sheet ready held
+    → UpWithin m sheet ready freqs → n ≤ m
+least n m sheet ready held freqs a u =
+    elim (decLe n (u .calls)) [ yes h ↦ omega (arith, h, u .few) | no h ↦ absurd (early (lt-of-not-le h)) ]
+  where
+    early : u .calls < n → ⊥
+    early h = rw (u .up .ends (u .calls) (omega arith)) at (a .before (u .calls) h)
+
+-- so no lower number bounds the calls of every accepted plan
+pub none-lower : (k : ℕ) → k < 1000000 → (m : ℕ) (freqs : List ℕ)
+    → (let sheet = sheetBytes longestPlan 11 in UpWithin m sheet (slowest k sheet) freqs) → mostCalls k ≤ m
+none-lower k small m freqs u = least (mostCalls k) m _ _ _ freqs (bound-reached k small .1) u
