@@ -83,9 +83,9 @@ impl Inputs {
 
     pub fn lines(&self) -> Vec<Line<'_>> {
         vec![
-            search("search, exact hit", 0.45, &self.exact),
-            search("search, no exact hit", 0.15, &self.inexact),
-            search("search, random inputs", 1.0, &self.random),
+            search("search, exact hit", 0.13, &self.exact),
+            search("search, no exact hit", 0.055, &self.inexact),
+            search("search, random inputs", 0.055, &self.random),
             self.crystal_sheet(),
             self.plan_sheets(),
             self.pio(),

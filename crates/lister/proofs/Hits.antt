@@ -1,23 +1,24 @@
 -- Which settings of a feedback divider give the target with no remainder.
 -- Assumes nothing.
 use mathlib.Core.Path.{_≡_, refl, sym, _∙_, ap}
-use mathlib.Core.List.{List, [], _∷_, map}
+use mathlib.Core.List.{List, [], _∷_, map, flatMap}
 use mathlib.Core.Bool.{Bool, true, false, _&&_}
 use mathlib.Core.Logic.{⊎-elim}
-use Prim.Native.Nat.{ℕ, zero, suc, _+_, _*_, _/_, _%_, _≤_, _<_}
+use Prim.Native.Nat.{ℕ, zero, suc, _+_, _-_, _*_, _/_, _%_, _≤_, _<_}
 use native.Mathlib.Omega.{arith}
 use native.Mathlib.Nat.{eq-or-lt-of-le, eq-of-mul-eq-mul-left, div-one, div-add-mod'}
 use native.Mathlib.Nat.{mul-mod-right, mul-div-cancel-left}
 use lib.Dec.{leb, eqb}
-use borrow.Author.Tests.{le-leb, lt-leb, eqb-true, eq-eqb, ne-eqb}
+use borrow.Author.Tests.{le-leb, leb-true, eqb-true, eq-eqb, ne-eqb}
 use Rattle.base.specs.Choice.{inRange}
 use Rattle.base.proofs.Bools.{both-true, never-true, same-test, in-range}
-use Rattle.pll.specs.Ranges.{referenceMin, feedbackMin, vcoMin, vcoMax}
-use Rattle.pll.specs.Search.{falling, setting, keep}
+use Rattle.pll.specs.Ranges.{referenceMin, feedbackMin, feedbackMax, vcoMin, vcoMax}
+use Rattle.pll.specs.Search.{falling, rising, setting, keep}
+use Rattle.pll.specs.Law.{InVco, VcoPermits, HighestPermitted, LowestPermitted}
 use Rattle.lister.specs.Lister.{meets, inOrder, listOf}
 use Rattle.lister.specs.Order.{atPost1, atFeedback, hasProduct, Wrote}
 use Rattle.lister.proofs.Writing.{nothing}
-use Rattle.lister.proofs.Walks.{same-feedback, none, none-kept}
+use Rattle.lister.proofs.Walks.{same-feedback, none-kept, none-given, between}
 
 -- the quotient is a post 2, and nothing remains
 abbrev pub divides : ℕ → ℕ → Bool
@@ -71,17 +72,12 @@ module _ (fb p1 : ℕ) (positive : 1 ≤ p1) where
       let y : _≡_ {A = ℕ} 0 1 = cc in
       omega arith)
 
--- under the minimum of the reference nothing is listed
-pub none-listed : (input target : ℕ) → input < referenceMin → listOf input target ≡ []
-unfolding listOf
-none-listed input target l = none (meets input target) (λ c. rw (lt-leb referenceMin input l)) inOrder
-
 module _ (input target fb : ℕ) where
-  -- where no product gives the target, nothing is put
-  pub none-put : (buf : List ℕ) (at : ℕ)
-      → ((posts : ℕ) → vcoMin ≤ input * fb → input * fb ≤ vcoMax → target * posts ≡ input * fb → ⊥)
-      → Wrote buf at (keep (meets input target) (atFeedback fb)) buf at × (at ≤ at + 14)
-  none-put buf at h = (rw (none-kept (meets input target) fb missed) (nothing buf at), omega arith)
+  -- where no product gives the target, or the divider may not be taken, there is no setting
+  pub none-meets : ((posts : ℕ) → referenceMin ≤ input → feedbackMin ≤ fb → InVco (input * fb)
+      → target * posts ≡ input * fb → ⊥)
+      → keep (meets input target) (atFeedback fb) ≡ []
+  none-meets h = none-kept (meets input target) fb missed
     where
       missed : (p1 p2 : ℕ) → meets input target (setting fb p1 p2) ≡ false
       missed p1 p2 =
@@ -91,23 +87,31 @@ module _ (input target fb : ℕ) where
           let t = both-true (leb referenceMin input && leb feedbackMin fb && inRange vcoMin vcoMax (input / 1 * fb))
           (eqb (target * (p1 * p2)) (input / 1 * fb)) e in
           let p = both-true (leb referenceMin input && leb feedbackMin fb) (inRange vcoMin vcoMax (input / 1 * fb)) (t .0) in
+          let l = both-true (leb referenceMin input) (leb feedbackMin fb) (p .0) in
           let r = in-range vcoMin vcoMax (input / 1 * fb) (p .1) in
-          h (p1 * p2) (omega arith) (omega arith) (eqb-true (target * (p1 * p2)) (input / 1 * fb) (t .1) ∙ v))
+          h (p1 * p2) (leb-true referenceMin input (l .0)) (leb-true feedbackMin fb (l .1))
+          (record { low = omega arith; high = omega arith })
+          (eqb-true (target * (p1 * p2)) (input / 1 * fb) (t .1) ∙ v))
+
+  -- and nothing is put
+  pub none-put : (buf : List ℕ) (at : ℕ) → ((posts : ℕ) → 0 < input * fb → target * posts ≡ input * fb → ⊥)
+      → Wrote buf at (keep (meets input target) (atFeedback fb)) buf at × (at ≤ at + 14)
+  none-put buf at h =
+      (rw (none-meets (λ p least low v e. h p (omega (arith, v .low)) e)) (nothing buf at), omega arith)
 
   -- where the target goes into the VCO frequency, the quotient is the product
-  pub product-meets : referenceMin ≤ input → feedbackMin ≤ fb → vcoMin ≤ input * fb → input * fb ≤ vcoMax → 0 < target
-      → input * fb % target ≡ 0
+  pub product-meets : referenceMin ≤ input → VcoPermits input fb → 0 < target → input * fb % target ≡ 0
       → keep (meets input target) (atFeedback fb) ≡ keep (hasProduct (input * fb / target)) (atFeedback fb)
-  product-meets least low from to positive whole =
+  product-meets least permits positive whole =
       same-feedback (meets input target) (hasProduct (input * fb / target)) fb
       (λ p1 p2.
       let m : target * (input * fb / target) ≡ input * fb = omega (arith, div-add-mod' (input * fb) target) in
       rw (
         div-one,
         le-leb referenceMin input least,
-        le-leb feedbackMin fb low,
-        le-leb vcoMin (input * fb) from,
-        le-leb (input * fb) vcoMax to,
+        le-leb feedbackMin fb (permits .low),
+        le-leb vcoMin (input * fb) (permits .vco .low),
+        le-leb (input * fb) vcoMax (permits .vco .high),
       )
       (same-test (eqb (target * (p1 * p2)) (input * fb)) (eqb (p1 * p2) (input * fb / target))
       (λ e. eq-eqb (p1 * p2) (input * fb / target)
@@ -115,3 +119,25 @@ module _ (input target fb : ℕ) where
       (eqb-true (target * (p1 * p2)) (input * fb) e ∙ sym m)))
       (λ e. eq-eqb (target * (p1 * p2)) (input * fb)
       (ap (λ (n : ℕ). target * n) (eqb-true (p1 * p2) (input * fb / target) e) ∙ m))))
+
+module _ (input target : ℕ) where
+  -- the settings between the two ends are the whole list
+  pub whole-list : (low high : ℕ) → LowestPermitted input low → HighestPermitted input high
+      → keep (meets input target) (flatMap atFeedback (rising (high + 1 - low) low)) ≡ listOf input target
+  unfolding listOf inOrder
+  whole-list low high l h =
+      between (meets input target) atFeedback low high (l .one .low) (h .last low (l .one)) (h .one .high)
+      (λ fb least lower. none-meets input target fb (λ p r lo v e.
+      let most : fb ≤ feedbackMax = omega (arith, l .one .high) in
+      omega (arith, l .last fb (record { low = lo; high = most; vco = v }))))
+      (λ fb higher most. none-meets input target fb (λ p r lo v e.
+      omega (arith, h .last fb (record { low = lo; high = most; vco = v }))))
+
+  -- where there is no end, it is empty
+  pub none-listed : ((fb : ℕ) → referenceMin ≤ input → VcoPermits input fb → ⊥) → listOf input target ≡ []
+  unfolding listOf inOrder
+  none-listed none =
+      none-given (meets input target) atFeedback (feedbackMax + 1 - feedbackMin) feedbackMin
+      (λ fb lo hi. none-meets input target fb (λ p r low v e.
+      let most : fb ≤ feedbackMax = omega arith in
+      none fb r (record { low = low; high = most; vco = v })))

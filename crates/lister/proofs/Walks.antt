@@ -1,11 +1,12 @@
 -- A walk over numbers, with the settings of each: what it keeps.
 -- Assumes nothing.
-use mathlib.Core.Path.{_≡_, refl}
+use mathlib.Core.Path.{_≡_, refl, sym, _∙_}
 use mathlib.Core.List.{List, [], _∷_, _++_, map, flatMap}
 use mathlib.Core.Bool.{Bool, true, false}
 use Prim.Native.Nat.{ℕ, zero, suc, _+_, _-_, _≤_, _<_}
 use native.Mathlib.Omega.{arith}
 use native.Mathlib.Numerals.{add-one}
+use Rattle.pll.specs.Ranges.{feedbackMin, feedbackMax}
 use Rattle.pll.specs.Search.{falling, rising, setting, keep}
 use Rattle.pll.specs.declared.PllConfig.{PllConfig}
 use Rattle.pll.proofs.Order.{keep-append}
@@ -48,6 +49,48 @@ module _ (t : PllConfig → Bool) where
       → Wrote b at (keep t (flatMap f ks)) b at
   unfolding keep flatMap
   done b at f ks e = rw e (nothing b at)
+
+-- numbers that give nothing may be left out
+module _ (t : PllConfig → Bool) (f : ℕ → List PllConfig) where
+  -- before the others
+  skip : (m n total k start : ℕ) → total ≡ m + n → start ≡ k + m
+      → ((j : ℕ) → k ≤ j → j < start → keep t (f j) ≡ [])
+      → keep t (flatMap f (rising total k)) ≡ keep t (flatMap f (rising n start))
+  skip zero n total k start e s h = rw (let a : total ≡ n = omega arith in a, let b : start ≡ k = omega arith in b)
+  skip (suc m) n total k start e s h =
+      rw (rising-step total (m + n) k (omega arith), keep-each t f k (rising (m + n) (k + 1)), h k (omega arith) (omega arith))
+      (skip m n (m + n) (k + 1) start refl (omega arith) (λ j lo hi. h j (omega arith) hi))
+
+  -- all of them
+  pub none-given : (total k : ℕ) → ((j : ℕ) → k ≤ j → j < k + total → keep t (f j) ≡ [])
+      → keep t (flatMap f (rising total k)) ≡ []
+  unfolding rising flatMap keep
+  none-given total k h = skip total 0 total k (k + total) (omega arith) refl h
+
+  -- behind the others
+  stop : (n m total k : ℕ) → total ≡ n + m → ((j : ℕ) → k + n ≤ j → j < k + total → keep t (f j) ≡ [])
+      → keep t (flatMap f (rising total k)) ≡ keep t (flatMap f (rising n k))
+  stop zero m total k e h = none-given total k (λ j lo hi. h j (omega arith) hi) ∙ sym (none-given 0 k (λ j lo hi. absurd (omega arith)))
+  stop (suc n) m total k e h =
+      rw (
+        rising-step total (n + m) k (omega arith),
+        keep-each t f k (rising (n + m) (k + 1)),
+        rising-step (suc n) n k (omega arith),
+        keep-each t f k (rising n (k + 1)),
+        stop n m (n + m) (k + 1) refl (λ j lo hi. h j (omega arith) (omega arith)),
+      )
+
+  -- on both sides
+  pub between : (low high : ℕ) → feedbackMin ≤ low → low ≤ high → high ≤ feedbackMax
+      → ((fb : ℕ) → feedbackMin ≤ fb → fb < low → keep t (f fb) ≡ [])
+      → ((fb : ℕ) → high < fb → fb ≤ feedbackMax → keep t (f fb) ≡ [])
+      → keep t (flatMap f (rising (high + 1 - low) low))
+      ≡ keep t (flatMap f (rising (feedbackMax + 1 - feedbackMin) feedbackMin))
+  between low high least order most below above =
+      sym (skip (low - feedbackMin) (feedbackMax + 1 - low) (feedbackMax + 1 - feedbackMin) feedbackMin low
+      (omega arith) (omega arith) below
+      ∙ stop (high + 1 - low) (feedbackMax - high) (feedbackMax + 1 - low) low (omega arith)
+      (λ fb lo hi. above fb (omega arith) (omega arith)))
 
 -- two tests that agree on the settings of a feedback divider
 module _ (t u : PllConfig → Bool) (fb : ℕ) (agree : (p1 p2 : ℕ) → t (setting fb p1 p2) ≡ u (setting fb p1 p2)) where

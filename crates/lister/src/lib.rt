@@ -1,16 +1,13 @@
 // The lister: every setting that gives a target frequency with no remainder, two bytes each.
 use base::Length;
-use pll::FEEDBACK_MAX;
-use pll::FEEDBACK_MIN;
-use pll::REFERENCE_MIN;
-use pll::VCO_MAX;
-use pll::VCO_MIN;
+use base::Number;
 ghost use mathlib.Core.Path.{_≡_};
 ghost use Prim.Native.Nat.{_+_, _≤_};
 ghost use mathlib.Core.List.{[], _∷_};
 ghost use lib.ListN.{length, set};
 ghost use Rattle.base.specs.Answer.{lengthIs};
 ghost use Rattle.pll.specs.Ranges.{referenceMin, feedbackMin, feedbackMax};
+ghost use Rattle.pll.specs.Law.{VcoPermits};
 ghost use Rattle.pll.specs.Search.{setting, keep};
 ghost use Rattle.lister.specs.Lister.{meets, listOf, listedOf, listedIn};
 ghost use Rattle.lister.specs.Order.{atPost1, atFeedback, hasProduct, Wrote};
@@ -66,40 +63,35 @@ fn put_posts(buf: &mut [u8], at: usize, fbdiv: u64, product: u64) -> usize
 }
 
 // Puts the settings of a feedback divider that give the target with no remainder.
-fn put_feedback(buf: &mut [u8], at: usize, input_hz: u64, target_hz: u64, fbdiv: u64) -> usize
-    requires { ⌜ (at ≤ 4900) × (feedbackMin ≤ fbdiv) × (fbdiv ≤ feedbackMax) ⌝ }
-    requires { ⌜ (referenceMin ≤ «input_hz») × («input_hz» ≤ 4294967295) ⌝ }
+fn put_feedback(buf: &mut [u8], at: usize, input_hz: u32, target_hz: u32, fbdiv: u32) -> usize
+    requires { ⌜ (at ≤ 4900) × (referenceMin ≤ «input_hz») × VcoPermits «input_hz» fbdiv ⌝ }
     ensures { λ r. ⌜ Wrote (now (buf .entry)) at (keep (meets «input_hz» «target_hz») (atFeedback fbdiv)) (now (buf .exit)) r ⌝ }
     ensures { λ r. ⌜ r ≤ at + 14 ⌝ }
 {
     let vco = input_hz * fbdiv;
-    if vco < VCO_MIN {
-        return at;
-    }
-    if vco > VCO_MAX {
-        return at;
-    }
     if target_hz == 0 {
         return at;
     }
     if vco % target_hz != 0 {
         return at;
     }
-    put_posts(buf, at, fbdiv, vco / target_hz)
+    put_posts(buf, at, fbdiv as u64, (vco / target_hz) as u64)
 }
 
-// Puts the whole list, which is empty for an input under the reference's minimum. It answers the length of the list,
-// whether or not the buffer has room for it.
-fn put_list(buf: &mut [u8], input_hz: u64, target_hz: u64) -> usize
-    requires { ⌜ «input_hz» ≤ 4294967295 ⌝ }
+// Puts the whole list, from the lowest feedback divider that may be taken to the highest. It answers the length of the
+// list, whether or not the buffer has room for it.
+fn put_list(buf: &mut [u8], input_hz: u32, target_hz: u32) -> usize
     ensures { λ r. ⌜ Wrote (now (buf .entry)) 0 (listOf «input_hz» «target_hz») (now (buf .exit)) r ⌝ }
 {
-    if input_hz < REFERENCE_MIN {
+    let Number::Value(low) = pll::feedback::lowest(input_hz) else {
         return 0;
-    }
+    };
+    let Number::Value(high) = pll::feedback::highest(input_hz) else {
+        return 0;
+    };
     let mut next = 0;
-    let mut fbdiv = FEEDBACK_MIN;
-    while fbdiv <= FEEDBACK_MAX {
+    let mut fbdiv = low;
+    while fbdiv <= high {
         next = put_feedback(buf, next, input_hz, target_hz, fbdiv);
         fbdiv += 1;
     }
@@ -115,9 +107,9 @@ pub fn list_exact(input_hz: u32, target_hz: u32, buf: &mut [u8]) -> Length
 {
     // A buffer with no room only counts.
     let mut nowhere = [0u8; 0];
-    let length = put_list(&mut nowhere, input_hz as u64, target_hz as u64);
+    let length = put_list(&mut nowhere, input_hz, target_hz);
     if buf.len() < length {
         return Length::Refused(19);
     }
-    Length::Bytes(put_list(buf, input_hz as u64, target_hz as u64))
+    Length::Bytes(put_list(buf, input_hz, target_hz))
 }

@@ -1,36 +1,23 @@
 -- Which inputs the search serves, and what it hands out: from what is right of its answers.
 -- Assumes nothing.
-use mathlib.Core.Path.{_≡_, refl, ap, subst, _∙_}
-use mathlib.Core.Logic.{⊎-elim}
+use mathlib.Core.Path.{_≡_, refl, sym, ap, subst, _∙_}
+use mathlib.Core.Logic.{_⊎_, ⊎-elim}
 use mathlib.Core.Bool.{true}
-use Prim.Native.Nat.{ℕ, _+_, _*_, _/_, _≤_, _<_}
+use Prim.Native.Nat.{ℕ, _/_, _≤_, _<_}
 use native.Mathlib.Omega.{arith}
-use native.Mathlib.Nat.{mul-le-mul, mul-le-mul-left, mul-div-le, lt-mul-div-succ, le-div-iff-mul-le, div-lt-iff-lt-mul}
-use native.Mathlib.Nat.{mul-add, mul-one, div-one}
+use native.Mathlib.Nat.{mul-le-mul, mul-le-mul-left, div-one}
 use borrow.Author.Tests.{le-leb}
 use Rattle.base.specs.Answer.{Answer, value, refusal}
 use Rattle.pll.specs.Ranges.{referenceMin, referenceMax, feedbackMin, feedbackMax, vcoMin, vcoMax}
 use Rattle.pll.specs.Setting.{referenceOf, validOf}
 use Rattle.pll.specs.Search.{searchOf}
+use Rattle.pll.specs.Ends.{highestOf, lowestOf}
 use Rattle.pll.specs.Law.{VcoPermits, Candidate, RightAnswer}
 use Rattle.pll.specs.declared.PllConfig.{PllConfig}
-use Rattle.pll.proofs.Candidates.{vco-is}
+use Rattle.pll.proofs.Candidates.{vco-is, candidate-permits}
+use Rattle.pll.proofs.Ends.{Served, served, unserved, number, highest-none, lowest-none, highest-value, lowest-some}
+use Rattle.pll.proofs.Ends.{highest-right}
 use Rattle.pll.proofs.Right.{search-right}
-
--- from 5 to 100 MHz some feedback divider has its VCO in range: the one just below 1600 MHz
-some-feedback : (input : ℕ) → referenceMin ≤ input → input ≤ 100000000 → VcoPermits input (vcoMax / input)
-some-feedback input lo hi =
-    let some : 0 < input = omega arith in
-    let next : input * (vcoMax / input + 1) ≡ input * (vcoMax / input) + input
-    = mul-add input (vcoMax / input) 1 ∙ ap (λ (n : ℕ). input * (vcoMax / input) + n) (mul-one input) in
-    record {
-      low = le-div-iff-mul-le {x = feedbackMin} {y = vcoMax} some .1 (omega arith);
-      high = let below = div-lt-iff-lt-mul {x = vcoMax} {y = 321} some .1 (omega arith) in omega arith;
-      vco = record {
-        low = omega (arith, next, lt-mul-div-succ vcoMax {b = input} some);
-        high = mul-div-le vcoMax input;
-      };
-    }
 
 module _ (input target : ℕ) where
   pub search-finds : referenceMin ≤ input → input ≤ 100000000 → (c : PllConfig) × (searchOf input target ≡ value c)
@@ -39,7 +26,7 @@ module _ (input target : ℕ) where
       go : (a : Answer PllConfig) → RightAnswer input target a → (c : PllConfig) × (a ≡ value c)
       go (value c) h = (c, refl)
       go (refusal n) h =
-          absurd (⊎-elim (λ l. omega arith) (λ none. none (vcoMax / input) (some-feedback input lo hi)) (h .1))
+          absurd (⊎-elim (λ l. omega arith) (λ none. none _ (highest-right input _ (highest-value input (lo, hi)) .1 .one)) (h .1))
 
   refuses : ((c : PllConfig) → Candidate input c → ⊥) → searchOf input target ≡ refusal 15
   refuses none = go (searchOf input target) (search-right input target)
@@ -47,6 +34,26 @@ module _ (input target : ℕ) where
       go : (a : Answer PllConfig) → RightAnswer input target a → a ≡ refusal 15
       go (value c) h = absurd (none c (h .candidate))
       go (refusal n) h = ap refusal (h .0)
+
+  -- where there is no end, no divider may be taken, so the walk cannot be entered, and the answer is 15
+  pub none-to-walk : (n : ℕ) → (highestOf input ≡ refusal n) ⊎ (lowestOf input ≡ refusal n)
+      → (n ≡ 15) × (searchOf input target ≡ refusal 15) × ((fb : ℕ) → referenceMin ≤ input → VcoPermits input fb → ⊥)
+  none-to-walk n e = go (served input)
+    where
+      clash : (a : Answer ℕ) (fb : ℕ) → a ≡ value fb → a ≡ refusal n → ⊥
+      clash a fb v r = let z : _≡_ {A = ℕ} 0 1 = cc in omega arith
+
+      go : Dec (Served input)
+          → (n ≡ 15) × (searchOf input target ≡ refusal 15) × ((fb : ℕ) → referenceMin ≤ input → VcoPermits input fb → ⊥)
+      go (yes s) =
+          absurd (⊎-elim (clash (highestOf input) (vcoMax / input) (highest-value input s))
+          (clash (lowestOf input) (lowest-some input s .0) (lowest-some input s .1)) e)
+      go (no not) = (
+        ⊎-elim (λ h. ap (number input) (sym h ∙ highest-none input not))
+            (λ l. ap (number input) (sym l ∙ lowest-none input not)) e,
+        refuses (λ c m. unserved input not (c .fbdiv) (m .reference-low) (candidate-permits input c m)),
+        unserved input not,
+      )
 
   pub search-refuses-low : input < referenceMin → searchOf input target ≡ refusal 15
   search-refuses-low l = refuses (λ c m. omega (arith, m .reference-low))

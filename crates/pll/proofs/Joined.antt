@@ -2,13 +2,12 @@
 -- Assumes nothing.
 use mathlib.Core.Path.{_≡_, sym, ap}
 use mathlib.Core.Logic.{⊎-elim}
-use Prim.Native.Nat.{ℕ, _-_, _/_, _%_, _≤_, _<_}
+use Prim.Native.Nat.{ℕ, _-_, _/_, _%_, _<_}
 use native.Mathlib.Omega.{arith}
 use Rattle.base.specs.Answer.{Answer, value, refusal}
-use Rattle.pll.specs.Ranges.{feedbackMax}
 use Rattle.pll.specs.Search.{searchOf}
 use Rattle.pll.specs.Law.{Candidate}
-use Rattle.pll.specs.Walk.{keys, noRank, key, rankOf, settingOf, LowestRank, CandidatesTo}
+use Rattle.pll.specs.Walk.{keys, noRank, key, rankOf, settingOf, LowestRank}
 use Rattle.pll.specs.declared.PllConfig.{PllConfig}
 use Rattle.pll.proofs.Scores.{rank-is, rank-below}
 use Rattle.pll.proofs.Right.{LowestOf, search-lowest}
@@ -26,25 +25,16 @@ module _ (input target r : ℕ) where
       let p2 : (keys - 1 - r % keys) % 8 ≡ c .«post_div2» = omega arith in
       λ i. record { refdiv = one i; fbdiv = f i; «post_div1» = p1 i; «post_div2» = p2 i }
 
-  module _ (fits : target < 4294967296)
-      (w : LowestRank input target (CandidatesTo input feedbackMax) noRank r) where
-    pub lowest-found : r < noRank → value (settingOf r) ≡ searchOf input target
-    lowest-found small =
-        ⊎-elim (λ e. absurd (omega arith)) (λ x. go x (searchOf input target) (search-lowest input target)) (w .one)
-      where
-        go : (x : PllConfig) × CandidatesTo input feedbackMax x × (r ≡ rankOf input target x)
-            → (a : Answer PllConfig) → LowestOf input target a → value (settingOf r) ≡ a
-        go x (value c) l =
-            let m = l .candidate in
-            let least = l .least (x .0) (x .1 .0) in
-            ap value (setting-is c m (omega (arith, x .2, w .least c (m, m .feedback-high))))
-        go x (refusal n) h = absurd (h .1 (x .0) (x .1 .0))
-
-    pub none-found : noRank ≤ r → refusal 15 ≡ searchOf input target
-    none-found high = go (searchOf input target) (search-lowest input target)
-      where
-        go : (a : Answer PllConfig) → LowestOf input target a → refusal 15 ≡ a
-        go (value c) l =
-            let m = l .candidate in
-            absurd (omega (arith, rank-below input target fits c m, w .least c (m, m .feedback-high)))
-        go (refusal n) h = ap refusal (sym (h .0))
+  -- the lowest rank is that of the answer; it is below the one from which the walk starts
+  pub lowest-found : target < 4294967296 → (c : PllConfig) → Candidate input c
+      → LowestRank input target (Candidate input) noRank r → value (settingOf r) ≡ searchOf input target
+  lowest-found fits c m w =
+      ⊎-elim (λ e. absurd (omega (arith, e, rank-below input target fits c m, w .least c m)))
+      (λ x. go x (searchOf input target) (search-lowest input target)) (w .one)
+    where
+      go : (x : PllConfig) × Candidate input x × (r ≡ rankOf input target x)
+          → (a : Answer PllConfig) → LowestOf input target a → value (settingOf r) ≡ a
+      go x (value d) l =
+          let least = l .least (x .0) (x .1) in
+          ap value (setting-is d (l .candidate) (omega (arith, x .2, w .least d (l .candidate))))
+      go x (refusal n) h = absurd (h .1 (x .0) (x .1))

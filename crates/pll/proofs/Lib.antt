@@ -1,6 +1,7 @@
 -- What belongs to no one function.
 -- Assumes nothing.
 pub mod Candidates
+pub mod Ends
 pub mod Inputs
 pub mod Joined
 pub mod Nearest

@@ -5,24 +5,13 @@ use mathlib.Core.Logic.{_⊎_, inl, inr, ⊎-elim}
 use Prim.Native.Nat.{ℕ, min, _-_, _*_, _≤_, _<_}
 use native.Mathlib.Omega.{arith, min-cases}
 use native.Mathlib.Nat.{eq-or-lt-of-le}
-use Rattle.pll.specs.Ranges.{feedbackMin}
-use Rattle.pll.specs.Law.{InVco}
+use Rattle.pll.specs.Law.{HighestPermitted, LowestPermitted, Candidate}
 use Rattle.pll.specs.Walk.{keys, noRank, rankOf, LowestRank, CandidatesAt, CandidatesTo}
 use Rattle.pll.specs.declared.PllConfig.{PllConfig}
-use Rattle.pll.proofs.Candidates.{vco-is}
+use Rattle.pll.proofs.Candidates.{candidate-permits}
 use Rattle.pll.proofs.Scores.{rank-is}
 
 module _ (input target fb : ℕ) where
-  -- a feedback divider with its VCO out of range has no candidate
-  pub none-here : (InVco (input * fb) → ⊥)
-      → LowestRank input target (CandidatesAt input fb) noRank noRank
-  none-here n =
-      record {
-        most = omega arith;
-        one = inl refl;
-        least = λ c m. absurd (n (rw (vco-is input c (m .0 .reference), m .1) at (m .0 .vco)));
-      }
-
   module _ (best here : ℕ) (found : LowestRank input target (CandidatesAt input fb) noRank here)
       (top : best ≤ noRank) where
     abbrev now : ℕ
@@ -65,6 +54,18 @@ module _ (input target fb : ℕ) where
         omega (arith, f .2, f .1 .1, f .1 .0 .feedback-low, m .1, m .0 .post1-high, m .0 .post2-high))
         now-one)
 
-    -- and at 16
-    pub stop-last : fb ≤ feedbackMin → 0 < fb → LowestRank input target (CandidatesTo input fb) best now
-    stop-last h s = stop (λ c m. absurd (omega (arith, m .0 .feedback-low, m .1)))
+    -- and at the lowest that the VCO permits
+    pub stop-last : (low : ℕ) → LowestPermitted input low → fb ≤ low → 0 < fb
+        → LowestRank input target (CandidatesTo input fb) best now
+    stop-last low l h s =
+        stop (λ c m. absurd (omega (arith, l .last (c .fbdiv) (candidate-permits input c (m .0)), m .1)))
+
+-- the walk from the highest that the VCO permits has looked at every candidate
+pub all-walked : (input target high best r : ℕ) → HighestPermitted input high
+    → LowestRank input target (CandidatesTo input high) best r → LowestRank input target (Candidate input) best r
+all-walked input target high best r h w =
+    record {
+      most = w .most;
+      one = ⊎-elim inl (λ f. inr (f .0, f .1 .0, f .2)) (w .one);
+      least = λ c m. w .least c (m, h .last (c .fbdiv) (candidate-permits input c m));
+    }

@@ -20,6 +20,15 @@ pub record VcoPermits (input fb : ℕ) : Type 0 where
   pub high : fb ≤ feedbackMax
   pub vco : InVco (input * fb)
 
+-- fb is the highest of them, and the lowest: none lies beyond
+pub record HighestPermitted (input fb : ℕ) : Type 0 where
+  pub one : VcoPermits input fb
+  pub last : (k : ℕ) → VcoPermits input k → k ≤ fb
+
+pub record LowestPermitted (input fb : ℕ) : Type 0 where
+  pub one : VcoPermits input fb
+  pub last : (k : ℕ) → VcoPermits input k → fb ≤ k
+
 -- what the search chooses from: the reference is the input
 pub record Candidate (input : ℕ) (c : PllConfig) : Type 0 where
   pub reference : c .refdiv ≡ 1

@@ -3,5 +3,6 @@
 pub mod Ranges
 pub mod Setting
 pub mod Search
+pub mod Ends
 pub mod Law
 pub mod Walk

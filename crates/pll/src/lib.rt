@@ -1,4 +1,6 @@
 // The PLL: whether a setting is valid, what it gives, and the search for one.
+pub mod feedback;
+
 use base::Number;
 ghost use mathlib.Core.Path.{_≡_};
 ghost use Prim.Native.Nat.{_*_, _≤_, _<_, min};
@@ -6,7 +8,7 @@ ghost use Rattle.base.specs.Answer.{numberIs};
 ghost use Rattle.pll.specs.Ranges.{referenceMin, feedbackMin, feedbackMax, vcoMax};
 ghost use Rattle.pll.specs.Setting.{postsOf, vcoOf, outputHz, dividersOf, validOf, outputOf};
 ghost use Rattle.pll.specs.Search.{searchOf, foundIs};
-ghost use Rattle.pll.specs.Law.{VcoPermits};
+ghost use Rattle.pll.specs.Law.{VcoPermits, LowestPermitted};
 ghost use Rattle.pll.specs.Walk.{PostCode, WantedProduct, NearestPosts, scoreOf, codeRankOf, settingOf};
 ghost use Rattle.pll.specs.Walk.{keys, noRank, LowestRank, CandidatesAt, CandidatesTo};
 
@@ -225,36 +227,22 @@ fn best_posts(input_hz: u32, target: u32, fbdiv: u32) -> u64
     )
 }
 
-// The lowest rank at one feedback divider, if its VCO frequency is in range.
-fn best_feedback(input_hz: u32, target: u32, fbdiv: u32) -> u64
-    requires { ⌜ (referenceMin ≤ «input_hz») × (feedbackMin ≤ fbdiv) × (fbdiv ≤ feedbackMax) ⌝ }
-    ensures { λ r. ⌜ LowestRank «input_hz» target (CandidatesAt «input_hz» fbdiv) noRank r ⌝ }
-{
-    let vco = (input_hz as u64) * (fbdiv as u64);
-    if vco < VCO_MIN {
-        return NO_RANK;
-    }
-    if vco > VCO_MAX {
-        return NO_RANK;
-    }
-    best_posts(input_hz, target, fbdiv)
-}
-
-// The lowest of `best` and the ranks at the feedback dividers from fbdiv down to the least: it calls itself with the next
-// lower one. A rank with no remainder ends the walk, since nothing after it is lower.
-fn walk(input_hz: u32, target: u32, fbdiv: u32, best: u64) -> u64
-    requires { ⌜ (referenceMin ≤ «input_hz») × (feedbackMin ≤ fbdiv) × (fbdiv ≤ feedbackMax) ⌝ }
+// The lowest of `best` and the ranks at the feedback dividers from fbdiv down to `low`: it calls itself with the next
+// lower one. Each that it takes is one that the VCO permits. A rank with no remainder ends the walk, since nothing after
+// it is lower.
+fn walk(input_hz: u32, target: u32, fbdiv: u32, low: u32, best: u64) -> u64
+    requires { ⌜ (referenceMin ≤ «input_hz») × VcoPermits «input_hz» fbdiv × LowestPermitted «input_hz» low ⌝ }
     requires { ⌜ (keys ≤ best) × (best ≤ noRank) ⌝ }
     ensures { λ r. ⌜ LowestRank «input_hz» target (CandidatesTo «input_hz» fbdiv) best r ⌝ }
 {
-    let now = lower(best, best_feedback(input_hz, target, fbdiv));
+    let now = lower(best, best_posts(input_hz, target, fbdiv));
     if now < KEYS {
         return now;
     }
-    if fbdiv <= FEEDBACK_MIN as u32 {
+    if fbdiv <= low {
         return now;
     }
-    walk(input_hz, target, fbdiv - 1, now)
+    walk(input_hz, target, fbdiv - 1, low, now)
 }
 
 // The setting of a rank.
@@ -270,18 +258,22 @@ fn setting(rank: u64) -> PllConfig
     }
 }
 
-// The setting for a target frequency: one with no remainder if there is one, else the nearest. An input under the
-// reference's minimum has none.
+// The setting for a target frequency: one with no remainder if there is one, else the nearest. An input with no
+// feedback divider to take has none.
 pub fn find_pll_params(input_hz: u32, target_hz: u32) -> Found
     ensures { λ r. ⌜ foundIs r ≡ searchOf «input_hz» «target_hz» ⌝ }
 {
-    if (input_hz as u64) < REFERENCE_MIN {
-        return Found::Refused(15);
-    }
-    let best = walk(input_hz, target_hz, FEEDBACK_MAX as u32, NO_RANK);
-    if best < NO_RANK {
-        Found::Params(setting(best))
-    } else {
-        Found::Refused(15)
+    match feedback::highest(input_hz) {
+        Number::Value(high) => match feedback::lowest(input_hz) {
+            Number::Value(low) => Found::Params(setting(walk(
+                input_hz,
+                target_hz,
+                high,
+                low,
+                NO_RANK,
+            ))),
+            Number::Refused(number) => Found::Refused(number),
+        },
+        Number::Refused(number) => Found::Refused(number),
     }
 }

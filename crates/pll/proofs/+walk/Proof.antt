@@ -5,11 +5,12 @@ use Prim.Native.Nat.{ℕ, _<_}
 use borrow.Author.Needs.{needs}
 use borrow.Fn.Kinds.{In}
 use borrow.Fn.PlainCycle.{Measures, is, falls, and}
+use Rattle.pll.proofs.Ends.{permits-between}
 use Rattle.pll.proofs.Steps.{stop-exact, stop-last, walk-on}
 use Rattle.pll.proofs.walk.Reads as walk
 use Rattle.pll.proofs.walk.Kinds as walk-kinds
 use Rattle.pll.proofs.+walk.Lts-walk as walk-lts
-use Rattle.pll.proofs.best_feedback.Reads as best
+use Rattle.pll.proofs.best_posts.Reads as best
 use Rattle.pll.proofs.lower.Reads as lower
 use Rattle.pll.proofs.+walk.{statement}
 use Rattle.pll.proofs.+walk.Tie.{close}
@@ -31,20 +32,30 @@ walk-returns : (t : ℕ) → walk-lts.Need-returns (claims t) (walk-at t) walk.P
 walk-returns t c =
     let lowered = c .before in
     rw (lowered .lower .ensures)
-    (stop-exact _ _ _ _ _ (lowered .before .best-feedback .ensures) (omega arith) (omega arith) (omega arith))
+    (stop-exact _ _ _ _ _ (lowered .before .best-posts .ensures) (omega arith) (omega arith) (omega arith))
 
 walk-returns-2 : (t : ℕ) → walk-lts.Need-returns-2 (claims t) (walk-at t) walk.Post
 walk-returns-2 t c =
     let lowered = c .before .before in
     rw (lowered .lower .ensures)
-    (stop-last _ _ _ _ _ (lowered .before .best-feedback .ensures) (omega arith) (omega arith) (omega arith))
+    (stop-last _ _ _ _ _ (lowered .before .best-posts .ensures) (omega arith)
+    _ (lowered .before .before .pre .1 .0 .2) (omega arith) (omega arith))
+
+walk-requires : (t : ℕ) → walk-lts.Need-walk-requires (claims t) (walk-at t) walk.Post
+walk-requires t c κs =
+    let asked = c .before .before .before .before .pre .1 in
+    let here = asked .0 .1 in
+    let low = asked .0 .2 in (
+      omega arith,
+      ((asked .0 .0, permits-between _ _ _ _ (low .one) here (omega arith) (omega arith), low), omega arith),
+    )
 
 walk-returns-3 : (t : ℕ) → walk-lts.Need-returns-3 (claims t) (walk-at t) walk.Post
 walk-returns-3 t c =
     let lowered = c .before .before .before in
-    walk-on _ _ _ _ _ (lowered .before .best-feedback .ensures) (omega arith) _ (rw (lowered .lower .ensures) at (c .walk .ensures))
+    walk-on _ _ _ _ _ (lowered .before .best-posts .ensures) (omega arith) _ (rw (lowered .lower .ensures) at (c .walk .ensures))
 
 pub +walk-spec : {M : Type 1} → statement M
 +walk-spec = close μ-walk λ t. walk-lts.spec (claims t) (walk-at t) walk.Post
-    (λ c κs. search needs) (λ c κs. search needs) (walk-returns t) (λ c. search needs) (walk-returns-2 t)
-    (λ c. search needs) (λ c κs. search needs) (walk-returns-3 t)
+    (λ c κs. search needs) (λ c κs. search needs) (walk-returns t) (walk-returns-2 t)
+    (λ c. search needs) (walk-requires t) (walk-returns-3 t)
