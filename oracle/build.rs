@@ -16,6 +16,11 @@ const CUTS: [(&str, Option<&str>); 2] = [
     ("RANDOMBIT", None),
 ];
 
+/// Dormant sleep stands alone: from the line with the first text up to the one with the second, which powers down
+/// memory and enters dormant mode. This stands there instead.
+const SLEEP: (&str, &str) = ("pub fn dormant_sleep()", "only power down memory if");
+const ASLEEP: &str = "    crate::sleep::asleep();\n}\n";
+
 /// The line with the first text becomes the second one.
 const CLOCKS_USES: [(&str, &str); 6] = [
     ("use core::arch", ""),
@@ -51,9 +56,26 @@ fn folder() -> Result<PathBuf, String> {
 
 fn prepare_all(folder: &Path, out: &Path) -> Result<(), String> {
     prepare(&folder.join("src/clocks.rs"), &CUTS, &CLOCKS_USES, &out.join("clocks.rs"))?;
+    take_sleep(&folder.join("src/clocks.rs"), &out.join("sleep.rs"))?;
     prepare(&folder.join("src/reset.rs"), &[], &[], &out.join("reset.rs"))?;
     let divider = folder.join("src/pio_programs/clock_divider.rs");
     prepare(&divider, &[], &DIVIDER_USES, &out.join("clock_divider.rs"))
+}
+
+fn take_sleep(path: &Path, out: &Path) -> Result<(), String> {
+    let text = read(path)?;
+    let lines: Vec<&str> = text.lines().collect();
+    let (start, end) = (only(&lines, SLEEP.0, path)?, only(&lines, SLEEP.1, path)?);
+    write(out, &(lines[start..end].join("\n") + "\n" + ASLEEP))
+}
+
+fn read(path: &Path) -> Result<String, String> {
+    println!("cargo::rerun-if-changed={}", path.display());
+    fs::read_to_string(path).map_err(|why| format!("{}: {why}", path.display()))
+}
+
+fn write(path: &Path, text: &str) -> Result<(), String> {
+    fs::write(path, text).map_err(|why| format!("{}: {why}", path.display()))
 }
 
 fn prepare(
@@ -62,8 +84,7 @@ fn prepare(
     uses: &[(&str, &str)],
     out: &Path,
 ) -> Result<(), String> {
-    println!("cargo::rerun-if-changed={}", path.display());
-    let text = fs::read_to_string(path).map_err(|why| format!("{}: {why}", path.display()))?;
+    let text = read(path)?;
     // A file that is included has no inner documentation.
     let mut lines: Vec<&str> = text.lines().filter(|line| !line.starts_with("//!")).collect();
     for (first, next) in cuts {
@@ -75,7 +96,7 @@ fn prepare(
         let at = only(&lines, old, path)?;
         lines[at] = new;
     }
-    fs::write(out, lines.join("\n") + "\n").map_err(|why| format!("{}: {why}", out.display()))
+    write(out, &(lines.join("\n") + "\n"))
 }
 
 /// The number of the one line with this text in it.

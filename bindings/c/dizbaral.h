@@ -3,7 +3,7 @@
  * Every function is total: it answers every input, and its answer is one number.
  *   below DIZBARAL_REFUSAL   the value, as each function says
  *   DIZBARAL_REFUSAL + n     refusal n of docs/FORMAT.md
- *   DIZBARAL_MALFORMED       the numbers given are of no plan or of no runner
+ *   DIZBARAL_MALFORMED       the numbers given are of no plan, no runner or no slots
  *   from DIZBARAL_STEP on    (dizbaral_run only) the word of a step
  * After a refusal or DIZBARAL_MALFORMED all that was lent is as it was before, but for the lock timeout of
  * dizbaral_run.
@@ -29,6 +29,12 @@
 
 /* A sheet has at most this many bytes. */
 #define DIZBARAL_SHEET_BYTES 520
+
+/* What a step of a sleep or a wake waits for. */
+#define DIZBARAL_RING_STABLE 11
+#define DIZBARAL_CRYSTAL_STABLE 12
+#define DIZBARAL_SYS_LOCK 13
+#define DIZBARAL_USB_LOCK 14
 
 #ifdef __cplusplus
 extern "C" {
@@ -82,6 +88,16 @@ uint64_t dizbaral_run(uint32_t runner[14], const uint8_t *sheet, size_t length, 
  * at most this many calls of dizbaral_run come before the first that answers DIZBARAL_DONE, and none is refused.
  * 65 + 10 * k. From 1000000 on a lock may time out, and the answer is 4294967295. */
 uint32_t dizbaral_longest_wait(uint32_t k);
+
+/* Sleep (docs/SLEEP.md): saves the eleven register words in a slot from 0 to 3, and makes them the words of the sleeping
+ * chip. The four slots are 48 numbers, a flag (1 where it is saved, else 0; any other is malformed) and eleven words
+ * each; with nothing saved they are zeros. The steps are written as two numbers each: a register and the value to be
+ * written to it, or one of the waits below and 0. How many numbers of steps were written; those past them keep their
+ * values. Refusal 29. */
+uint64_t dizbaral_sleep(uint32_t slots[48], uint8_t slot, uint32_t words[11], uint32_t steps[28]);
+
+/* Wake: the same, and makes the words those of the last sleep in the slot, which keeps them. Refusals 29, 30. */
+uint64_t dizbaral_wake(uint32_t slots[48], uint8_t slot, uint32_t words[11], uint32_t steps[28]);
 
 #ifdef __cplusplus
 }

@@ -12,6 +12,7 @@ use crate::pio_programs::clock_divider::calculate_pio_clock_divider_value;
 use crate::plan::{self, pll};
 use crate::recorder::{self, Record};
 use crate::rules;
+use crate::sleep;
 use crate::standins::Peri;
 use crate::steps::Step;
 
@@ -93,6 +94,7 @@ pub fn answer(case: &Case) -> Answer {
         Kind::Manual => sheet(n[0], || ClockConfig::manual_pll(n[2], pll(&n[3..7]), plan::voltage(n[7]))),
         Kind::List => Answer::Ruled(rules::list(n[0], n[1], n[2] as usize)),
         Kind::Run => Answer::NoCounterpart,
+        Kind::Sleep | Kind::Wake => sleep::answer(case.kind, n),
     }
 }
 

@@ -17,6 +17,8 @@ pub enum Kind {
     SystemFrom,
     Manual,
     Run,
+    Sleep,
+    Wake,
 }
 
 /// A case with its numbers in the order of the text.
@@ -51,7 +53,7 @@ pub const U16: Fits = UpTo(u16::MAX as u32);
 pub const U32: Fits = UpTo(u32::MAX);
 pub const ROOM: Fits = UpTo(1024);
 
-pub const KINDS: [(&str, Kind); 15] = [
+pub const KINDS: [(&str, Kind); 17] = [
     ("valid", Kind::Valid),
     ("output", Kind::Output),
     ("search", Kind::Search),
@@ -67,6 +69,8 @@ pub const KINDS: [(&str, Kind); 15] = [
     ("system_from", Kind::SystemFrom),
     ("manual", Kind::Manual),
     ("run", Kind::Run),
+    ("sleep", Kind::Sleep),
+    ("wake", Kind::Wake),
 ];
 
 impl Kind {
@@ -83,9 +87,22 @@ impl Kind {
             Kind::SystemFrom => &[U8, ROOM, U32, U32],
             Kind::Manual => &[U8, ROOM, U32, U8, U16, U8, U8, Code],
             Kind::Run => &[],
+            Kind::Sleep | Kind::Wake => &SLEEP_NUMBERS,
         }
     }
 }
+
+/// The slot, eleven words, and four slots with a flag and eleven words each.
+const SLEEP_NUMBERS: [Fits; 60] = {
+    let mut numbers = [U32; 60];
+    numbers[0] = U8;
+    let mut flag = 12;
+    while flag < 60 {
+        numbers[flag] = FLAG;
+        flag += 12;
+    }
+    numbers
+};
 
 /// A plan's place in the numbers of a `sheet` case.
 pub const PLAN: usize = 2;

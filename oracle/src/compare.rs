@@ -37,6 +37,8 @@ pub enum Class {
     GpoutWhole0,
     /// The search refuses a reference under the datasheet's minimum.
     UnderMinimum,
+    /// An enable code that is none: the crystal counts as running.
+    CrystalCode,
 }
 
 impl Class {
@@ -57,6 +59,9 @@ impl Class {
             Class::PioShift => "PIO value, the Rust's shifts lose bits".to_string(),
             Class::GpoutWhole0 => "Gpout whole part 0 is 65536, the Rust takes 65535".to_string(),
             Class::UnderMinimum => "refused 15, reference under 5 MHz: the Rust has no minimum".to_string(),
+            Class::CrystalCode => {
+                "a crystal whose enable code is none runs, for the Rust it is off".to_string()
+            }
         }
     }
 }
@@ -82,6 +87,9 @@ pub fn class(case: &Case, rust: &Answer, ours: &str) -> Option<Class> {
         (Answer::Says(_), _) if under_minimum(case) => (refused == Some(15)).then_some(Class::UnderMinimum),
         (Answer::Unknown(_) | Answer::NoCounterpart, _) => None,
         _ if rust.to_string() != ours => None,
+        (Answer::Ruled(_), None) if [Kind::Sleep, Kind::Wake].contains(&case.kind) => {
+            Some(Class::CrystalCode)
+        }
         (Answer::Ruled(_), _) => Some(Class::SameByRule(case.word())),
         (Answer::Settled(_), _) => Some(Class::SameSettling),
         _ if ring_divider(case) => Some(Class::SameRingDivider),

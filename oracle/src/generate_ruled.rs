@@ -5,6 +5,7 @@ use crate::case::{Case, Kind};
 use crate::generate;
 use crate::limits;
 use crate::random::Random;
+use crate::sleep::cases as sleep;
 
 pub fn limits() -> Vec<Case> {
     let mut cases = Vec::new();
@@ -15,12 +16,14 @@ pub fn limits() -> Vec<Case> {
     }
     // 8 settings, up to a buffer that is just long enough.
     cases.extend((0..=17).map(|room| Case::new(Kind::List, &[12_000_000, 48_000_000, room])));
+    cases.extend(sleep::limits());
     cases
 }
 
 pub fn case(r: &mut Random) -> Case {
-    let (kind, numbers) = match r.between(0, 1) {
+    let (kind, numbers) = match r.between(0, 2) {
         0 => (Kind::List, list(r)),
+        1 => sleep::random(r),
         _ => (Kind::SystemFrom, generate::with_buffer(r, system_from)),
     };
     Case { kind, numbers }

@@ -16,7 +16,10 @@ mod random;
 mod random_plan;
 mod recorder;
 mod replay;
+#[cfg(test)]
+mod request_tests;
 mod rules;
+mod sleep;
 mod standins;
 mod steps;
 #[cfg(test)]

@@ -2,9 +2,12 @@
 #![no_std]
 
 pub mod raw;
+mod sleep;
 
 use core::error::Error;
 use core::fmt::{self, Display, Formatter};
+
+pub use sleep::{SleepStep, SleepSteps, Slots};
 
 /// The README's examples run as tests.
 #[cfg(doctest)]

@@ -32,10 +32,22 @@ unsafe extern "C" {
     pub fn dizbaral_list(input_hz: u32, target_hz: u32, list: *mut u8, length: usize) -> u64;
     pub fn dizbaral_run(runner: *mut [u32; 14], sheet: *const u8, length: usize, ready: bool) -> u64;
     pub fn dizbaral_longest_wait(k: u32) -> u32;
+    pub fn dizbaral_sleep(
+        slots: *mut [u32; 48],
+        slot: u8,
+        words: *mut [u32; 11],
+        steps: *mut [u32; 28],
+    ) -> u64;
+    pub fn dizbaral_wake(
+        slots: *mut [u32; 48],
+        slot: u8,
+        words: *mut [u32; 11],
+        steps: *mut [u32; 28],
+    ) -> u64;
 }
 
 /// Refusal n is this and n.
 pub const REFUSAL: u64 = 1 << 48;
 
-/// The numbers given are of no plan or of no runner.
+/// The numbers given are of no plan, no runner or no slots.
 pub const MALFORMED: u64 = 1 << 49;

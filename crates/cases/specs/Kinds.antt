@@ -1,6 +1,6 @@
 -- The kinds of cases, a row for each: its name, the greatest value of each of its numbers, and its answer.
 -- Assumes nothing.
-use mathlib.Core.List.{List, [], _∷_}
+use mathlib.Core.List.{List, [], _∷_, _++_}
 use Prim.Native.Nat.{ℕ}
 use Prim.Native.String.{String}
 use lib.ListN.{replicate}
@@ -13,6 +13,7 @@ use Rattle.number_cases.specs.Numbers.{validText, outputText, searchText, volta
 use Rattle.sheet_cases.specs.Sheets.{crystalText, roscText, defaultText, systemText, systemFromText}
 use Rattle.sheet_cases.specs.Sheets.{manualText, planSheetText}
 use Rattle.run_cases.specs.Runs.{runText}
+use Rattle.sleep_cases.specs.Sleeps.{sleepText, wakeText}
 use Rattle.cases.specs.Lists.{listText}
 use Rattle.cases.specs.declared.Kind.{Kind}
 use Rattle.cases.specs.declared.Kind.the-variants.{
@@ -31,6 +32,8 @@ use Rattle.cases.specs.declared.Kind.the-variants.{
   SystemFrom,
   Manual,
   Run,
+  Sleep,
+  Wake,
   Unknown,
 }
 
@@ -54,6 +57,13 @@ worded name limits text =
 -- any other name
 abbrev pub nameless : Row
 nameless = record { name = []; fields = λ tail. noNumber; text = λ n word. badCase }
+
+-- a slot's flag and its eleven words
+abbrev pub slotLimits : List ℕ
+slotLimits = 1 ∷ replicate 11 u32
+
+abbrev pub sleepLimits : List ℕ
+sleepLimits = (u8 ∷ replicate 11 u32) ++ (slotLimits ++ (slotLimits ++ (slotLimits ++ slotLimits)))
 
 abbrev pub rowOf : Kind → Row
 -- INPUT REFDIV FBDIV POST1 POST2
@@ -87,12 +97,15 @@ rowOf Run =
     worded "run"
     (u32 ∷ u32 ∷ u32 ∷ 1 ∷ u32 ∷ u32 ∷ u32 ∷ u32 ∷ u32 ∷ u32 ∷ u32 ∷ u32 ∷ u32 ∷ u32 ∷ 1 ∷ [])
     runText
+-- SLOT W0 to W10, then four slots
+rowOf Sleep = plain "sleep" sleepLimits sleepText
+rowOf Wake = plain "wake" sleepLimits wakeText
 rowOf Unknown = nameless
 
 abbrev pub kinds : List Kind
 kinds =
     Valid ∷ Output ∷ Search ∷ Settings ∷ Voltage ∷ Pio ∷ Gpout
-    ∷ Sheet ∷ Crystal ∷ Rosc ∷ Default ∷ System ∷ SystemFrom ∷ Manual ∷ Run ∷ []
+    ∷ Sheet ∷ Crystal ∷ Rosc ∷ Default ∷ System ∷ SystemFrom ∷ Manual ∷ Run ∷ Sleep ∷ Wake ∷ []
 
 abbrev pub firstNamed : List ℕ → List Kind → Kind
 firstNamed name [] = Unknown

@@ -5,8 +5,8 @@ use fields::read_all;
 ghost use mathlib.Core.Path.{_≡_};
 ghost use Rattle.base.specs.Choice.{pick};
 ghost use Rattle.text.specs.Ascii.{same};
-ghost use Rattle.fields.specs.Fields.{tailAt, Reading};
-ghost use Rattle.cases.specs.Kinds.{rowOf, kindNamed};
+ghost use Rattle.fields.specs.Fields.{tailAt, numbersOnly, Reading};
+ghost use Rattle.cases.specs.Kinds.{sleepLimits, rowOf, kindNamed};
 
 const U8: u32 = 255;
 
@@ -30,7 +30,9 @@ fn where_named(name: &[u8], word: &[u8], kind: Kind, other: Kind) -> Kind
 pub(crate) fn named(name: &[u8]) -> Kind
     ensures { λ r. ⌜ r ≡ kindNamed (now (name .entry)) ⌝ }
 {
-    let from_run = where_named(name, b"run", Kind::Run, Kind::Unknown);
+    let from_wake = where_named(name, b"wake", Kind::Wake, Kind::Unknown);
+    let from_sleep = where_named(name, b"sleep", Kind::Sleep, from_wake);
+    let from_run = where_named(name, b"run", Kind::Run, from_sleep);
     let from_manual = where_named(name, b"manual", Kind::Manual, from_run);
     let from_system_from = where_named(name, b"system_from", Kind::SystemFrom, from_manual);
     let from_system = where_named(name, b"system", Kind::System, from_system_from);
@@ -45,6 +47,19 @@ pub(crate) fn named(name: &[u8]) -> Kind
     let from_search = where_named(name, b"search", Kind::Search, from_list);
     let from_output = where_named(name, b"output", Kind::Output, from_search);
     where_named(name, b"valid", Kind::Valid, from_output)
+}
+
+// Reads a slot, eleven words, and four slots of a flag and eleven words each.
+fn read_sleep(line: &[u8], at: usize, n: &mut [u32; 64]) -> Rest
+    ensures { λ r. ⌜ Reading (numbersOnly sleepLimits (tailAt (now (line .entry)) at)) (now (line .entry)) at (now (n .entry)) r (now (n .exit)) ⌝ }
+{
+    let mut limits = [U32; 60];
+    limits[0] = U8;
+    limits[12] = 1;
+    limits[24] = 1;
+    limits[36] = 1;
+    limits[48] = 1;
+    read_all(line, at, &limits, n)
 }
 
 // Reads the numbers of a kind, which stand behind the word that ends at `at`.
@@ -82,6 +97,8 @@ pub(crate) fn read(kind: Kind, line: &[u8], at: usize, n: &mut [u32; 64]) -> Res
             limits[14] = 1;
             fields::read(line, at, &limits, n)
         }
+        Kind::Sleep => read_sleep(line, at, n),
+        Kind::Wake => read_sleep(line, at, n),
         Kind::Unknown => Rest::Bad,
     }
 }

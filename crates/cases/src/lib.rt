@@ -24,6 +24,8 @@ pub enum Kind {
     SystemFrom,
     Manual,
     Run,
+    Sleep,
+    Wake,
     Unknown,
 }
 
@@ -47,6 +49,8 @@ fn put_case(kind: Kind, n: &[u32; 64], word: &[u8], out: &mut [u8]) -> usize
         Kind::SystemFrom => sheet_cases::put_system_from(n, out),
         Kind::Manual => sheet_cases::put_manual(n, out),
         Kind::Run => run_cases::put_run(n, word, out),
+        Kind::Sleep => sleep_cases::put_sleep(n, out),
+        Kind::Wake => sleep_cases::put_wake(n, out),
         Kind::Unknown => replies::put_bad(out),
     }
 }

@@ -4,3 +4,4 @@ pub mod Numbers
 pub mod Sheet
 pub mod Demand3
 pub mod Run
+pub mod Slots

@@ -1,6 +1,7 @@
 // The product for programs in C and Rust: numbers and slices alone. Each answer is one number, by specs/Numbers.
 mod numbers;
 mod run;
+mod slots;
 
 use config::ClockConfig;
 use config::Planned;
@@ -19,7 +20,9 @@ ghost use Rattle.up.specs.ComesUp.{longestWait};
 ghost use Rattle.plan_numbers.specs.Plan.{planOf};
 ghost use Rattle.export.specs.Numbers.{answerNumber, itself, settingNumber, voltageNumber, dividersAre};
 ghost use Rattle.export.specs.Sheet.{SheetCall, PlanSheetCall};
+ghost use Rattle.sleep.specs.Sleep.{sleepOf, wakeOf};
 ghost use Rattle.export.specs.Run.{runNumber, runLeaves};
+ghost use Rattle.export.specs.Slots.{askedWith, SlotsCall};
 
 #[no_mangle]
 pub extern "C" fn dizbaral_search(input_hz: u32, target_hz: u32) -> u64
@@ -165,4 +168,38 @@ pub extern "C" fn dizbaral_longest_wait(k: u32) -> u32
     ensures { λ r. ⌜ r ≡ longestWait k ⌝ }
 {
     up::longest_wait(k)
+}
+
+#[no_mangle]
+pub extern "C" fn dizbaral_sleep(
+    slots: &mut [u32; 48],
+    slot: u8,
+    words: &mut [u32; 11],
+    steps: &mut [u32; 28],
+) -> u64
+    ensures { λ r. ⌜ SlotsCall (askedWith sleepOf (now (slots .entry)) slot (now (words .entry))) (now (slots .entry)) (now (words .entry)) (now (steps .entry)) r (now (slots .exit)) (now (words .exit)) (now (steps .exit)) ⌝ }
+{
+    if slots::are_slots(slots) {
+        let held = sleep_numbers::slots_at(slots, 0);
+        let handed = sleep_numbers::words_at(words, 0);
+        return slots::leave(sleep::sleep(held, slot, handed), slots, words, steps);
+    }
+    numbers::MALFORMED
+}
+
+#[no_mangle]
+pub extern "C" fn dizbaral_wake(
+    slots: &mut [u32; 48],
+    slot: u8,
+    words: &mut [u32; 11],
+    steps: &mut [u32; 28],
+) -> u64
+    ensures { λ r. ⌜ SlotsCall (askedWith wakeOf (now (slots .entry)) slot (now (words .entry))) (now (slots .entry)) (now (words .entry)) (now (steps .entry)) r (now (slots .exit)) (now (words .exit)) (now (steps .exit)) ⌝ }
+{
+    if slots::are_slots(slots) {
+        let held = sleep_numbers::slots_at(slots, 0);
+        let handed = sleep_numbers::words_at(words, 0);
+        return slots::leave(sleep::wake(held, slot, handed), slots, words, steps);
+    }
+    numbers::MALFORMED
 }

@@ -10,7 +10,7 @@ ghost use Rattle.export.specs.Numbers.{answerNumber, itself, settingNumb
 
 const REFUSAL: u64 = 1 << 48;
 
-// The numbers given are of no plan or of no runner.
+// The numbers given are of no plan, no runner or no slots.
 pub const MALFORMED: u64 = 1 << 49;
 
 // A refusal by its number.

@@ -179,6 +179,16 @@ registers! {
     XoscStatus {
         stable set_stable: bool, 31, 1, Unknown;
     }
+    // Dormant sleep: status of ring and crystal, the ring divider as the datasheet has it, XIP_CTRL
+    OscStatus {
+        stable set_stable: bool, 31, 1, Unknown;
+    }
+    RoscDiv12 {
+        div set_div: rosc::Div, 0, 12, Unknown;
+    }
+    XipCtrl {
+        power_down set_power_down: bool, 3, 1, Unknown;
+    }
     // VREG_AND_CHIP_RESET
     Vreg {
         vsel set_vsel: u8, 4, 4, Unknown;

@@ -135,7 +135,7 @@ pub mod xosc {
 
     codes! {
         CtrlFreqRange { _1_15MHZ = 0xaa0, }
-        Enable { ENABLE = 0xfab, }
+        Enable { ENABLE = 0xfab, DISABLE = 0xd1e, }
     }
 }
 

@@ -14,6 +14,8 @@ use Rattle.cases.specs.declared.Kind.the-variants.{
   System,
   SystemFrom,
   Manual,
+  Run,
+  Sleep,
 }
 use Rattle.cases.proofs.Named.{or-named}
 use borrow.Author.Needs.{needs}
@@ -22,7 +24,8 @@ use Rattle.cases.proofs.kinds.named.Tie as tie
 
 returns : tie.Need-returns
 returns c =
-    let where-named14 = c .before .before in let where-named13 = where-named14 .before .before in
+    let where-named16 = c .before .before in let where-named15 = where-named16 .before .before in
+    let where-named14 = where-named15 .before .before in let where-named13 = where-named14 .before .before in
     let where-named12 = where-named13 .before .before in let where-named11 = where-named12 .before .before in
     let where-named10 = where-named11 .before .before in let where-named9 = where-named10 .before .before in
     let where-named8 = where-named9 .before .before in let where-named7 = where-named8 .before .before in
@@ -31,30 +34,32 @@ returns c =
     let where-named2 = where-named3 .before .before in let where-named = where-named2 .before .before in
     let start = where-named .before .before .before in
     let name = start .args .name .now in
-    or-named name Valid (c .where-named15 .ensures)
-    (or-named name Output (where-named14 .where-named14 .ensures)
-    (or-named name Search (where-named13 .where-named13 .ensures)
-    (or-named name Settings (where-named12 .where-named12 .ensures)
-    (or-named name Voltage (where-named11 .where-named11 .ensures)
-    (or-named name Pio (where-named10 .where-named10 .ensures)
-    (or-named name Gpout (where-named9 .where-named9 .ensures)
-    (or-named name Sheet (where-named8 .where-named8 .ensures)
-    (or-named name Crystal (where-named7 .where-named7 .ensures)
-    (or-named name Rosc (where-named6 .where-named6 .ensures)
-    (or-named name Default (where-named5 .where-named5 .ensures)
-    (or-named name System (where-named4 .where-named4 .ensures)
-    (or-named name SystemFrom (where-named3 .where-named3 .ensures)
-    (or-named name Manual (where-named2 .where-named2 .ensures)
-    (where-named .where-named .ensures))))))))))))))
+    or-named name Valid (c .where-named17 .ensures)
+    (or-named name Output (where-named16 .where-named16 .ensures)
+    (or-named name Search (where-named15 .where-named15 .ensures)
+    (or-named name Settings (where-named14 .where-named14 .ensures)
+    (or-named name Voltage (where-named13 .where-named13 .ensures)
+    (or-named name Pio (where-named12 .where-named12 .ensures)
+    (or-named name Gpout (where-named11 .where-named11 .ensures)
+    (or-named name Sheet (where-named10 .where-named10 .ensures)
+    (or-named name Crystal (where-named9 .where-named9 .ensures)
+    (or-named name Rosc (where-named8 .where-named8 .ensures)
+    (or-named name Default (where-named7 .where-named7 .ensures)
+    (or-named name System (where-named6 .where-named6 .ensures)
+    (or-named name SystemFrom (where-named5 .where-named5 .ensures)
+    (or-named name Manual (where-named4 .where-named4 .ensures)
+    (or-named name Run (where-named3 .where-named3 .ensures)
+    (or-named name Sleep (where-named2 .where-named2 .ensures)
+    (where-named .where-named .ensures))))))))))))))))
 
 pub named-spec : {M : Type 1} → statement M
 named-spec =
     tie.close
     (tie.spec (λ c. search needs) (λ c κs. search needs) (λ c. search needs) (λ c κs. search needs)
     (λ c. search needs) (λ c κs. search needs) (λ c. search needs) (λ c κs. search needs) (λ c. search needs)
-    (λ c κs. search needs) (λ c. search needs) (λ c κs. search needs) (λ c. search needs)
-    (λ c κs. search needs) (λ c. search needs) (λ c κs. search needs) (λ c. search needs)
-    (λ c κs. search needs) (λ c. search needs) (λ c κs. search needs) (λ c. search needs)
-    (λ c κs. search needs) (λ c. search needs) (λ c κs. search needs) (λ c. search needs)
-    (λ c κs. search needs) (λ c. search needs) (λ c κs. search needs) (λ c. search needs)
-    (λ c κs. search needs) returns)
+    (λ c κs. search needs) (λ c. search needs) (λ c κs. search needs) (λ c. search needs) (λ c κs. search needs)
+    (λ c. search needs) (λ c κs. search needs) (λ c. search needs) (λ c κs. search needs) (λ c. search needs)
+    (λ c κs. search needs) (λ c. search needs) (λ c κs. search needs) (λ c. search needs) (λ c κs. search needs)
+    (λ c. search needs) (λ c κs. search needs) (λ c. search needs) (λ c κs. search needs) (λ c. search needs)
+    (λ c κs. search needs) (λ c. search needs) (λ c κs. search needs) (λ c. search needs) (λ c κs. search needs)
+    returns)

@@ -1,0 +1,4 @@
+pub mod Words
+pub mod Gathered
+pub mod Replay
+pub mod History

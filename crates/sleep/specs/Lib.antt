@@ -1,0 +1,5 @@
+pub mod Bits
+pub mod Words
+pub mod Sleep
+pub mod Inside
+pub mod History

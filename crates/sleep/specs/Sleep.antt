@@ -1,0 +1,107 @@
+-- What sleep and wake answer, and the words and slots after them.
+-- Assumes nothing.
+use Prim.Native.Nat.{ℕ, zero, suc, min}
+use mathlib.Core.Bool.{Bool, true, false}
+use mathlib.Core.List.{List, [], _∷_, _++_}
+use lib.Dec.{ltb}
+use lib.ListN.{getD, set, replicate}
+use Rattle.base.specs.Answer.{Answer, value, refusal}
+use Rattle.base.specs.Choice.{pick}
+use Rattle.sleep.specs.declared.steps.Step.{Step}
+use Rattle.sleep.specs.declared.steps.Step.the-variants.{Write, RingStable, CrystalStable, Locked}
+use Rattle.sleep.specs.declared.steps.Item.{Item}
+use Rattle.sleep.specs.declared.steps.Steps.{Steps}
+use Rattle.sleep.specs.declared.Slot.{Slot}
+use Rattle.sleep.specs.declared.Answer.{Answer as Answered}
+use Rattle.sleep.specs.declared.Answer.the-variants.{Done, Refused}
+use Rattle.sleep.specs.declared.Change.{Change}
+use Rattle.sleep.specs.Bits.{pllRuns, crystalRuns}
+use Rattle.sleep.specs.Words.{word, asleep}
+
+-- a call: its steps or a refusal, and the words and slots after it
+pub record Outcome : Type 0 where
+  pub answer : Answer (List Step)
+  pub words : List ℕ
+  pub slots : List Slot
+
+-- ---- what the code's answer means
+
+-- the first n items
+abbrev pub firstSteps : List Item → ℕ → List Step
+firstSteps items zero = []
+firstSteps items (suc n) = firstSteps items n ++ (getD items n (record { step = Write 0 0 }) .step ∷ [])
+
+-- there are fourteen
+abbrev pub stepsOf : Steps → List Step
+stepsOf s = firstSteps (s .items) (min (s .len) 14)
+
+abbrev pub answerIs : Answered → List Step → Answer (List Step)
+answerIs Done steps = value steps
+answerIs (Refused n) steps = refusal n
+
+abbrev pub changeIs : Change → Outcome
+changeIs c = record { answer = answerIs (c .answer) (stepsOf (c .steps)); words = c .words; slots = c .slots }
+
+-- ---- the steps, to the words ws
+
+abbrev pub write : List ℕ → ℕ → Step
+write ws i = Write i (word ws i)
+
+-- to sleep: from the first register to the last; the ring is stable before anything runs from it
+unfoldable pub sleepSteps : List ℕ → List Step
+sleepSteps ws =
+    write ws 0 ∷ write ws 1 ∷ write ws 2 ∷ write ws 3 ∷ write ws 4 ∷ RingStable
+    ∷ write ws 5 ∷ write ws 6 ∷ write ws 7 ∷ write ws 8 ∷ write ws 9 ∷ write ws 10 ∷ []
+
+-- a wait, where there is something to wait for
+abbrev pub waitIf : Bool → Step → List Step
+waitIf running wait = pick running (wait ∷ []) []
+
+-- back: from the last register to the first, but ring control (3) before ring divider (4)
+unfoldable pub wakeStepsBy : List ℕ → Bool → Bool → Bool → List Step
+wakeStepsBy ws crystal usb sys =
+    write ws 10
+    ∷ write ws 9 ∷ (waitIf crystal CrystalStable
+    ++ (write ws 8 ∷ (waitIf usb (Locked 1)
+    ++ (write ws 7 ∷ (waitIf sys (Locked 0)
+    ++ (write ws 6 ∷ write ws 5 ∷ write ws 3 ∷ write ws 4 ∷ write ws 2 ∷ write ws 1 ∷ write ws 0 ∷ []))))))
+
+-- what was running is waited for, and nothing else
+abbrev pub wakeSteps : List ℕ → List Step
+wakeSteps ws = wakeStepsBy ws (crystalRuns (word ws 9)) (pllRuns (word ws 8)) (pllRuns (word ws 7))
+
+-- ---- the calls, with the four slots, a slot's number and the words handed in
+
+abbrev pub unsaved : Slot
+unsaved = record { saved = false; words = replicate 11 0 }
+
+abbrev pub saved : List ℕ → Slot
+saved ws = record { saved = true; words = ws }
+
+abbrev pub fresh : List Slot
+fresh = replicate 4 unsaved
+
+-- past the last slot there is nothing
+abbrev pub slotAt : List Slot → ℕ → Slot
+slotAt slots i = getD slots i (record { saved = false; words = [] })
+
+-- a refusal changes nothing
+abbrev pub refused : List Slot → List ℕ → ℕ → Outcome
+refused slots ws n = record { answer = refusal n; words = ws; slots = slots }
+
+abbrev pub slept : List Slot → ℕ → List ℕ → Outcome
+slept slots slot ws =
+    record { answer = value (sleepSteps (asleep ws)); words = asleep ws; slots = set slots slot (saved ws) }
+
+unfoldable pub sleepOf : List Slot → ℕ → List ℕ → Outcome
+sleepOf slots slot ws = pick (ltb 3 slot) (refused slots ws 29) (slept slots slot ws)
+
+-- the words saved come back, and stay saved
+abbrev pub woken : List Slot → List ℕ → Outcome
+woken slots ws = record { answer = value (wakeSteps ws); words = ws; slots = slots }
+
+abbrev pub wokenFrom : List Slot → Slot → List ℕ → Outcome
+wokenFrom slots held ws = pick (held .saved) (woken slots (held .words)) (refused slots ws 30)
+
+unfoldable pub wakeOf : List Slot → ℕ → List ℕ → Outcome
+wakeOf slots slot ws = pick (ltb 3 slot) (refused slots ws 29) (wokenFrom slots (slotAt slots slot) ws)

@@ -1,0 +1,50 @@
+//! What the requests add: the port's own rules, and the Rust's pieces put together anew.
+
+use crate::answer::{answer, answer_line};
+use crate::case::Case;
+use crate::compare::{Class, class};
+
+fn word_in(text: &str, at: usize) -> &str {
+    text.split(" / ").nth(at).unwrap()
+}
+
+/// A board with both PLLs and the crystal on, and nothing saved.
+const AWAKE: &str = "2048 2048 2048 16433060 2720 2 1 0 0 16431776 3";
+const NOTHING: &str = "0 0 0 0 0 0 0 0 0 0 0 0";
+
+#[test]
+fn a_wake_gives_back_what_slept() {
+    let slept = answer_line(&format!("sleep 2 {AWAKE} {NOTHING} {NOTHING} {NOTHING} {NOTHING}"));
+    assert_eq!(word_in(&slept, 0), "0 0 0 16433060 2720 0 0 33 33 13757088 11");
+    let steps = "w0=0 w1=0 w2=0 w3=16433060 w4=2720 ring w5=0 w6=0 w7=33 w8=33 w9=13757088 w10=11";
+    assert_eq!(word_in(&slept, 1), steps);
+    let slots = word_in(&slept, 2);
+    assert_eq!(slots, format!("{NOTHING} {NOTHING} 1 {AWAKE} {NOTHING}"));
+    let woken = answer_line(&format!("wake 2 1 2 3 4 5 6 7 8 9 10 11 {slots}"));
+    let steps = "w10=3 w9=16431776 crystal w8=0 lock1 w7=0 lock0 w6=1 w5=2 w3=16433060 w4=2720 w2=2048 w1=2048 w0=2048";
+    assert_eq!(woken, format!("{AWAKE} / {steps} / {slots}"));
+    assert_eq!(answer_line(&format!("wake 1 {AWAKE} {slots}")), "refused 30");
+    assert_eq!(answer_line(&format!("wake 4 {AWAKE} {slots}")), "refused 29");
+    assert_eq!(answer_line(&format!("sleep 4 {AWAKE} {slots}")), "refused 29");
+}
+
+#[test]
+fn only_what_ran_is_waited_for() {
+    // PLL power: PD alone, VCOPD alone; the crystal off.
+    let slots = format!("1 0 0 0 0 0 0 0 1 32 {} 0 {NOTHING} {NOTHING} {NOTHING}", 0xd1e << 12);
+    let woken = answer_line(&format!("wake 0 {AWAKE} {slots}"));
+    assert!(["crystal", "lock0", "lock1"].iter().all(|wait| !woken.contains(wait)), "{woken}");
+}
+
+#[test]
+fn a_crystal_with_no_code_runs() {
+    let slots = format!("1 0 0 0 0 0 0 0 33 33 7 0 {NOTHING} {NOTHING} {NOTHING}");
+    let case = Case::parse(&format!("wake 0 {AWAKE} {slots}")).unwrap();
+    let ruled = answer(&case);
+    let ours = ruled.to_string();
+    assert!(ours.contains(" w9=7 crystal w8=33 w7=33 "), "{ours}");
+    assert_eq!(class(&case, &ruled, &ours), Some(Class::CrystalCode));
+    assert_eq!(class(&case, &ruled, &ours.replace(" crystal", "")), None);
+    let slept = answer_line(&format!("sleep 0 0 0 0 0 0 0 0 0 0 7 0 {slots}"));
+    assert!(slept.contains(&format!(" w9={} ", 0xd1e << 12 | 7)), "{slept}");
+}
