@@ -86,12 +86,43 @@ impl Inputs {
             search("search, exact hit", 0.13, &self.exact),
             search("search, no exact hit", 0.055, &self.inexact),
             search("search, random inputs", 0.055, &self.random),
+            self.lookup(),
+            self.lookup_in(),
             self.crystal_sheet(),
             self.plan_sheets(),
             self.pio(),
             self.gpout(),
             self.runner(),
         ]
+    }
+
+    /// One lookup in the 12 MHz book, beside the search with no hit.
+    fn lookup(&self) -> Line<'_> {
+        Line {
+            name: "book, one lookup",
+            goal: 0.045,
+            proved: Box::new(|| {
+                for &(_, target) in &self.inexact {
+                    black_box(unsafe { raw::dizbaral_lookup(black_box(target)) });
+                }
+            }),
+            ..search("", 0.0, &self.inexact)
+        }
+    }
+
+    /// The same in a book that is open.
+    fn lookup_in(&self) -> Line<'_> {
+        let book = dizbaral::Book::open();
+        Line {
+            name: "book, lookup in an open one",
+            goal: 0.005,
+            proved: Box::new(move || {
+                for &(_, target) in &self.inexact {
+                    let _ = black_box(black_box(&book).lookup(black_box(target)));
+                }
+            }),
+            ..search("", 0.0, &self.inexact)
+        }
     }
 
     fn crystal_sheet(&self) -> Line<'_> {
@@ -206,6 +237,11 @@ impl Inputs {
             let rust = clocks::search(input, target);
             let dividers = |c: dizbaral::PllConfig| (c.refdiv, c.fbdiv, c.post_div1, c.post_div2);
             assert_eq!(ours.map(dividers), rust.map(|c| (c.refdiv, c.fbdiv, c.post_div1, c.post_div2)));
+        }
+        let book = dizbaral::Book::open();
+        for &(input, target) in self.exact.iter().chain(&self.inexact) {
+            let found = dizbaral::find_pll_params(input, target);
+            assert_eq!((book.lookup(target), dizbaral::lookup(target)), (found, found));
         }
         let mut sheet = [0; 520];
         for numbers in &self.plans {

@@ -44,6 +44,15 @@ extern "C" {
  * reference divider << 32 | feedback divider << 16 | post divider 1 << 8 | post divider 2. Refusal 15. */
 uint64_t dizbaral_search(uint32_t input_hz, uint32_t target_hz);
 
+/* The same at 12 MHz from the book of its 1988 settings: dizbaral_lookup(hz) is dizbaral_search(12000000, hz). */
+uint64_t dizbaral_lookup(uint32_t target_hz);
+
+/* Whoever looks up more than once keeps the book: dizbaral_open_book writes it, and dizbaral_lookup_in is
+ * dizbaral_lookup in it. An entry is output in Hz * 100000 + feedback divider * 100 + post divider 1 * 10 + post
+ * divider 2, by output, those of equal outputs in the order of the search. */
+void dizbaral_open_book(uint64_t book[1988]);
+uint64_t dizbaral_lookup_in(const uint64_t book[1988], uint32_t target_hz);
+
 /* is_valid: whether the four dividers are valid for an input frequency. */
 bool dizbaral_is_valid(uint32_t input_hz, uint8_t refdiv, uint16_t fbdiv, uint8_t post_div1, uint8_t post_div2);
 

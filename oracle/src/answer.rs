@@ -2,6 +2,7 @@
 
 use std::fmt::{self, Display, Formatter};
 
+use crate::book;
 use crate::case::{Case, Kind, PLAN};
 use crate::clocks::{self, ClockConfig, Gpout, GpoutSrc};
 use crate::cuts::{self, Cuts};
@@ -68,10 +69,8 @@ pub fn answer(case: &Case) -> Answer {
             plain(&[], || answer(pll(&n[1..5]).is_valid(n[0])))
         }
         Kind::Output => plain(&[16], || says(pll(&n[1..5]).output_frequency(n[0]))),
-        Kind::Search => plain(&[], || match clocks::search(n[0], n[1]) {
-            Some(c) => Answer::Says(format!("{} {} {} {}", c.refdiv, c.fbdiv, c.post_div1, c.post_div2)),
-            None => Answer::Refused(15),
-        }),
+        Kind::Search => search(n[0], n[1]),
+        Kind::Book => search(book::INPUT, n[0]),
         Kind::Voltage => voltage(n[0]),
         Kind::Pio => {
             let value = || says(calculate_pio_clock_divider_value(n[0], n[1]).to_bits());
@@ -100,6 +99,13 @@ pub fn answer(case: &Case) -> Answer {
 
 fn says(number: u32) -> Answer {
     Answer::Says(number.to_string())
+}
+
+fn search(input: u32, target: u32) -> Answer {
+    plain(&[], || match clocks::search(input, target) {
+        Some(c) => Answer::Says(format!("{} {} {} {}", c.refdiv, c.fbdiv, c.post_div1, c.post_div2)),
+        None => Answer::Refused(15),
+    })
 }
 
 /// Runs code that touches registers, the regulator at a reading. Nothing where it panics.

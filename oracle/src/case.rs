@@ -5,6 +5,7 @@ pub enum Kind {
     Valid,
     Output,
     Search,
+    Book,
     List,
     Voltage,
     Pio,
@@ -53,10 +54,11 @@ pub const U16: Fits = UpTo(u16::MAX as u32);
 pub const U32: Fits = UpTo(u32::MAX);
 pub const ROOM: Fits = UpTo(1024);
 
-pub const KINDS: [(&str, Kind); 17] = [
+pub const KINDS: [(&str, Kind); 18] = [
     ("valid", Kind::Valid),
     ("output", Kind::Output),
     ("search", Kind::Search),
+    ("book", Kind::Book),
     ("list", Kind::List),
     ("voltage", Kind::Voltage),
     ("pio", Kind::Pio),
@@ -74,11 +76,16 @@ pub const KINDS: [(&str, Kind); 17] = [
 ];
 
 impl Kind {
+    pub fn of(word: &str) -> Option<Kind> {
+        KINDS.iter().find(|(name, _)| *name == word).map(|&(_, kind)| kind)
+    }
+
     /// The numbers before a plan; `run` is not taken apart.
     pub fn numbers(self) -> &'static [Fits] {
         match self {
             Kind::Valid | Kind::Output => &[U32, U8, U16, U8, U8],
             Kind::Search | Kind::Pio => &[U32, U32],
+            Kind::Book => &[U32],
             Kind::List => &[U32, U32, ROOM],
             Kind::Voltage => &[U8],
             Kind::Gpout => &[U8, U32, U8, U32, U32, U32, U32, U32, U32, U32, U32, U32, U32],
@@ -161,7 +168,7 @@ impl Case {
     pub fn parse(line: &str) -> Option<Case> {
         let mut words = line.split(' ');
         let word = words.next()?;
-        let kind = KINDS.iter().find(|(name, _)| *name == word)?.1;
+        let kind = Kind::of(word)?;
         if kind == Kind::Run {
             return Some(Case::new(kind, &[]));
         }

@@ -7,7 +7,6 @@ use std::process::{Command, Stdio};
 
 use crate::answer::{Answer, answer};
 use crate::case::{Case, Kind, PLAN, at};
-use crate::generate;
 use crate::rules;
 
 /// Cases a run of the program gets at once.
@@ -141,12 +140,10 @@ fn gpout_value(case: &Case) -> String {
     (n[3 + clock] as u64 * 256 / (65_536 * 256 + n[2] as u64)).to_string()
 }
 
-/// Compares, prints the counts by class, and says whether there was no finding. With a word only its cases.
-pub fn compare(seed: u64, count: usize, program: &str, word: Option<&str>) -> io::Result<bool> {
+/// Compares, prints the counts by class, and says whether there was no finding.
+pub fn compare(mut lines: impl Iterator<Item = String>, program: &str) -> io::Result<bool> {
     let mut counts: BTreeMap<Class, u64> = BTreeMap::new();
     let mut findings = 0;
-    let asked = |line: &String| word.is_none_or(|word| line.split(' ').next() == Some(word));
-    let mut lines = generate::lines(seed, usize::MAX).filter(asked).take(count);
     loop {
         let batch: Vec<String> = lines.by_ref().take(BATCH).collect();
         if batch.is_empty() {

@@ -12,6 +12,7 @@ const PAPERS: &str = concat!(
     include_str!("../../docs/PLL.md"),
     include_str!("../../docs/WORKED-SHEET.md"),
     include_str!("../../docs/CASES.md"),
+    include_str!("../../docs/PROGRAMS.md"),
 );
 
 const CLOCKS: [&str; 10] = ["rosc", "xosc", "pll_sys", "pll_usb", "ref", "sys", "peri", "usb", "adc", "rtc"];
@@ -130,6 +131,12 @@ fn the_answers_of_limits_are_right() {
             Some(case) => assert!(class(&case, &answer(&case), stored).is_some(), "{line}: {stored}"),
         }
     }
+}
+
+#[test]
+fn the_book_begins_as_shown() {
+    let shown = section("Program book").skip_while(|line| *line != "```").skip(1);
+    assert!(shown.take(3).eq(crate::book::text().lines().take(3)));
 }
 
 #[test]

@@ -6,6 +6,7 @@ use crate::generate_ruled as ruled;
 use crate::limits;
 use crate::random::Random;
 use crate::random_plan;
+use crate::sleep::cases as sleep;
 
 /// Of random cases, one in so many rests on rules of the port's own.
 const RULED: usize = 5;
@@ -13,7 +14,7 @@ const RULED: usize = 5;
 /// Lines: cases, and a few lines that are none.
 pub fn lines(seed: u64, count: usize) -> impl Iterator<Item = String> {
     let fixed = limits::all().into_iter().chain(ruled::limits()).map(|case| case.text());
-    let (mut of_rust, mut of_rules) = (random_lines(seed, case), random_lines(!seed, ruled::case));
+    let (mut of_rust, mut of_rules) = (random_lines(seed, case), random_lines(!seed, ruled_case));
     let random = (1..).map(move |at| if at % RULED == 0 { of_rules() } else { of_rust() });
     fixed.chain(random).take(count)
 }
@@ -24,38 +25,67 @@ pub fn stored_lines(seed: u64, count: usize) -> impl Iterator<Item = String> {
     fixed.chain(std::iter::repeat_with(random_lines(seed, case))).take(count)
 }
 
-fn random_lines(seed: u64, case: fn(&mut Random) -> Case) -> impl FnMut() -> String {
-    let mut random = Random::new(seed);
-    move || line(&mut random, case)
+/// Lines of one kind: its limits, then random ones.
+pub fn lines_of(kind: Kind, seed: u64, count: usize) -> impl Iterator<Item = String> {
+    let fixed = limits::all().into_iter().chain(ruled::limits()).filter(move |case| case.kind == kind);
+    let random = random_lines(seed, move |r| of_kind(r, kind));
+    fixed.map(|case| case.text()).chain(std::iter::repeat_with(random)).take(count)
 }
 
-fn line(r: &mut Random, case: fn(&mut Random) -> Case) -> String {
-    let case = case(r);
-    debug_assert!(case.well_formed());
-    if r.percent(1) { no_case(r, &case) } else { case.text() }
+fn random_lines(seed: u64, mut case: impl FnMut(&mut Random) -> Case) -> impl FnMut() -> String {
+    let mut r = Random::new(seed);
+    move || {
+        let case = case(&mut r);
+        debug_assert!(case.well_formed());
+        if r.percent(1) { no_case(&mut r, &case) } else { case.text() }
+    }
 }
 
 fn case(r: &mut Random) -> Case {
-    let (kind, numbers) = match r.between(0, 99) {
-        0..=13 => (Kind::Search, search(r)),
-        14..=22 => (Kind::Valid, setting(r)),
-        23..=30 => (Kind::Output, setting(r)),
-        31..=38 => (Kind::Pio, pio(r)),
-        39..=46 => (Kind::Gpout, gpout(r)),
-        47..=50 => (Kind::Crystal, with_buffer(r, |r| vec![random_plan::crystal_hz(r)])),
-        51..=55 => (Kind::System, with_buffer(r, |r| search(r)[1..].to_vec())),
-        56..=60 => (Kind::Manual, with_buffer(r, manual)),
-        61 => {
-            let kind = r.pick(&[Kind::Rosc, Kind::Default]);
-            (kind, with_buffer(r, |_| vec![]))
-        }
-        _ => (Kind::Sheet, with_buffer(r, random_plan::plan)),
+    let kind = match r.between(0, 99) {
+        0..=13 => Kind::Search,
+        14..=22 => Kind::Valid,
+        23..=30 => Kind::Output,
+        31..=38 => Kind::Pio,
+        39..=46 => Kind::Gpout,
+        47..=50 => Kind::Crystal,
+        51..=55 => Kind::System,
+        56..=60 => Kind::Manual,
+        61 => r.pick(&[Kind::Rosc, Kind::Default]),
+        _ => Kind::Sheet,
+    };
+    of_kind(r, kind)
+}
+
+fn ruled_case(r: &mut Random) -> Case {
+    let kind = r.pick(&ruled::KINDS);
+    of_kind(r, kind)
+}
+
+fn of_kind(r: &mut Random, kind: Kind) -> Case {
+    let numbers = match kind {
+        Kind::Valid | Kind::Output => setting(r),
+        Kind::Search => search(r),
+        Kind::Book => vec![search_target(r, 12_000_000)],
+        Kind::List => ruled::list(r),
+        Kind::Sleep | Kind::Wake => sleep::numbers(r),
+        Kind::Voltage => vec![r.between(0, 255)],
+        Kind::Pio => pio(r),
+        Kind::Gpout => gpout(r),
+        Kind::Sheet => with_buffer(r, random_plan::plan),
+        Kind::Crystal => with_buffer(r, |r| vec![random_plan::crystal_hz(r)]),
+        Kind::Rosc | Kind::Default => with_buffer(r, |_| vec![]),
+        Kind::System => with_buffer(r, |r| search(r)[1..].to_vec()),
+        Kind::SystemFrom => with_buffer(r, ruled::system_from),
+        Kind::Manual => with_buffer(r, manual),
+        // Not taken apart: no case of these is made.
+        Kind::Run => vec![],
     };
     Case { kind, numbers }
 }
 
 /// A reading and a buffer's length before the rest.
-pub fn with_buffer(r: &mut Random, rest: impl FnOnce(&mut Random) -> Vec<u32>) -> Vec<u32> {
+fn with_buffer(r: &mut Random, rest: impl FnOnce(&mut Random) -> Vec<u32>) -> Vec<u32> {
     let reading = match r.between(0, 49) {
         0..=15 => 11,
         16..=48 => r.between(0, 15),

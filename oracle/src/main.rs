@@ -1,6 +1,7 @@
 //! The published Rust of embassy-rp's clocks, run over a stand-in that records what it does.
 
 mod answer;
+mod book;
 mod case;
 mod compare;
 mod cuts;
@@ -29,6 +30,8 @@ use std::io::{self, BufRead, BufWriter, Write};
 use std::path::Path;
 use std::process::ExitCode;
 
+use case::Kind;
+
 // What the published code finds at its crate's root.
 use standins::{Peri, atomics, cortex_m, fixed, gpio, peripherals};
 
@@ -49,7 +52,8 @@ mod pio_programs {
 const USAGE: &str = "oracle answer
 oracle cases SEED N
 oracle compare SEED N PROGRAM [WORD]
-oracle replay SEED N FOLDER";
+oracle replay SEED N FOLDER
+oracle book";
 
 fn main() -> ExitCode {
     panics::install();
@@ -58,9 +62,16 @@ fn main() -> ExitCode {
     let done = match words[..] {
         ["answer"] => answer_all(),
         ["cases", seed, count] => number(seed).zip(number(count)).map_or(usage(), |(seed, n)| cases(seed, n)),
-        ["compare", seed, count, program, ref word @ ..] if word.len() < 2 => number(seed)
+        ["compare", seed, count, program] => number(seed)
             .zip(number(count))
-            .map_or(usage(), |(seed, n)| compare::compare(seed, n as usize, program, word.first().copied())),
+            .map_or(usage(), |(seed, n)| compare::compare(generate::lines(seed, n as usize), program)),
+        ["compare", seed, count, program, word] => number(seed)
+            .zip(number(count))
+            .zip(Kind::of(word).filter(|&kind| kind != Kind::Run))
+            .map_or(usage(), |((seed, n), kind)| {
+                compare::compare(generate::lines_of(kind, seed, n as usize), program)
+            }),
+        ["book"] => io::stdout().write_all(book::text().as_bytes()).map(|()| true),
         ["replay", seed, count, folder] => number(seed)
             .zip(number(count))
             .map_or(usage(), |(seed, n)| replay::replay(seed, n as usize, Path::new(folder))),

@@ -3,6 +3,7 @@
 use std::sync::{Mutex, MutexGuard, Once, PoisonError};
 
 use crate::answer::{Answer, answer, answer_line};
+use crate::book;
 use crate::case::{Case, Kind, at};
 use crate::compare::{Class, class, compare};
 use crate::cortex_m::asm::delay;
@@ -12,6 +13,7 @@ use crate::pac::values::clocks::{ClkRefCtrlAuxsrc, ClkRefCtrlSrc, ClkSysCtrlSrc}
 use crate::pac::{self, fields};
 use crate::recorder::{self, Record};
 use crate::reset;
+use crate::rules;
 
 /// The ten frequencies are shared: tests that run the published code come one after another.
 pub fn alone() -> MutexGuard<'static, ()> {
@@ -161,6 +163,21 @@ fn another_crystal_is_the_crystal_presets_own_at_12_mhz() {
 }
 
 #[test]
+fn the_book_has_every_setting_once_and_the_search_finds_the_first_of_an_output() {
+    let entries = book::entries();
+    assert_eq!(entries.len(), 1988);
+    assert!(book::text().starts_with("15428571 63 7 7\n"));
+    let mut settings: Vec<rules::Setting> = entries.iter().map(|&(_, setting)| setting).collect();
+    settings.sort();
+    settings.dedup();
+    assert_eq!(settings.len(), 1988);
+    let firsts = entries.chunk_by(|one, other| one.0 == other.0).map(|equal| equal[0]);
+    for (output, (feedback, post1, post2)) in firsts {
+        assert_eq!(answer_line(&format!("book {output}")), format!("1 {feedback} {post1} {post2}"));
+    }
+}
+
+#[test]
 fn differences_and_findings() {
     let _alone = alone();
     let class = |case: &str, ours: &str| {
@@ -201,7 +218,7 @@ fn differences_and_findings() {
 
 #[test]
 fn a_missing_program_is_named() {
-    let error = compare(1, 1, "no-such-program", None).unwrap_err();
+    let error = compare(generate::lines(1, 1), "no-such-program").unwrap_err();
     assert!(error.to_string().starts_with("no-such-program: "), "{error}");
 }
 

@@ -60,14 +60,52 @@ impl PllConfig {
     }
 }
 
-/// The setting for a target frequency: one with no remainder if there is one, else the nearest.
-pub fn find_pll_params(input_hz: u32, target_hz: u32) -> Result<PllConfig, Refused> {
-    answer(unsafe { raw::dizbaral_search(input_hz, target_hz) }).map(|number| PllConfig {
+/// A setting, or the number of a refusal.
+fn found(number: u64) -> Result<PllConfig, Refused> {
+    answer(number).map(|number| PllConfig {
         refdiv: (number >> 32) as u8,
         fbdiv: (number >> 16) as u16,
         post_div1: (number >> 8) as u8,
         post_div2: number as u8,
     })
+}
+
+/// The setting for a target frequency: one with no remainder if there is one, else the nearest.
+pub fn find_pll_params(input_hz: u32, target_hz: u32) -> Result<PllConfig, Refused> {
+    found(unsafe { raw::dizbaral_search(input_hz, target_hz) })
+}
+
+/// The book of a 12 MHz crystal: its settings by output.
+pub struct Book([u64; 1988]);
+
+impl Book {
+    pub fn open() -> Book {
+        let mut book = Book([0; 1988]);
+        unsafe { raw::dizbaral_open_book(&mut book.0) };
+        book
+    }
+
+    /// What [`find_pll_params`] answers at 12 MHz.
+    pub fn lookup(&self, target_hz: u32) -> Result<PllConfig, Refused> {
+        found(unsafe { raw::dizbaral_lookup_in(&self.0, target_hz) })
+    }
+
+    /// The output of a line, counted from 0, and its setting.
+    pub fn line(&self, at: usize) -> Option<(u32, PllConfig)> {
+        let digits = *self.0.get(at)?;
+        let setting = PllConfig {
+            refdiv: 1,
+            fbdiv: (digits / 100 % 1000) as u16,
+            post_div1: (digits / 10 % 10) as u8,
+            post_div2: (digits % 10) as u8,
+        };
+        Some(((digits / 100_000) as u32, setting))
+    }
+}
+
+/// What [`find_pll_params`] answers at 12 MHz, by a book that is opened for this one lookup.
+pub fn lookup(target_hz: u32) -> Result<PllConfig, Refused> {
+    found(unsafe { raw::dizbaral_lookup(target_hz) })
 }
 
 /// A core voltage: its register code, and the brownout level that belongs to it.

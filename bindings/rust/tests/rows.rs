@@ -23,6 +23,24 @@ fn search() {
 }
 
 #[test]
+fn book() {
+    let book = dizbaral::Book::open();
+    assert_eq!(book.line(0), Some((15_428_571, setting(63, 7, 7))));
+    assert_eq!(book.line(1987), Some((1_596_000_000, setting(133, 1, 1))));
+    assert_eq!(book.line(1988), None);
+    for at in 0..1988 {
+        let (output, _) = book.line(at).unwrap();
+        for target in [output - 1, output, output + 1] {
+            let found = find_pll_params(12 * MHZ, target);
+            assert_eq!((book.lookup(target), dizbaral::lookup(target)), (found, found));
+        }
+    }
+    for target in [0, u32::MAX] {
+        assert_eq!(book.lookup(target), find_pll_params(12 * MHZ, target));
+    }
+}
+
+#[test]
 fn valid() {
     assert!(setting(150, 1, 1).is_valid(5 * MHZ));
     assert!(!setting(149, 1, 1).is_valid(5 * MHZ));

@@ -14,6 +14,8 @@ ghost use Rattle.divider.specs.Gpout.{gpoutOf};
 ghost use Rattle.divider.specs.Pio.{pioOf};
 ghost use Rattle.pll.specs.Setting.{validOf, outputOf};
 ghost use Rattle.pll.specs.Search.{searchOf};
+ghost use Rattle.speed_book.specs.Book.{crystal, table};
+ghost use Rattle.speed_book.specs.Lookup.{lookupIn};
 ghost use Rattle.config.specs.Presets.{plannedIs, systemPlan, systemPlanFrom};
 ghost use Rattle.lister.specs.Lister.{listedOf, listedIn};
 ghost use Rattle.up.specs.ComesUp.{longestWait};
@@ -29,6 +31,27 @@ pub extern "C" fn dizbaral_search(input_hz: u32, target_hz: u32) -> u64
     ensures { λ r. ⌜ r ≡ answerNumber settingNumber (searchOf «input_hz» «target_hz») ⌝ }
 {
     numbers::found(pll::find_pll_params(input_hz, target_hz))
+}
+
+#[no_mangle]
+pub extern "C" fn dizbaral_lookup(target_hz: u32) -> u64
+    ensures { λ r. ⌜ r ≡ answerNumber settingNumber (searchOf crystal «target_hz») ⌝ }
+{
+    numbers::found(speed_book::lookup(target_hz))
+}
+
+#[no_mangle]
+pub extern "C" fn dizbaral_open_book(book: &mut [u64; 1988])
+    ensures { λ _. ⌜ now (book .exit) ≡ table ⌝ }
+{
+    *book = speed_book::open();
+}
+
+#[no_mangle]
+pub extern "C" fn dizbaral_lookup_in(book: &[u64; 1988], target_hz: u32) -> u64
+    ensures { λ r. ⌜ r ≡ answerNumber settingNumber (lookupIn (now (book .entry)) «target_hz») ⌝ }
+{
+    numbers::found(speed_book::lookup_in(book, target_hz))
 }
 
 #[no_mangle]

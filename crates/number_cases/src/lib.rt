@@ -6,9 +6,10 @@ use voltage::VoltageRead;
 ghost use mathlib.Core.Path.{_≡_};
 ghost use Rattle.base.specs.Answer.{numberIs};
 ghost use Rattle.base.specs.Placed.{Placed};
+ghost use Rattle.pll.specs.Search.{foundIs};
 ghost use Rattle.text.specs.Decimal.{decimalOf};
 ghost use Rattle.replies.specs.Reply.{answerText};
-ghost use Rattle.number_cases.specs.Numbers.{pllText, validText, outputText, searchText, voltageText, pioText, gpoutText};
+ghost use Rattle.number_cases.specs.Numbers.{pllText, validText, outputText, searchText, bookText, voltageText, pioText, gpoutText};
 
 pub fn put_valid(n: &[u32; 64], out: &mut [u8]) -> usize
     ensures { λ r. ⌜ Placed (now (out .entry)) 0 (validText (now (n .entry))) r (now (out .exit)) ⌝ }
@@ -35,13 +36,27 @@ fn put_pll(out: &mut [u8], p: PllConfig) -> usize
     )
 }
 
-pub fn put_search(n: &[u32; 64], out: &mut [u8]) -> usize
-    ensures { λ r. ⌜ Placed (now (out .entry)) 0 (searchText (now (n .entry))) r (now (out .exit)) ⌝ }
+fn put_found(out: &mut [u8], found: Found) -> usize
+    ensures { λ r. ⌜ Placed (now (out .entry)) 0 (answerText pllText (foundIs found)) r (now (out .exit)) ⌝ }
 {
-    match pll::find_pll_params(fields::number_at(n, 0), fields::number_at(n, 1)) {
+    match found {
         Found::Params(p) => put_pll(out, p),
         Found::Refused(number) => replies::put_refused(out, number),
     }
+}
+
+pub fn put_search(n: &[u32; 64], out: &mut [u8]) -> usize
+    ensures { λ r. ⌜ Placed (now (out .entry)) 0 (searchText (now (n .entry))) r (now (out .exit)) ⌝ }
+{
+    let input = fields::number_at(n, 0);
+    let target = fields::number_at(n, 1);
+    put_found(out, pll::find_pll_params(input, target))
+}
+
+pub fn put_book(n: &[u32; 64], out: &mut [u8]) -> usize
+    ensures { λ r. ⌜ Placed (now (out .entry)) 0 (bookText (now (n .entry))) r (now (out .exit)) ⌝ }
+{
+    put_found(out, speed_book::lookup(fields::number_at(n, 0)))
 }
 
 pub fn put_voltage(n: &[u32; 64], out: &mut [u8]) -> usize

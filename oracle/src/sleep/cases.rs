@@ -26,8 +26,7 @@ pub fn limits() -> Vec<Case> {
 }
 
 /// A slot, eleven words and four slots, most of them saved.
-pub fn random(r: &mut Random) -> (Kind, Vec<u32>) {
-    let kind = r.pick(&[Kind::Sleep, Kind::Wake]);
+pub fn numbers(r: &mut Random) -> Vec<u32> {
     let slot = if r.percent(97) { r.between(0, 3) } else { r.between(4, 255) };
     let mut numbers = vec![slot];
     numbers.extend(words(r));
@@ -36,7 +35,7 @@ pub fn random(r: &mut Random) -> (Kind, Vec<u32>) {
         numbers.push(saved as u32);
         numbers.extend(if saved { words(r) } else { [0; 11] });
     }
-    (kind, numbers)
+    numbers
 }
 
 /// Any eleven words; the crystal mostly with one of its two enable codes.

@@ -1,0 +1,11 @@
+// Prints the book: output, feedback divider, post 1 and post 2 on a line.
+use libc::STDOUT_FILENO;
+
+fn main() {
+    let book = speed_book::open();
+    for k in 0..speed_book::ENTRIES {
+        let mut line = [0u8; 32];
+        let size = page::put_line(&mut line, &book, k);
+        io::write_all(STDOUT_FILENO, &line[..size]);
+    }
+}

@@ -1,0 +1,3 @@
+-- What the theorems say.
+-- Assumes nothing.
+pub mod Near

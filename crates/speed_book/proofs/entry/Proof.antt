@@ -1,0 +1,11 @@
+-- `speed_book::entry` meets its contract.
+-- Assumes nothing.
+use borrow.Author.Needs.{needs}
+use Rattle.speed_book.proofs.entry.Statement.{statement}
+use Rattle.speed_book.proofs.entry.Tie as tie
+
+returns : tie.Need-returns
+returns c = rw (c .entry-in .ensures, c .before .before .open .ensures)
+
+pub entry-spec : {M : Type 1} → statement M
+entry-spec = tie.close (tie.spec (λ c κs. search needs) (λ c κs. search needs) returns)

@@ -1,0 +1,19 @@
+-- `speed_book::entry_in` meets its contract.
+-- Assumes nothing.
+use borrow.Author.Tests.{lt-ltb, le-ltb}
+use borrow.Author.Needs.{needs}
+use Rattle.speed_book.specs.Book.{lineIn}
+use Rattle.speed_book.proofs.entry_in.Statement.{statement}
+use Rattle.speed_book.proofs.entry_in.Tie as tie
+
+returns : tie.Need-returns
+unfolding lineIn
+returns c = rw (c .setting-in .ensures, lt-ltb _ 1988 (c .before .before .if1 .taken))
+
+returns-2 : tie.Need-returns-2
+unfolding lineIn
+returns-2 c = rw (le-ltb _ 1988 (c .if1 .left))
+
+pub entry-in-spec : {M : Type 1} → statement M
+entry-in-spec =
+    tie.close (tie.spec (λ c. search needs) (λ c. search needs) (λ c κs. search needs) returns returns-2)

@@ -1,0 +1,5 @@
+-- The definitions that the contracts cite.
+-- Assumes nothing.
+pub mod Book
+pub mod Law
+pub mod Lookup

@@ -1,0 +1,122 @@
+// The book: every setting of a 12 MHz crystal, ordered by output, and a lookup that gives what the search gives.
+mod table;
+
+use pll::Found;
+use pll::PllConfig;
+ghost use mathlib.Core.Path.{_≡_};
+ghost use Rattle.pll.specs.Search.{searchOf, foundIs};
+ghost use Rattle.speed_book.specs.Book.{crystal, table, settingIn, lineIn};
+ghost use Rattle.speed_book.specs.Lookup.{entryAt, firstFrom, nearer, lookupIn};
+
+// An output in whole hertz and its setting, or nothing past the end.
+pub enum Line {
+    Entry(u64, PllConfig),
+    Nothing,
+}
+
+// How many settings there are.
+pub const ENTRIES: usize = 1988;
+
+// More than any two targets: what stands past the end is nearer to none.
+const FAR: u64 = 8589934592_000_0_0;
+
+// The table. Whoever looks up more than once keeps it: each use of a constant stores it anew.
+pub fn open() -> [u64; 1988]
+    ensures { λ r. ⌜ r ≡ table ⌝ }
+{
+    table::BOOK
+}
+
+// The setting of an entry.
+fn setting_in(entry: u64) -> PllConfig
+    ensures { λ r. ⌜ r ≡ settingIn entry ⌝ }
+{
+    PllConfig {
+        refdiv: 1,
+        fbdiv: (entry / 100 % 1000) as u16,
+        post_div1: (entry / 10 % 10) as u8,
+        post_div2: (entry % 10) as u8,
+    }
+}
+
+// The line at a place of an open book, counted from 0.
+pub fn entry_in(book: &[u64; 1988], k: usize) -> Line
+    ensures { λ r. ⌜ r ≡ lineIn (now (book .entry)) k ⌝ }
+{
+    if k < ENTRIES {
+        let entry = book[k];
+        Line::Entry(entry / 100000, setting_in(entry))
+    } else {
+        Line::Nothing
+    }
+}
+
+// The line at a place, counted from 0.
+pub fn entry(k: usize) -> Line
+    ensures { λ r. ⌜ r ≡ lineIn table k ⌝ }
+{
+    let book = open();
+    entry_in(&book, k)
+}
+
+// The first entry that is not less than the bound, by halving: 11 times, since 1988 is below 2 to the 11.
+fn first_from(book: &[u64; 1988], bound: u64) -> usize
+    ensures { λ r. ⌜ r ≡ firstFrom (now (book .entry)) bound ⌝ }
+{
+    let mut low: usize = 0;
+    let mut high: usize = 1988;
+    let mut halvings: u8 = 11;
+    while 0 < halvings {
+        halvings -= 1;
+        if low < high {
+            let middle = low + (high - low) / 2;
+            if book[middle] < bound {
+                low = middle + 1;
+            } else {
+                high = middle;
+            }
+        }
+    }
+    low
+}
+
+// The entry at a place.
+fn entry_at(book: &[u64; 1988], k: usize) -> u64
+    ensures { λ r. ⌜ r ≡ entryAt (now (book .entry)) k ⌝ }
+{
+    if ENTRIES <= k { FAR } else { book[k] }
+}
+
+// Of an entry below the target and one that is not, the nearer; of two as near the first in the order of the search.
+fn nearer(target_hz: u32, lower: u64, upper: u64) -> u64
+    ensures { λ r. ⌜ r ≡ nearer «target_hz» lower upper ⌝ }
+{
+    let twice = 2 * target_hz as u64;
+    let both = lower / 100000 + upper / 100000;
+    let first = upper % 100000 < lower % 100000;
+    if (twice < both) | ((twice == both) & first) {
+        lower
+    } else {
+        upper
+    }
+}
+
+// The setting for a target frequency at 12 MHz, from an open book: what the search gives.
+pub fn lookup_in(book: &[u64; 1988], target_hz: u32) -> Found
+    ensures { λ r. ⌜ foundIs r ≡ lookupIn (now (book .entry)) «target_hz» ⌝ }
+{
+    let above = first_from(book, target_hz as u64 * 100000);
+    let before = entry_at(book, base::less(above, 1));
+    let below = first_from(book, before / 100000 * 100000);
+    let lower = entry_at(book, below);
+    let upper = entry_at(book, above);
+    Found::Params(setting_in(nearer(target_hz, lower, upper)))
+}
+
+// The setting for a target frequency at 12 MHz: what the search gives.
+pub fn lookup(target_hz: u32) -> Found
+    ensures { λ r. ⌜ foundIs r ≡ searchOf crystal «target_hz» ⌝ }
+{
+    let book = open();
+    lookup_in(&book, target_hz)
+}
