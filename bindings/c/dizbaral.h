@@ -53,6 +53,10 @@ uint64_t dizbaral_lookup(uint32_t target_hz);
 void dizbaral_open_book(uint64_t book[1988]);
 uint64_t dizbaral_lookup_in(const uint64_t book[1988], uint32_t target_hz);
 
+/* find_usb_pll: the setting that makes 48 MHz of a crystal with no remainder, as dizbaral_search answers one.
+ * Refusal 25. */
+uint64_t dizbaral_usb_pll(uint32_t crystal_hz);
+
 /* is_valid: whether the four dividers are valid for an input frequency. */
 bool dizbaral_is_valid(uint32_t input_hz, uint8_t refdiv, uint16_t fbdiv, uint8_t post_div1, uint8_t post_div2);
 
@@ -74,7 +78,8 @@ uint64_t dizbaral_gpout_frequency(uint8_t source, uint32_t whole, uint8_t fracti
  * buffer. The length in bytes; bytes past it keep their values. Refusals 18, 1 to 14, 19. */
 uint64_t dizbaral_system_sheet(uint32_t hz, uint8_t reading, uint8_t *sheet, size_t length);
 
-/* The same for a crystal of crystal_hz, with the PLL that dizbaral_search finds. Before the other refusals 15. */
+/* The same for a crystal of crystal_hz, with the PLLs that dizbaral_search and dizbaral_usb_pll find. Before the other
+ * refusals 15, then 25. */
 uint64_t dizbaral_system_sheet_from(uint32_t crystal_hz, uint32_t hz, uint8_t reading, uint8_t *sheet, size_t length);
 
 /* The same for a plan of 48 numbers: docs/CASES.md, A plan in numbers. Malformed where they are of no plan. */

@@ -70,6 +70,10 @@ pub fn answer(case: &Case) -> Answer {
         }
         Kind::Output => plain(&[16], || says(pll(&n[1..5]).output_frequency(n[0]))),
         Kind::Search => search(n[0], n[1]),
+        Kind::UsbPll => Answer::Ruled(match rules::usb_pll(n[0]) {
+            Some(dividers) => dividers.map(|divider| divider.to_string()).join(" "),
+            None => "refused 25".to_string(),
+        }),
         Kind::Book => search(book::INPUT, n[0]),
         Kind::Voltage => voltage(n[0]),
         Kind::Pio => {
@@ -85,11 +89,7 @@ pub fn answer(case: &Case) -> Answer {
         Kind::Rosc => sheet(n[0], ClockConfig::rosc),
         Kind::Default => sheet(n[0], ClockConfig::default),
         Kind::System => sheet(n[0], || ClockConfig::system_freq(n[2]).expect("system_freq never errs")),
-        Kind::SystemFrom if n[2] < rules::MINIMUM => Answer::Ruled("refused 15".to_string()),
-        Kind::SystemFrom => match plan::system_freq_from(n[2], n[3]) {
-            Some(config) => sheet(n[0], || config),
-            None => Answer::Refused(15),
-        },
+        Kind::SystemFrom => system_from(n[0], n[2], n[3]),
         Kind::Manual => sheet(n[0], || ClockConfig::manual_pll(n[2], pll(&n[3..7]), plan::voltage(n[7]))),
         Kind::List => Answer::Ruled(rules::list(n[0], n[1], n[2] as usize)),
         Kind::Run => Answer::NoCounterpart,
@@ -99,6 +99,20 @@ pub fn answer(case: &Case) -> Answer {
 
 fn says(number: u32) -> Answer {
     Answer::Says(number.to_string())
+}
+
+/// The Rust's search and `init` with the rule's USB PLL, which are three of its plan's pieces.
+fn system_from(reading: u32, crystal: u32, hz: u32) -> Answer {
+    if crystal < rules::MINIMUM {
+        return Answer::Ruled("refused 15".to_string());
+    }
+    let Some(sys_pll) = clocks::search(crystal, hz) else {
+        return Answer::Refused(15);
+    };
+    let Some(usb_pll) = rules::usb_pll(crystal) else {
+        return Answer::Ruled("refused 25".to_string());
+    };
+    sheet(reading, || plan::system_freq_from(crystal, hz, sys_pll, pll(&usb_pll)))
 }
 
 fn search(input: u32, target: u32) -> Answer {

@@ -5,6 +5,7 @@ pub enum Kind {
     Valid,
     Output,
     Search,
+    UsbPll,
     Book,
     List,
     Voltage,
@@ -54,10 +55,11 @@ pub const U16: Fits = UpTo(u16::MAX as u32);
 pub const U32: Fits = UpTo(u32::MAX);
 pub const ROOM: Fits = UpTo(1024);
 
-pub const KINDS: [(&str, Kind); 18] = [
+pub const KINDS: [(&str, Kind); 19] = [
     ("valid", Kind::Valid),
     ("output", Kind::Output),
     ("search", Kind::Search),
+    ("usb_pll", Kind::UsbPll),
     ("book", Kind::Book),
     ("list", Kind::List),
     ("voltage", Kind::Voltage),
@@ -85,7 +87,7 @@ impl Kind {
         match self {
             Kind::Valid | Kind::Output => &[U32, U8, U16, U8, U8],
             Kind::Search | Kind::Pio => &[U32, U32],
-            Kind::Book => &[U32],
+            Kind::UsbPll | Kind::Book => &[U32],
             Kind::List => &[U32, U32, ROOM],
             Kind::Voltage => &[U8],
             Kind::Gpout => &[U8, U32, U8, U32, U32, U32, U32, U32, U32, U32, U32, U32, U32],

@@ -108,6 +108,16 @@ fn the_voltages_are_the_rusts() {
 }
 
 #[test]
+fn the_usb_plls_are_those_of_every_setting_tried() {
+    let rows = rows("USB PLL");
+    assert_eq!(rows.len(), 9);
+    for cells in rows {
+        let answer = answer_line(&format!("usb_pll {}", cells[0]));
+        assert_eq!(answer, cells[1].replace(',', ""), "{}", cells[0]);
+    }
+}
+
+#[test]
 fn the_example_of_clocks_is_what_the_rust_stores() {
     let _alone = crate::tests::alone();
     let Some(Answer::Sheet(steps)) = Case::parse("system 11 520 125000000").map(|case| answer(&case)) else {

@@ -66,6 +66,7 @@ fn of_kind(r: &mut Random, kind: Kind) -> Case {
     let numbers = match kind {
         Kind::Valid | Kind::Output => setting(r),
         Kind::Search => search(r),
+        Kind::UsbPll => vec![ruled::crystal(r)],
         Kind::Book => vec![search_target(r, 12_000_000)],
         Kind::List => ruled::list(r),
         Kind::Sleep | Kind::Wake => sleep::numbers(r),

@@ -8,7 +8,7 @@ use crate::limits;
 use crate::random::Random;
 use crate::sleep::cases as sleep;
 
-pub const KINDS: [Kind; 5] = [Kind::Book, Kind::List, Kind::Sleep, Kind::Wake, Kind::SystemFrom];
+pub const KINDS: [Kind; 6] = [Kind::UsbPll, Kind::Book, Kind::List, Kind::Sleep, Kind::Wake, Kind::SystemFrom];
 
 pub fn limits() -> Vec<Case> {
     let mut cases = Vec::new();
@@ -16,6 +16,9 @@ pub fn limits() -> Vec<Case> {
         for target in [0, 1, 48_000_000, 125_000_000, 200_000_000, 800_000_000, 1_600_000_000, u32::MAX] {
             cases.extend([0, 2, 1024].map(|room| Case::new(Kind::List, &[input, target, room])));
         }
+    }
+    for crystal in limits::CRYSTALS.into_iter().chain(limits::PLL_INPUTS) {
+        cases.push(Case::new(Kind::UsbPll, &[crystal]));
     }
     // Every output, the middle to the next one, and their neighbours.
     let outputs: Vec<u32> = book::entries().into_iter().map(|(output, _)| output).collect();
@@ -40,11 +43,30 @@ pub fn list(r: &mut Random) -> Vec<u32> {
 }
 
 pub fn system_from(r: &mut Random) -> Vec<u32> {
-    let crystal = match r.between(0, 9) {
-        0..=1 => r.pick(&limits::CRYSTALS),
-        2..=4 => r.between(10, 64) * 500_000,
-        5..=8 => r.between(5_000_000, 33_000_000),
-        _ => generate::search(r)[0],
-    };
+    let crystal = crystal(r);
     vec![crystal, generate::search_target(r, crystal)]
+}
+
+/// Most have a USB PLL, and most of those a startup delay that fits.
+pub fn crystal(r: &mut Random) -> u32 {
+    match r.between(0, 9) {
+        0 => r.pick(&limits::CRYSTALS),
+        1..=2 => r.between(10, 64) * 500_000,
+        3..=7 => {
+            // From a setting: a reference that divides without a remainder, where one is found soon.
+            let mut crystal = 12_000_000;
+            for _ in 0..20 {
+                let (feedback, post1) = (r.between(16, 320), r.between(1, 7));
+                let vco = 48_000_000 * post1 * r.between(1, post1);
+                if vco.is_multiple_of(feedback) {
+                    let most = if r.percent(80) { 6 } else { 63 };
+                    crystal = (vco / feedback).saturating_mul(r.between(1, most));
+                    break;
+                }
+            }
+            crystal
+        }
+        8 => r.between(5_000_000, 33_000_000),
+        _ => generate::search(r)[0],
+    }
 }

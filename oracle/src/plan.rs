@@ -19,15 +19,13 @@ pub fn pll(dividers: &[u32]) -> PllConfig {
     }
 }
 
-/// The plan of `system_freq` with another crystal and the search at that crystal, from the Rust's own pieces. Nothing
-/// where the search finds none.
-pub fn system_freq_from(crystal_hz: u32, hz: u32) -> Option<ClockConfig> {
-    let sys_pll = search(crystal_hz, hz)?;
+/// The plan of `system_freq` with another crystal and these PLLs, from the Rust's own pieces.
+pub fn system_freq_from(crystal_hz: u32, hz: u32, sys_pll: PllConfig, usb_pll: PllConfig) -> ClockConfig {
     // The voltage goes by the target alone.
-    let mut config = ClockConfig::system_freq(hz).ok()?;
-    let crystal = config.xosc.as_mut()?;
-    (crystal.hz, crystal.sys_pll) = (crystal_hz, Some(sys_pll));
-    Some(config)
+    let mut config = ClockConfig::system_freq(hz).expect("system_freq never errs");
+    let crystal = config.xosc.as_mut().expect("a crystal");
+    (crystal.hz, crystal.sys_pll, crystal.usb_pll) = (crystal_hz, Some(sys_pll), Some(usb_pll));
+    config
 }
 
 /// `n` is well formed: every number fits its place.

@@ -5,6 +5,7 @@ pub type Setting = (u32, u32, u32);
 
 /// The datasheet's least reference frequency of a PLL.
 pub const MINIMUM: u32 = 5_000_000;
+const REFERENCE: std::ops::RangeInclusive<u32> = MINIMUM..=800_000_000;
 const VCO: std::ops::RangeInclusive<u64> = 750_000_000..=1_600_000_000;
 
 /// The search's candidates, in no order that counts.
@@ -24,6 +25,24 @@ fn vco(input: u32, feedback: u32) -> u64 {
 pub fn settling_cycles(time_us: u32, ring_hz: u32) -> u64 {
     let each = if ring_hz == 0 { 12 } else { ring_hz.div_ceil(1_000_000) };
     time_us as u64 * each as u64
+}
+
+/// The USB PLL of a crystal, as reference divider, feedback divider, post 1, post 2: every setting is tried, in the order
+/// in which they are preferred.
+pub fn usb_pll(crystal: u32) -> Option<[u32; 4]> {
+    let divides = |&refdiv: &u32| crystal.is_multiple_of(refdiv) && REFERENCE.contains(&(crystal / refdiv));
+    let settings = (1..=63).filter(divides).flat_map(|refdiv| {
+        (16..=320).rev().flat_map(move |feedback| {
+            (1..=7)
+                .rev()
+                .flat_map(move |post1| (1..=post1).rev().map(move |p2| [refdiv, feedback, post1, p2]))
+        })
+    });
+    let gives_48_mhz = |&[refdiv, feedback, post1, post2]: &[u32; 4]| {
+        let vco = vco(crystal / refdiv, feedback);
+        VCO.contains(&vco) && vco == 48_000_000 * (post1 * post2) as u64
+    };
+    settings.into_iter().find(gives_48_mhz)
 }
 
 /// The lister's answer: the settings that give the target with no remainder, in its order, 2 bytes each.

@@ -11,6 +11,7 @@ use crate::generate;
 use crate::limits;
 use crate::pac::values::clocks::{ClkRefCtrlAuxsrc, ClkRefCtrlSrc, ClkSysCtrlSrc};
 use crate::pac::{self, fields};
+use crate::plan;
 use crate::recorder::{self, Record};
 use crate::reset;
 use crate::rules;
@@ -159,7 +160,19 @@ fn another_crystal_is_the_crystal_presets_own_at_12_mhz() {
         panic!("no sheet");
     };
     let stored: Vec<u32> = steps.iter().filter_map(|step| step.stored()).map(|(_, hz)| hz).collect();
-    assert_eq!(stored[..6], [6_500_000, 8_000_000, 125_000_000, 32_000_000, 8_000_000, 125_000_000]);
+    let frequencies = [6_500_000, 8_000_000, 125_000_000, 48_000_000, 8_000_000, 125_000_000];
+    assert_eq!(stored[..6], frequencies);
+}
+
+#[test]
+fn every_usb_pll_is_valid_and_gives_48_mhz() {
+    for crystal in (5_000_000..=100_000_000).step_by(250_000) {
+        if let Some(dividers) = rules::usb_pll(crystal) {
+            let pll = plan::pll(&dividers);
+            assert!(pll.is_valid(crystal) && crystal.is_multiple_of(dividers[0]), "{crystal}");
+            assert_eq!(pll.output_frequency(crystal), 48_000_000);
+        }
+    }
 }
 
 #[test]
@@ -209,7 +222,11 @@ fn differences_and_findings() {
         ("search 5000000 125000000", "refused 15", None),
         ("system_from 11 520 4999999 125000000", "refused 15", Some(Class::SameByRule("system_from"))),
         ("system_from 11 520 100000001 125000000", "refused 15", Some(Class::Same)),
-        ("system_from 11 520 16000000 125000000", "refused 6", Some(Class::Panics(6))),
+        ("system_from 11 520 11000000 125000000", "refused 25", Some(Class::SameByRule("system_from"))),
+        ("system_from 16 520 11000000 125000000", "refused 18", None),
+        ("system_from 16 520 12000000 125000000", "refused 18", Some(Class::Loses(18))),
+        ("usb_pll 4999999", "refused 25", Some(Class::SameByRule("usb_pll"))),
+        ("usb_pll 12000000", "1 60 5 3", None),
     ];
     for (case, ours, expected) in rows {
         assert_eq!(class(case, ours), expected, "{case}: {ours}");

@@ -75,6 +75,12 @@ pub fn find_pll_params(input_hz: u32, target_hz: u32) -> Result<PllConfig, Refus
     found(unsafe { raw::dizbaral_search(input_hz, target_hz) })
 }
 
+/// The setting that makes 48 MHz of a crystal with no remainder: the smallest reference divider, then the greatest
+/// feedback divider, post 1, post 2.
+pub fn find_usb_pll(crystal_hz: u32) -> Result<PllConfig, Refused> {
+    found(unsafe { raw::dizbaral_usb_pll(crystal_hz) })
+}
+
 /// The book of a 12 MHz crystal: its settings by output.
 pub struct Book([u64; 1988]);
 
@@ -140,7 +146,7 @@ pub fn system_sheet(hz: u32, reading: u8, sheet: &mut [u8]) -> Result<usize, Ref
     answer(number).map(|length| length as usize)
 }
 
-/// Writes the sheet of a crystal, a system frequency and the PLL found for them, and answers its length.
+/// Writes the sheet of a crystal, a system frequency and the PLLs found for them, and answers its length.
 pub fn system_sheet_from(crystal_hz: u32, hz: u32, reading: u8, sheet: &mut [u8]) -> Result<usize, Refused> {
     let number = unsafe {
         raw::dizbaral_system_sheet_from(crystal_hz, hz, reading, sheet.as_mut_ptr(), sheet.len())

@@ -1,6 +1,6 @@
 //! The worked rows of docs/FORMAT.md, and limits that it names.
 
-use dizbaral::{PllConfig, Refused, find_pll_params, gpout_frequency, pio_divider};
+use dizbaral::{PllConfig, Refused, find_pll_params, find_usb_pll, gpout_frequency, pio_divider};
 
 const MHZ: u32 = 1_000_000;
 
@@ -38,6 +38,14 @@ fn book() {
     for target in [0, u32::MAX] {
         assert_eq!(book.lookup(target), find_pll_params(12 * MHZ, target));
     }
+}
+
+#[test]
+fn usb_pll() {
+    assert_eq!(find_usb_pll(12 * MHZ), Ok(setting(120, 6, 5)));
+    let over_3 = PllConfig { refdiv: 3, fbdiv: 128, post_div1: 6, post_div2: 3 };
+    assert_eq!(find_usb_pll(20_250_000), Ok(over_3));
+    assert_eq!(find_usb_pll(11 * MHZ), Err(Refused(25)));
 }
 
 #[test]

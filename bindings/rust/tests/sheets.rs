@@ -51,6 +51,7 @@ fn another_crystal_has_its_own_search() {
     assert_eq!(system_sheet_from(8 * MHZ, 125 * MHZ, 11, &mut sheet), Ok(496));
     assert_ne!(sheet[..496], sheet_of(125 * MHZ));
     let before = sheet;
+    assert_eq!(system_sheet_from(13 * MHZ, 125 * MHZ, 16, &mut sheet), Err(Refused(25)));
     assert_eq!(system_sheet_from(5 * MHZ - 1, 125 * MHZ, 16, &mut sheet), Err(Refused(15)));
     assert_eq!(sheet, before);
 }

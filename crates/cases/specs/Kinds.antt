@@ -9,7 +9,7 @@ use Rattle.text.specs.Ascii.{ascii, same}
 use Rattle.fields.specs.Row.{u8, u16, u32, room}
 use Rattle.fields.specs.Fields.{Tail, Fields, noNumber, numbersIn, numbersOnly}
 use Rattle.replies.specs.Reply.{badCase}
-use Rattle.number_cases.specs.Numbers.{validText, outputText, searchText, bookText, voltageText, pioText, gpoutText}
+use Rattle.number_cases.specs.Numbers.{validText, outputText, searchText, usbPllText, bookText, voltageText, pioText, gpoutText}
 use Rattle.sheet_cases.specs.Sheets.{crystalText, roscText, defaultText, systemText, systemFromText}
 use Rattle.sheet_cases.specs.Sheets.{manualText, planSheetText}
 use Rattle.run_cases.specs.Runs.{runText}
@@ -20,6 +20,7 @@ use Rattle.cases.specs.declared.Kind.the-variants.{
   Valid,
   Output,
   Search,
+  UsbPll,
   Book,
   Settings,
   Voltage,
@@ -72,6 +73,8 @@ rowOf Valid = plain "valid" (u32 ∷ u8 ∷ u16 ∷ u8 ∷ u8 ∷ []) validText
 rowOf Output = plain "output" (u32 ∷ u8 ∷ u16 ∷ u8 ∷ u8 ∷ []) outputText
 -- INPUT TARGET
 rowOf Search = plain "search" (u32 ∷ u32 ∷ []) searchText
+-- CRYSTAL
+rowOf UsbPll = plain "usb_pll" (u32 ∷ []) usbPllText
 -- TARGET
 rowOf Book = plain "book" (u32 ∷ []) bookText
 -- INPUT TARGET ROOM
@@ -107,7 +110,7 @@ rowOf Unknown = nameless
 
 abbrev pub kinds : List Kind
 kinds =
-    Valid ∷ Output ∷ Search ∷ Book ∷ Settings ∷ Voltage ∷ Pio ∷ Gpout
+    Valid ∷ Output ∷ Search ∷ UsbPll ∷ Book ∷ Settings ∷ Voltage ∷ Pio ∷ Gpout
     ∷ Sheet ∷ Crystal ∷ Rosc ∷ Default ∷ System ∷ SystemFrom ∷ Manual ∷ Run ∷ Sleep ∷ Wake ∷ []
 
 abbrev pub firstNamed : List ℕ → List Kind → Kind

@@ -8,6 +8,7 @@ use Rattle.voltage.specs.declared.CoreVoltage.{CoreVoltage}
 use Rattle.pll.specs.declared.PllConfig.{PllConfig}
 use Rattle.pll.specs.Setting.{validOf}
 use Rattle.pll.specs.Search.{setting, searchOf}
+use Rattle.pll.specs.Usb.{usbOf}
 use Rattle.config.specs.declared.RoscRange.{RoscRange}
 use Rattle.config.specs.declared.OptionRosc.{OptionRosc}
 use Rattle.config.specs.declared.OptionPll.{OptionPll}
@@ -39,11 +40,15 @@ ringConfig hz range div =
       div = div;
     })
 
--- a crystal with the given system PLL, USB PLL 120, 6, 5 and delay multiplier 128
-abbrev pub feeding : ℕ → PllConfig → OptionXosc
-feeding hz sys =
+-- a crystal with the given PLLs and delay multiplier 128
+abbrev pub feedingBoth : ℕ → PllConfig → PllConfig → OptionXosc
+feedingBoth hz sys usb =
     OptionXosc.Some
-    (record { hz = hz; «sys_pll» = OptionPll.Some sys; «usb_pll» = OptionPll.Some (setting 120 6 5); «delay_multiplier» = 128 })
+    (record { hz = hz; «sys_pll» = OptionPll.Some sys; «usb_pll» = OptionPll.Some usb; «delay_multiplier» = 128 })
+
+-- with the USB PLL that makes 48 MHz of 12 MHz
+abbrev pub feeding : ℕ → PllConfig → OptionXosc
+feeding hz sys = feedingBoth hz sys (setting 120 6 5)
 
 -- the clocks of every preset with a crystal
 abbrev pub fromPlls : OptionRosc → OptionXosc → CoreVoltage → ClockConfig
@@ -98,15 +103,20 @@ roscPlan =
 abbrev pub systemVoltage : ℕ → CoreVoltage
 systemVoltage hz = pick (ltb 133000000 hz) CoreVoltage.V1_15 CoreVoltage.V1_10
 
--- the crystal preset with the system PLL found for the frequency
-abbrev pub withFound : ℕ → ℕ → Answer PllConfig → Answer ClockConfig
-withFound from hz (value p) =
-    value (fromPlls (ringConfig 6500000 RoscRange.Medium 16) (feeding from p) (systemVoltage hz))
-withFound from hz (refusal n) = refusal n
+-- the crystal preset with this system PLL and the USB PLL found
+abbrev pub withUsb : ℕ → ℕ → PllConfig → Answer PllConfig → Answer ClockConfig
+withUsb from hz sys (value usb) =
+    value (fromPlls (ringConfig 6500000 RoscRange.Medium 16) (feedingBoth from sys usb) (systemVoltage hz))
+withUsb from hz sys (refusal n) = refusal n
 
--- from a crystal: always what the search finds, or its refusal 15
+-- with the system PLL found for the frequency; its refusal comes first
+abbrev pub withFound : ℕ → ℕ → Answer PllConfig → Answer PllConfig → Answer ClockConfig
+withFound from hz (value sys) usb = withUsb from hz sys usb
+withFound from hz (refusal n) usb = refusal n
+
+-- from a crystal: always what the searches find, or 15, or 25
 unfoldable pub systemPlanFrom : ℕ → ℕ → Answer ClockConfig
-systemPlanFrom from hz = withFound from hz (searchOf from hz)
+systemPlanFrom from hz = withFound from hz (searchOf from hz) (usbOf from)
 
 -- from 12 MHz; 125 MHz is the crystal preset
 unfoldable pub systemPlan : ℕ → Answer ClockConfig

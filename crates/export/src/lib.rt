@@ -16,6 +16,7 @@ ghost use Rattle.pll.specs.Setting.{validOf, outputOf};
 ghost use Rattle.pll.specs.Search.{searchOf};
 ghost use Rattle.speed_book.specs.Book.{crystal, table};
 ghost use Rattle.speed_book.specs.Lookup.{lookupIn};
+ghost use Rattle.pll.specs.Usb.{usbOf};
 ghost use Rattle.config.specs.Presets.{plannedIs, systemPlan, systemPlanFrom};
 ghost use Rattle.lister.specs.Lister.{listedOf, listedIn};
 ghost use Rattle.up.specs.ComesUp.{longestWait};
@@ -52,6 +53,13 @@ pub extern "C" fn dizbaral_lookup_in(book: &[u64; 1988], target_hz: u32) -> u64
     ensures { λ r. ⌜ r ≡ answerNumber settingNumber (lookupIn (now (book .entry)) «target_hz») ⌝ }
 {
     numbers::found(speed_book::lookup_in(book, target_hz))
+}
+
+#[no_mangle]
+pub extern "C" fn dizbaral_usb_pll(crystal_hz: u32) -> u64
+    ensures { λ r. ⌜ r ≡ answerNumber settingNumber (usbOf «crystal_hz») ⌝ }
+{
+    numbers::found(pll::usb::find_usb_pll(crystal_hz))
 }
 
 #[no_mangle]

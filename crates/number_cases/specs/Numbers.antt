@@ -11,6 +11,7 @@ use Rattle.divider.specs.Pio.{pioOf}
 use Rattle.pll.specs.declared.PllConfig.{PllConfig}
 use Rattle.pll.specs.Setting.{validOf, outputOf}
 use Rattle.pll.specs.Search.{searchOf}
+use Rattle.pll.specs.Usb.{usbOf}
 use Rattle.speed_book.specs.Book.{crystal}
 use Rattle.fields.specs.Row.{nth, byteAt, pllAt, tenAt}
 use Rattle.replies.specs.Reply.{answerText, rowText, yesNo}
@@ -29,6 +30,9 @@ pllText p = rowText (p .refdiv) (p .fbdiv ∷ p .«post_div1» ∷ p .«post_div
 
 abbrev pub searchText : List ℕ → List ℕ
 searchText n = answerText pllText (searchOf (nth n 0) (nth n 1))
+
+abbrev pub usbPllText : List ℕ → List ℕ
+usbPllText n = answerText pllText (usbOf (nth n 0))
 
 abbrev pub bookText : List ℕ → List ℕ
 bookText n = answerText pllText (searchOf crystal (nth n 0))

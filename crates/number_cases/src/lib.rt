@@ -9,7 +9,8 @@ ghost use Rattle.base.specs.Placed.{Placed};
 ghost use Rattle.pll.specs.Search.{foundIs};
 ghost use Rattle.text.specs.Decimal.{decimalOf};
 ghost use Rattle.replies.specs.Reply.{answerText};
-ghost use Rattle.number_cases.specs.Numbers.{pllText, validText, outputText, searchText, bookText, voltageText, pioText, gpoutText};
+ghost use Rattle.number_cases.specs.Numbers.{pllText, validText, outputText, searchText, usbPllText, bookText};
+ghost use Rattle.number_cases.specs.Numbers.{voltageText, pioText, gpoutText};
 
 pub fn put_valid(n: &[u32; 64], out: &mut [u8]) -> usize
     ensures { λ r. ⌜ Placed (now (out .entry)) 0 (validText (now (n .entry))) r (now (out .exit)) ⌝ }
@@ -57,6 +58,12 @@ pub fn put_book(n: &[u32; 64], out: &mut [u8]) -> usize
     ensures { λ r. ⌜ Placed (now (out .entry)) 0 (bookText (now (n .entry))) r (now (out .exit)) ⌝ }
 {
     put_found(out, speed_book::lookup(fields::number_at(n, 0)))
+}
+
+pub fn put_usb_pll(n: &[u32; 64], out: &mut [u8]) -> usize
+    ensures { λ r. ⌜ Placed (now (out .entry)) 0 (usbPllText (now (n .entry))) r (now (out .exit)) ⌝ }
+{
+    put_found(out, pll::usb::find_usb_pll(fields::number_at(n, 0)))
 }
 
 pub fn put_voltage(n: &[u32; 64], out: &mut [u8]) -> usize

@@ -69,7 +69,7 @@ module _ (by : PllConfig → ℕ)
       (λ c d a b l. falls c d (a .1 ∙ sym (b .1)) (omega arith)) 7 (omega arith))
 
 -- by the feedback divider
-lists-settings : Lists key (UpTo Posts (λ c. c .fbdiv) feedbackMax) settings
+pub lists-settings : Lists key (UpTo Posts (λ c. c .fbdiv) feedbackMax) settings
 unfolding settings
 lists-settings =
     lists-falling key Posts (λ c. c .fbdiv) _ feedbackMax (λ fb h. lists-feedback key (λ c d e l. omega arith) fb)

@@ -5,10 +5,9 @@ use mathlib.Core.Logic.{_⊎_, ⊎-elim}
 use mathlib.Core.Bool.{true}
 use Prim.Native.Nat.{ℕ, _/_, _≤_, _<_}
 use native.Mathlib.Omega.{arith}
-use native.Mathlib.Nat.{mul-le-mul, mul-le-mul-left, div-one}
-use borrow.Author.Tests.{le-leb}
+use native.Mathlib.Nat.{mul-le-mul-left, div-one}
 use Rattle.base.specs.Answer.{Answer, value, refusal}
-use Rattle.pll.specs.Ranges.{referenceMin, referenceMax, feedbackMin, feedbackMax, vcoMin, vcoMax}
+use Rattle.pll.specs.Ranges.{referenceMin, vcoMax}
 use Rattle.pll.specs.Setting.{referenceOf, validOf}
 use Rattle.pll.specs.Search.{searchOf}
 use Rattle.pll.specs.Ends.{highestOf, lowestOf}
@@ -18,6 +17,7 @@ use Rattle.pll.proofs.Candidates.{vco-is, candidate-permits}
 use Rattle.pll.proofs.Ends.{Served, served, unserved, number, highest-none, lowest-none, highest-value, lowest-some}
 use Rattle.pll.proofs.Ends.{highest-right}
 use Rattle.pll.proofs.Right.{search-right}
+use Rattle.pll.proofs.Valid.{valid-is}
 
 module _ (input target : ℕ) where
   pub search-finds : referenceMin ≤ input → input ≤ 100000000 → (c : PllConfig) × (searchOf input target ≡ value c)
@@ -58,11 +58,16 @@ module _ (input target : ℕ) where
   pub search-refuses-low : input < referenceMin → searchOf input target ≡ refusal 15
   search-refuses-low l = refuses (λ c m. omega (arith, m .reference-low))
 
-  pub search-refuses-high : 100000000 < input → searchOf input target ≡ refusal 15
-  search-refuses-high l =
-      refuses (λ c m. omega (arith, m .vco .high, vco-is input c (m .reference), mul-le-mul l (m .feedback-low)))
+  -- the VCO of a candidate bounds its input
+  pub input-most : (c : PllConfig) → Candidate input c → input ≤ 100000000
+  input-most c m =
+      omega (arith, m .vco .high, vco-is input c (m .reference), mul-le-mul-left input (m .feedback-low))
 
-  -- what is handed out has a reference of 5 MHz or more, reference divider 1, feedback divider 16 to 320, and VCO and post dividers in range
+  pub search-refuses-high : 100000000 < input → searchOf input target ≡ refusal 15
+  search-refuses-high l = refuses (λ c m. omega (arith, input-most c m))
+
+  -- what is handed out has a reference of 5 MHz or more, reference divider 1, feedback divider 16 to 320, and VCO and
+  -- post dividers in range
   pub found-candidate : (c : PllConfig) → searchOf input target ≡ value c → Candidate input c
   found-candidate c e = subst (RightAnswer input target) e (search-right input target) .candidate
 
@@ -70,22 +75,15 @@ module _ (input target : ℕ) where
   pub found-valid : (c : PllConfig) → searchOf input target ≡ value c → validOf c input ≡ true
   found-valid c e =
       let m = found-candidate c e in
-      let lo : referenceMin ≤ input = m .reference-low in
-      let hi : input ≤ 100000000
-      = omega (arith, m .vco .high, vco-is input c (m .reference), mul-le-mul-left input (m .feedback-low)) in
-      let r : referenceOf c input ≡ input = rw (m .reference, div-one) in
-      simp (
-        le-leb 1 (c .refdiv) (omega (arith, m .reference)),
-        le-leb (c .refdiv) 63 (omega (arith, m .reference)),
-        le-leb feedbackMin _ (m .feedback-low),
-        le-leb _ feedbackMax (m .feedback-high),
-        le-leb _ 7 (m .post1-high),
-        le-leb 1 _ (m .post2-low),
-        le-leb 1 (c .«post_div1») (omega (arith, m .post2-low, m .post2-high)),
-        le-leb _ _ (m .post2-high),
-        le-leb (c .«post_div2») 7 (omega (arith, m .post1-high, m .post2-high)),
-        le-leb vcoMin _ (m .vco .low),
-        le-leb _ vcoMax (m .vco .high),
-        le-leb referenceMin (referenceOf c input) (omega arith),
-        le-leb (referenceOf c input) referenceMax (omega arith),
-      )
+      let one = m .reference in
+      let r : referenceOf c input ≡ input = rw (one, div-one) in
+      valid-is c input
+      (record {
+        refdiv = omega arith;
+        fbdiv = (m .feedback-low, m .feedback-high);
+        post1 = omega arith;
+        post2 = omega arith;
+        posts = m .post2-high;
+        reference = omega (arith, input-most c m);
+        vco = (m .vco .low, m .vco .high);
+      })

@@ -3,7 +3,7 @@
 -- Assumes nothing.
 use mathlib.Core.Path.{_≡_, refl, sym, ap}
 use mathlib.Core.Logic.{_⊎_, inl, inr, ⊎-elim}
-use mathlib.Core.List.{List, [], _∷_, _++_, flatMap}
+use mathlib.Core.List.{List, [], _∷_, _++_, map, flatMap}
 use mathlib.Core.Bool.{Bool, true, false}
 use Prim.Native.Nat.{ℕ, zero, suc, _+_, _≤_, _<_}
 use native.Mathlib.Omega.{arith}
@@ -130,3 +130,15 @@ unfolding keep
 keep-append test [] ys = refl
 keep-append test (c ∷ xs) ys =
     rw (keep-append test xs ys) (pick-append (test c) c (keep test xs) (keep test ys))
+
+-- and of changed settings
+pick-map : (b : Bool) (f : PllConfig → PllConfig) (c : PllConfig) (xs : List PllConfig)
+    → pick b (f c ∷ map f xs) (map f xs) ≡ map f (pick b (c ∷ xs) xs)
+pick-map true f c xs = refl
+pick-map false f c xs = refl
+
+pub keep-map : (test : PllConfig → Bool) (f : PllConfig → PllConfig) (xs : List PllConfig)
+    → keep test (map f xs) ≡ map f (keep (λ c. test (f c)) xs)
+unfolding keep
+keep-map test f [] = refl
+keep-map test f (c ∷ xs) = rw (keep-map test f xs) (pick-map (test (f c)) f c (keep (λ c. test (f c)) xs))

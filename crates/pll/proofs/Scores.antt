@@ -38,7 +38,7 @@ module _ (v t d : ℕ) where
   score-most = ⊎-elim (λ k. omega (arith, k .1)) (λ k. omega (arith, k .1)) score-cases
 
 -- what stands before has the greater key
-before-key : (c d : PllConfig) → c .«post_div1» ≤ 7 → c .«post_div2» ≤ c .«post_div1» → Before d c → key c < key d
+pub before-key : (c d : PllConfig) → c .«post_div1» ≤ 7 → c .«post_div2» ≤ c .«post_div1» → Before d c → key c < key d
 before-key c d h1 h2 b =
     ⊎-elim (λ l. omega arith)
     (λ r. ⊎-elim (λ l. omega (arith, r .0)) (λ l. omega (arith, r .0, l .0, l .1)) (r .1))

@@ -6,7 +6,7 @@ use Prim.Native.Nat.{ℕ, _≤_}
 use native.Mathlib.Nat.{div-le-self}
 use native.Mathlib.Omega.{arith}
 use lib.Dec.{leb}
-use borrow.Author.Tests.{leb-true}
+use borrow.Author.Tests.{leb-true, le-leb}
 use Rattle.base.specs.Choice.{inRange}
 use Rattle.base.proofs.Bools.{both-true, in-range}
 use Rattle.pll.specs.Ranges.{referenceMin, referenceMax, feedbackMin, feedbackMax, vcoMin, vcoMax}
@@ -39,6 +39,24 @@ valid c input e =
       reference = in-range referenceMin referenceMax _ (r .1);
       vco = in-range vcoMin vcoMax _ (t .1);
     }
+
+pub valid-is : (c : PllConfig) (input : ℕ) → Valid c input → validOf c input ≡ true
+valid-is c input v =
+    simp (
+      le-leb 1 _ (v .refdiv .0),
+      le-leb _ 63 (v .refdiv .1),
+      le-leb feedbackMin _ (v .fbdiv .0),
+      le-leb _ feedbackMax (v .fbdiv .1),
+      le-leb 1 _ (v .post1 .0),
+      le-leb _ 7 (v .post1 .1),
+      le-leb 1 _ (v .post2 .0),
+      le-leb _ 7 (v .post2 .1),
+      le-leb _ _ (v .posts),
+      le-leb referenceMin _ (v .reference .0),
+      le-leb _ referenceMax (v .reference .1),
+      le-leb vcoMin _ (v .vco .0),
+      le-leb _ vcoMax (v .vco .1),
+    )
 
 pub output-most : (c : PllConfig) (input : ℕ) → validOf c input ≡ true → outputHz c input ≤ vcoMax
 output-most c input e = omega (arith, valid c input e .vco .1, div-le-self (vcoOf c input) (postsOf c))

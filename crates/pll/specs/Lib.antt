@@ -6,3 +6,6 @@ pub mod Search
 pub mod Ends
 pub mod Law
 pub mod Walk
+pub mod Usb
+pub mod UsbLaw
+pub mod UsbWalk

@@ -1,5 +1,6 @@
 // The PLL: whether a setting is valid, what it gives, and the search for one.
 pub mod feedback;
+pub mod usb;
 
 use base::Number;
 ghost use mathlib.Core.Path.{_≡_};

@@ -1,23 +1,23 @@
--- No sheet of a plan with a PLL that the search found is refused with 5.
+-- No sheet of a plan with the PLLs that the searches found is refused with 5 or 6, and its USB clock has 48 MHz.
 -- Assumes nothing.
-use mathlib.Core.Path.{_≡_, refl, sym, ap, subst}
+use mathlib.Core.Path.{_≡_, refl, sym, subst}
 use mathlib.Core.Bool.{Bool, true, false, _&&_, _||_, not}
 use mathlib.Core.List.{List, [], _∷_}
 use Prim.Native.Nat.{ℕ, _≤_}
 use native.Mathlib.Omega.{arith}
 use lib.Dec.{eqb}
 use borrow.Author.Tests.{eq-eqb}
-use Rattle.base.specs.Answer.{Answer, value, refusal}
-use Rattle.pll.specs.declared.PllConfig.{PllConfig}
+use Rattle.base.specs.Answer.{value}
 use Rattle.pll.specs.Setting.{validOf}
-use Rattle.pll.specs.Search.{searchOf}
 use Rattle.pll.proofs.Inputs.{found-valid}
+use Rattle.pll.proofs.UsbRight.{usb-found, usb-output}
 use Rattle.config.specs.declared.RoscRange.{RoscRange}
 use Rattle.config.specs.declared.ClockConfig.{ClockConfig}
-use Rattle.config.specs.Presets.{ringConfig, feeding, fromPlls, systemVoltage, defaultPlan, withFound, systemPlanFrom}
+use Rattle.config.specs.Presets.{ringConfig, feedingBoth, fromPlls, systemVoltage, systemPlanFrom}
+use Rattle.config.proofs.Systems.{Found, system-from-found}
 use Rattle.settings.specs.Settings.{settingsOf}
-use Rattle.settings.specs.Frequencies.{frequenciesOf}
-use Rattle.refusals.specs.Refusals.{sysPllInvalid, testsOf, first, refusalOf}
+use Rattle.settings.specs.Frequencies.{pllHz, sourcesOf, frequenciesOf}
+use Rattle.refusals.specs.Refusals.{sysPllInvalid, usbPllInvalid, testsOf, first, refusalOf}
 
 -- a test of this number holds
 abbrev holdsAt : ℕ → List (ℕ × Bool) → Bool
@@ -33,31 +33,44 @@ first-holds n ((number, false) ∷ rest) l e = go (eqb n number) (first-holds n 
     go true e = e
     go false e = e
 
-module _ (from hz reading : ℕ) where
-  abbrev plan : PllConfig → ClockConfig
-  plan c = fromPlls (ringConfig 6500000 RoscRange.Medium 16) (feeding from c) (systemVoltage hz)
+module _ (from hz reading : ℕ) (p : ClockConfig) (planned : systemPlanFrom from hz ≡ value p) where
+  made : Found from hz p
+  made = system-from-found from hz p planned
 
-  valid-never-5 : (c : PllConfig) → validOf c from ≡ true → refusalOf (settingsOf (plan c) reading) reading ≡ 5 → ⊥
-  unfolding refusalOf sysPllInvalid
-  valid-never-5 c ok e =
-      let s = settingsOf (plan c) reading in
-      let held = rw ok at (first-holds 5 (testsOf s (frequenciesOf s) reading) (omega arith) e) in
-      let z : _≡_ {A = ℕ} 0 1 = cc (held) in
+  abbrev plan : ClockConfig
+  plan = fromPlls (ringConfig 6500000 RoscRange.Medium 16) (feedingBoth from (made .sys) (made .usb)) (systemVoltage hz)
+
+  usb-valid : validOf (made .usb) from ≡ true
+  usb-valid = usb-found from (made .usb) (made .usb-found) .valid
+
+  never : (n : ℕ) → 1 ≤ n → holdsAt n (testsOf (settingsOf plan reading) (frequenciesOf (settingsOf plan reading)) reading) ≡ false
+      → refusalOf (settingsOf p reading) reading ≡ n → ⊥
+  unfolding refusalOf
+  never n l none e =
+      let s = settingsOf plan reading in
+      let here : refusalOf (settingsOf plan reading) reading ≡ n
+      = subst (λ q. refusalOf (settingsOf q reading) reading ≡ n) (made .is) e in
+      let held = first-holds n (testsOf s (frequenciesOf s) reading) l here in
+      let z : _≡_ {A = ℕ} 0 1 = cc (held, none) in
       omega arith
 
-  abbrev planIn : Answer ClockConfig → ClockConfig
-  planIn (value p) = p
-  planIn (refusal n) = defaultPlan
-
   -- at any reading
-  pub system-from-never-5 : (p : ClockConfig) → systemPlanFrom from hz ≡ value p
-      → refusalOf (settingsOf p reading) reading ≡ 5 → ⊥
-  unfolding systemPlanFrom
-  system-from-never-5 p e = go (searchOf from hz) refl e
-    where
-      go : (a : Answer PllConfig) → searchOf from hz ≡ a → withFound from hz a ≡ value p
-          → refusalOf (settingsOf p reading) reading ≡ 5 → ⊥
-      go (value c) found e five =
-          valid-never-5 c (found-valid from hz c found)
-          (subst (λ q. refusalOf (settingsOf q reading) reading ≡ 5) (sym (ap planIn e)) five)
-      go (refusal n) found e five = absurd (let z : _≡_ {A = ℕ} 0 1 = cc e in omega arith)
+  pub system-from-never-5 : refusalOf (settingsOf p reading) reading ≡ 5 → ⊥
+  unfolding sysPllInvalid
+  system-from-never-5 = never 5 (omega arith) (rw (found-valid from hz (made .sys) (made .sys-found)))
+
+  pub system-from-never-6 : refusalOf (settingsOf p reading) reading ≡ 6 → ⊥
+  unfolding usbPllInvalid
+  system-from-never-6 = never 6 (omega arith) (rw usb-valid)
+
+  -- of the ten stored values, those of the USB PLL, USB and ADC are 48 MHz
+  pub system-from-usb :
+      (frequenciesOf (settingsOf p reading) .sources .«pll_usb» ≡ 48000000)
+      × (frequenciesOf (settingsOf p reading) .usb ≡ 48000000)
+      × (frequenciesOf (settingsOf p reading) .adc ≡ 48000000)
+  unfolding sourcesOf pllHz
+  system-from-usb =
+      subst (λ q. (frequenciesOf (settingsOf q reading) .sources .«pll_usb» ≡ 48000000)
+      × (frequenciesOf (settingsOf q reading) .usb ≡ 48000000)
+      × (frequenciesOf (settingsOf q reading) .adc ≡ 48000000)) (sym (made .is))
+      (rw (usb-valid, usb-output from (made .usb) (made .usb-found)) (refl, refl, refl))

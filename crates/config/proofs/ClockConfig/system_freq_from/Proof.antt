@@ -8,24 +8,42 @@ returns : tie.Need-returns
 unfolding systemPlanFrom
 returns c =
     let fed = c .before .before in
-    let found = fed .before .before .before in
+    let usb = fed .before .before .before in
+    let usb-searched = usb .before .before in
+    let sys = usb-searched .before .before in
     rw (
       c .from-plls .ensures,
       c .before .system-voltage .ensures,
-      fed .feeding .ensures,
+      fed .feeding-both .ensures,
       fed .before .ring .ensures,
-      ← found .before .before .find-pll-params .ensures,
-      found .sys-pll .given .1,
+      ← usb-searched .find-usb-pll .ensures,
+      usb .usb-pll .given .1,
+      ← sys .before .before .find-pll-params .ensures,
+      sys .sys-pll .given .1,
     )
 
 returns-2 : tie.Need-returns-2
 unfolding systemPlanFrom
 returns-2 c =
+    let none = c .before in
+    let usb-searched = none .before .before in
+    let sys = usb-searched .before .before in
+    rw (
+      ← usb-searched .find-usb-pll .ensures,
+      none .number .given .1,
+      ← sys .before .before .find-pll-params .ensures,
+      sys .sys-pll .given .1,
+    )
+
+returns-3 : tie.Need-returns-3
+unfolding systemPlanFrom
+returns-3 c =
     let searched = c .before .before .before in
-    rw (← searched .find-pll-params .ensures, c .before .number .given .1)
+    rw (← searched .find-pll-params .ensures, c .before .number2 .given .1)
 
 pub system-freq-from-spec : {M : Type 1} → statement M
 system-freq-from-spec =
     tie.close
-    (tie.spec (λ c κs. search needs) (λ c. search needs) (λ c κs. search needs)
-    (λ c κs. search needs) (λ c κs. search needs) (λ c κs. search needs) (λ c. search needs) returns returns-2)
+    (tie.spec (λ c κs. search needs) (λ c. search needs) (λ c κs. search needs) (λ c. search needs)
+    (λ c κs. search needs) (λ c κs. search needs) (λ c κs. search needs) (λ c κs. search needs)
+    (λ c. search needs) (λ c. search needs) returns returns-2 returns-3)
