@@ -4,10 +4,9 @@
 mod clocks;
 mod lines;
 mod measure;
-mod plain_runner;
 mod recorder;
 
-// Of the oracle: the stand-in for rp-pac, plans as 48 numbers, and random ones.
+// Of the oracle: the stand-in for rp-pac, plans as 48 numbers, random ones, and the plain runner.
 #[allow(dead_code)]
 #[path = "../../oracle/src/case.rs"]
 mod case;
@@ -17,6 +16,8 @@ mod limits;
 #[allow(dead_code)]
 #[path = "../../oracle/src/pac/mod.rs"]
 mod pac;
+#[path = "../../oracle/src/plain_runner.rs"]
+mod plain_runner;
 #[allow(dead_code)]
 #[path = "../../oracle/src/plan.rs"]
 mod plan;

@@ -217,7 +217,7 @@ fn whole_plan(plan: &[u32]) -> bool {
 }
 
 /// One to ten decimal digits, of a number of 32 bits.
-fn number(word: &str) -> Option<u32> {
+pub fn number(word: &str) -> Option<u32> {
     let digits = (1..=10).contains(&word.len()) && word.bytes().all(|byte| byte.is_ascii_digit());
     digits.then(|| word.parse().ok()).flatten()
 }

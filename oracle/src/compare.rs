@@ -149,7 +149,7 @@ pub fn compare(mut lines: impl Iterator<Item = String>, program: &str) -> io::Re
         if batch.is_empty() {
             break;
         }
-        let theirs = ask(program, &batch)?;
+        let theirs = ask(program, &(batch.join("\n") + "\n"))?;
         let ours: Vec<&str> = theirs.split_terminator('\n').collect();
         if ours.len() != batch.len() {
             println!("finding: {} answers to {} cases", ours.len(), batch.len());
@@ -188,14 +188,14 @@ pub fn named(what: impl Display, why: io::Error) -> io::Error {
     io::Error::new(why.kind(), format!("{what}: {why}"))
 }
 
-/// The program's output for these lines.
-fn ask(program: &str, lines: &[String]) -> io::Result<String> {
+/// The program's output for an input.
+pub fn ask(program: &str, input: &str) -> io::Result<String> {
     let started = Command::new(program).stdin(Stdio::piped()).stdout(Stdio::piped()).spawn();
     let mut child = started.map_err(|why| named(program, why))?;
-    let mut input = child.stdin.take().unwrap();
+    let mut to_program = child.stdin.take().unwrap();
     let mut output = child.stdout.take().unwrap();
-    let text = lines.join("\n") + "\n";
-    let writer = std::thread::spawn(move || input.write_all(text.as_bytes()));
+    let text = input.to_string();
+    let writer = std::thread::spawn(move || to_program.write_all(text.as_bytes()));
     let mut answers = Vec::new();
     output.read_to_end(&mut answers)?;
     // A program that stops early is seen by its missing answers.

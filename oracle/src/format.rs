@@ -150,6 +150,13 @@ fn the_book_begins_as_shown() {
 }
 
 #[test]
+fn the_load_of_0_1_is_as_shown() {
+    let _alone = crate::tests::alone();
+    let shown = section("Program load").skip_while(|line| *line != "```").skip(1);
+    assert!(shown.take(2).eq(crate::load::output("0 1").lines()));
+}
+
+#[test]
 fn the_cases_are_those_that_are_answered() {
     let asked = cells("Text cases").into_iter().filter_map(|cells| cells[0].strip_prefix('`'));
     let words: Vec<&str> = asked.map(|case| case.split(' ').next().unwrap()).collect();

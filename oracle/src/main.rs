@@ -10,8 +10,10 @@ mod format;
 mod generate;
 mod generate_ruled;
 mod limits;
+mod load;
 mod pac;
 mod panics;
+mod plain_runner;
 mod plan;
 mod random;
 mod random_plan;
@@ -53,7 +55,9 @@ const USAGE: &str = "oracle answer
 oracle cases SEED N
 oracle compare SEED N PROGRAM [WORD]
 oracle replay SEED N FOLDER
-oracle book";
+oracle book
+oracle load SEED COUNT
+oracle compare-load SEED N PROGRAM";
 
 fn main() -> ExitCode {
     panics::install();
@@ -71,10 +75,14 @@ fn main() -> ExitCode {
             .map_or(usage(), |((seed, n), kind)| {
                 compare::compare(generate::lines_of(kind, seed, n as usize), program)
             }),
-        ["book"] => io::stdout().write_all(book::text().as_bytes()).map(|()| true),
+        ["book"] => print(&book::text()),
         ["replay", seed, count, folder] => number(seed)
             .zip(number(count))
             .map_or(usage(), |(seed, n)| replay::replay(seed, n as usize, Path::new(folder))),
+        ["load", seed, count] => print(&load::output(&format!("{seed} {count}\n"))),
+        ["compare-load", seed, count, program] => number(seed)
+            .zip(number(count))
+            .map_or(usage(), |(seed, n)| load::compare(seed, n as usize, program)),
         _ => usage(),
     };
     match done {
@@ -89,6 +97,10 @@ fn main() -> ExitCode {
 
 fn usage() -> io::Result<bool> {
     Err(io::Error::new(io::ErrorKind::InvalidInput, USAGE))
+}
+
+fn print(text: &str) -> io::Result<bool> {
+    io::stdout().write_all(text.as_bytes()).map(|()| true)
 }
 
 fn number(word: &str) -> Option<u64> {

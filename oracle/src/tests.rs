@@ -9,6 +9,7 @@ use crate::compare::{Class, class, compare};
 use crate::cortex_m::asm::delay;
 use crate::generate;
 use crate::limits;
+use crate::load;
 use crate::pac::values::clocks::{ClkRefCtrlAuxsrc, ClkRefCtrlSrc, ClkSysCtrlSrc};
 use crate::pac::{self, fields};
 use crate::plan;
@@ -188,6 +189,26 @@ fn the_book_has_every_setting_once_and_the_search_finds_the_first_of_an_output()
     for (output, (feedback, post1, post2)) in firsts {
         assert_eq!(answer_line(&format!("book {output}")), format!("1 {feedback} {post1} {post2}"));
     }
+}
+
+#[test]
+fn a_load_is_both_trials() {
+    let _alone = alone();
+    let rows = [
+        ("0 1\n", "84 1 1\n1 0\n"),
+        ("0 0", "0 0\n"),
+        ("0 10001\n", "refused 31\n"),
+        ("x 10001\n", "refused 24\n"),
+        ("1  1\n", "refused 24\n"),
+        ("4294967296 1\n", "refused 24\n"),
+    ];
+    for (input, output) in rows {
+        assert_eq!(load::output(input), output, "{input}");
+    }
+    // Past the last step the runner stays, and each unready wait was counted.
+    let long = load::output("7 300");
+    assert_eq!(long.lines().count(), 301);
+    assert!(long.ends_with("\n62 14\n"), "{long}");
 }
 
 #[test]

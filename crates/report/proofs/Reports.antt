@@ -6,14 +6,11 @@ use mathlib.Core.Logic.{_⊎_, inl, inr}
 use mathlib.Core.Path.{_≡_, refl, ap, _∙_}
 use Prim.Native.Nat.{ℕ, _+_, _≤_}
 use Prim.Native.String.{String}
-use native.Mathlib.Nat.{zero-add}
 use native.Mathlib.Omega.{arith}
 use borrow.Author.Tests.{eq-eqb}
 use lib.Count.{ones, ones-le}
-use lib.Seq.{length-sets, sets-eq}
 use lib.ListN.{length, take, length-append}
 use Rattle.base.specs.Answer.{value}
-use Rattle.base.specs.Placed.{Placed}
 use Rattle.text.specs.Ascii.{ascii}
 use Rattle.text.specs.Decimal.{valueOf, isNumber, numberOf}
 use Rattle.text.specs.Words.{upTo, lineNumberOf}
@@ -27,7 +24,6 @@ use Rattle.refusals.proofs.Stored.{EachHz, stored-small}
 use Rattle.sheet.specs.Steps.{releaseMask}
 use Rattle.report.specs.Lines.{lineOf, linesOf, reportNames, refusedLine}
 use Rattle.report.specs.Report.{reading, numbersOf, planReport, plannedReport, targetReport, reportOf}
-use Rattle.report.specs.Report.{Whole, Printed}
 use Rattle.report.proofs.Systems.{Served, system-accepted}
 
 -- an input that has a target: its plan is accepted, and the report is its eleven lines
@@ -99,25 +95,3 @@ report-most input = go (report-cases input)
         let each = each-append (storedOf s) (ones mask ∷ [])
         (stored-small s reading (r .served .typed) (r .served .accepted)) (omega arith, tt) in
         rw (r .lines) (omega (arith, lines-most reportNames (numbersOf s) each))
-
--- what finds room is placed whole
-pub whole : (output : List ℕ) {before after : List ℕ} {size : ℕ} → length output ≤ length before
-    → Placed before 0 output size after → Whole output before size after
-whole output {before} {after} {size} room p =
-    let is : size ≡ length output = omega (arith, zero-add (length output)) in
-    let same : length after ≡ length before = ap length (p .bytes) ∙ length-sets before 0 output in
-    record {
-      fits = omega arith;
-      size-is = is;
-      bytes = rw is (p .bytes ∙ rw zero-add at (sets-eq output before 0 (omega arith)));
-    }
-
--- what was placed for the start of an input is the output of the whole input
-pub printed : (start : List ℕ) (n : ℕ) {before after : List ℕ} {size : ℕ} → 11 ≤ length start → 256 ≤ length before
-    → Placed before 0 (reportOf (take n start)) size after → Printed start n before size after
-printed start n enough room p =
-    let w = whole (reportOf (take n start)) (omega (arith, report-most (take n start))) p in
-    record {
-      fits = w .fits;
-      prints = λ input e. rw (← report-start (length start) input enough, e) w;
-    }

@@ -1,11 +1,9 @@
 -- The whole output of program `clocks`, for its input.
 -- Assumes nothing.
 use mathlib.Core.List.{List, [], _∷_, _++_}
-use mathlib.Core.Path.{_≡_}
-use Prim.Native.Nat.{ℕ, _≤_}
+use Prim.Native.Nat.{ℕ}
 use lib.Count.{ones}
 use lib.Dec.{eqb}
-use lib.ListN.{length, take, drop}
 use Rattle.base.specs.Answer.{Answer, value, refusal}
 use Rattle.base.specs.Choice.{pick}
 use Rattle.text.specs.Words.{lineNumberOf}
@@ -43,14 +41,3 @@ targetReport (refusal n) = refusedLine n
 -- the number on the first line is the target of the `system_freq` plan
 unfoldable pub reportOf : List ℕ → List ℕ
 reportOf input = targetReport (lineNumberOf input)
-
--- the whole output finds room, and what is behind it keeps its values
-pub record Whole (output before : List ℕ) (size : ℕ) (after : List ℕ) : Type 0 where
-  pub fits : size ≤ length after
-  pub size-is : size ≡ length output
-  pub bytes : after ≡ output ++ drop size before
-
--- a call that is given the first n bytes of an input, or as many as start has: the output of every such input
-pub record Printed (start : List ℕ) (n : ℕ) (before : List ℕ) (size : ℕ) (after : List ℕ) : Type 0 where
-  pub fits : size ≤ length after
-  pub prints : (input : List ℕ) → take (length start) input ≡ take n start → Whole (reportOf input) before size after

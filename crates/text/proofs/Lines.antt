@@ -48,7 +48,7 @@ between s at b =
     let n : at + length (upTo b (drop at s)) - at ≡ length (upTo b (drop at s)) = omega arith in
     rw n (take-up b (drop at s))
 
-up-take : (b n : ℕ) (s : List ℕ) → upTo b (take n s) ≡ take n (upTo b s)
+pub up-take : (b n : ℕ) (s : List ℕ) → upTo b (take n s) ≡ take n (upTo b s)
 up-take b zero s = refl
 up-take b (suc n) [] = refl
 up-take b (suc n) (x ∷ xs) = go (eqb x b) (up-take b n xs)
@@ -58,7 +58,7 @@ up-take b (suc n) (x ∷ xs) = go (eqb x b) (up-take b n xs)
     go true e = refl
     go false e = ap (λ (l : List ℕ). x ∷ l) e
 
-too-long : (cs : List ℕ) → 10 < length cs → numberOf cs ≡ refusal 24
+pub too-long : (cs : List ℕ) → 10 < length cs → numberOf cs ≡ refusal 24
 too-long cs h = bad-length cs (rw (le-leb 1 (length cs) (omega arith), lt-leb (length cs) 10 h))
 
 -- the first 11 bytes decide: a program may read so many and leave the rest

@@ -8,8 +8,8 @@ use Rattle.clocks.proofs.main.Tie as tie
 pub main-spec : {M : Type 1} → statement M
 main-spec =
     tie.close
-    (tie.spec (λ c κs. search needs) (λ c. search needs) (λ c κs. search needs) (λ c. c .report .ensures .fits)
+    (tie.spec (λ c. search needs) (λ c κs. search needs) (λ c. search needs) (λ c κs. search needs) (λ c. search needs)
     (λ c. sym (length-take-le _ _ (c .before .report .ensures .fits))) (λ c κs. search needs) (λ c. search needs)
-    (λ c κs. search needs) (λ c. c .unread .ensures .fits)
+    (λ c κs. search needs) (λ c. search needs)
     (λ c. sym (length-take-le _ _ (c .before .unread .ensures .fits))) (λ c κs. search needs) (λ c. search needs)
     (λ c. search needs))

@@ -2,8 +2,9 @@
 use borrow.Author.Needs.{needs}
 use native.Mathlib.Omega.{arith}
 use Rattle.text.specs.Ascii.{ascii}
+use Rattle.text.proofs.Outputs.{whole}
 use Rattle.report.specs.Lines.{refusedLine}
-use Rattle.report.proofs.Reports.{line-most, whole}
+use Rattle.report.proofs.Reports.{line-most}
 use Rattle.report.proofs.unread.Statement.{statement}
 use Rattle.report.proofs.unread.Tie as tie
 

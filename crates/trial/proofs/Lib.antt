@@ -1,0 +1,4 @@
+pub mod Starts
+pub mod Bounds
+pub mod Trials
+pub mod Sheets

@@ -1,0 +1,50 @@
+-- `trial::run` meets its contract. Invariant: after i calls the runner and the last draw are those of the definitions.
+-- Measure: how many calls are left. Assumes nothing.
+use mathlib.Core.Path.{_≡_, refl, ap, _∙_}
+use Prim.Native.Nat.{_-_, _≤_}
+use native.Mathlib.Omega.{arith}
+use borrow.Author.Needs.{needs}
+use Rattle.up.specs.Wait.{runnerAfter}
+use Rattle.trial.specs.Draws.{drawn}
+use Rattle.trial.specs.Load.{flags}
+use Rattle.trial.proofs.Trials.{draw-next, runner-next}
+use Rattle.trial.proofs.run.Statement.{statement}
+use Rattle.trial.proofs.run.Tie as tie
+
+abbrev Inv-loop : tie.InvT-loop
+Inv-loop sheet seed count runner₀ x₀ i₀ runner x i =
+    (i ≤ count) × (x ≡ drawn seed i) × (runner ≡ runnerAfter sheet (flags seed) i)
+
+abbrev μ-loop : tie.MeasureT-loop
+μ-loop sheet seed count runner₀ x₀ i₀ runner x i = count - i
+
+loop-holds : tie.Need-loop-holds Inv-loop μ-loop
+unfolding drawn runnerAfter
+loop-holds c = (search needs, refl, c .new .ensures)
+
+loop-again : tie.Need-loop-again Inv-loop μ-loop
+loop-again c =
+    let call = c .before in
+    let flag = call .before in
+    let next = flag .before in
+    let at = next .before .before in
+    let args = at .before .before .before .args in
+    let drew = draw-next (args .seed) (at .loop .i) (at .loop .inv .1) (next .draw .ensures) in (
+      omega arith,
+      drew,
+      runner-next (args .seed) (at .loop .i) (args .sheet .now) (call .advance .result) drew (at .loop .inv .2)
+          (flag .top-bit .ensures) (call .advance .ensures),
+    )
+
+returns : tie.Need-returns Inv-loop μ-loop
+returns c =
+    let at = c .before in
+    let args = at .before .before .before .args in
+    let all : at .loop .i ≡ args .count = omega arith in
+    at .loop .inv .2 ∙ ap (runnerAfter (args .sheet .now) (flags (args .seed))) all
+
+pub run-spec : {M : Type 1} → statement M
+run-spec =
+    tie.close
+    (tie.spec Inv-loop μ-loop (λ c κs. search needs) loop-holds (λ c κs. search needs) (λ c κs. search needs)
+    (λ c κs. search needs) (λ c. search needs) (λ c. search needs) loop-again returns)

@@ -1,0 +1,175 @@
+// The whole output of the program `load` for its input: the same two trials on each machine.
+use base::Length;
+use base::Number;
+use config::ClockConfig;
+use pll::Found;
+use runner::Runner;
+use step::MAX_BYTES;
+ghost use mathlib.Core.Path.{_≡_};
+ghost use Prim.Native.Nat.{_*_, _%_, _^_, _≤_};
+ghost use lib.ListN.{length, take};
+ghost use Rattle.base.specs.Answer.{value, numberIs};
+ghost use Rattle.base.specs.Placed.{Placed};
+ghost use Rattle.text.specs.Output.{Whole, Printed};
+ghost use Rattle.up.specs.Wait.{runnerAfter};
+ghost use Rattle.trial.specs.Draws.{drawOf, topBit};
+ghost use Rattle.trial.specs.Load.{refusedLine, targetLine, targetLines, flags, trialRunner, runnerLine};
+ghost use Rattle.trial.specs.Load.{trials, loadWith, loadOf};
+
+// The crystal of both trials.
+const CRYSTAL_HZ: u32 = 12000000;
+
+// The regulator's reading: 1.10 V.
+const READING: u8 = 11;
+
+// The largest count that is served.
+const MOST_COUNT: u32 = 10000;
+
+// The product modulo 32 bits.
+fn times(a: u32, b: u32) -> u32
+    ensures { λ r. ⌜ r ≡ (a * b) % 2 ^ 32 ⌝ }
+{
+    ((a as u64 * b as u64) % 4294967296) as u32
+}
+
+pub fn draw(x: u32) -> u32
+    ensures { λ r. ⌜ r ≡ drawOf x ⌝ }
+{
+    std::num::wrapping_add_u32(times(1664525, x), 1013904223)
+}
+
+fn top_bit(x: u32) -> bool
+    ensures { λ r. ⌜ r ≡ topBit x ⌝ }
+{
+    2147483648 <= x
+}
+
+fn put_refused(out: &mut [u8], number: u8) -> usize
+    ensures { λ r. ⌜ Placed (now (out .entry)) 0 (refusedLine number) r (now (out .exit)) ⌝ }
+{
+    let at = replies::put_refused(out, number);
+    text::put_byte(out, at, b'\n')
+}
+
+// The setting for a target, on a line. At 12 MHz every target has one.
+fn put_target(out: &mut [u8], at: usize, x: u32) -> usize
+    ensures { λ r. ⌜ Placed (now (out .entry)) at (targetLine x) r (now (out .exit)) ⌝ }
+{
+    let Found::Params(p) = pll::find_pll_params(CRYSTAL_HZ, x) else {
+        return at;
+    };
+    let more = [p.post_div1 as u64, p.post_div2 as u64];
+    let at = replies::put_row(out, at, p.fbdiv as u64, &more);
+    text::put_byte(out, at, b'\n')
+}
+
+fn put_targets(out: &mut [u8], seed: u32, count: u32) -> usize
+    ensures { λ r. ⌜ Placed (now (out .entry)) 0 (targetLines seed count) r (now (out .exit)) ⌝ }
+{
+    let mut at = 0;
+    let mut x = seed;
+    let mut i = 0;
+    while i < count {
+        x = draw(x);
+        at = put_target(out, at, x);
+        i += 1;
+    }
+    at
+}
+
+// A fresh runner over a sheet: each call hears the top bit of a draw.
+fn run(sheet: &[u8], seed: u32, count: u32) -> Runner
+    ensures { λ r. ⌜ r ≡ runnerAfter (now (sheet .entry)) (flags seed) count ⌝ }
+{
+    let mut runner = Runner::new();
+    let mut x = seed;
+    let mut i = 0;
+    while i < count {
+        x = draw(x);
+        let stepped = runner::advance(runner, sheet, top_bit(x));
+        runner = stepped.runner;
+        i += 1;
+    }
+    runner
+}
+
+// The preset is accepted, and its sheet finds room.
+fn trial_runner(seed: u32, count: u32) -> Runner
+    ensures { λ r. ⌜ r ≡ trialRunner seed count ⌝ }
+{
+    let mut bytes = [0u8; MAX_BYTES];
+    let Length::Bytes(n) = sheet::init(ClockConfig::crystal(CRYSTAL_HZ), READING, &mut bytes) else {
+        return Runner::new();
+    };
+    run(&bytes[..n], seed, count)
+}
+
+fn put_runner(out: &mut [u8], at: usize, r: Runner) -> usize
+    ensures { λ e. ⌜ Placed (now (out .entry)) at (runnerLine r) e (now (out .exit)) ⌝ }
+{
+    let total = [r.state.total as u64];
+    let at = replies::put_row(out, at, r.state.position as u64, &total);
+    text::put_byte(out, at, b'\n')
+}
+
+fn put_trials(out: &mut [u8], seed: u32, count: u32) -> usize
+    ensures { λ r. ⌜ Placed (now (out .entry)) 0 (trials seed count) r (now (out .exit)) ⌝ }
+{
+    let at = put_targets(out, seed, count);
+    put_runner(out, at, trial_runner(seed, count))
+}
+
+// The output for a seed, with the count still to be looked at.
+fn put_counted(out: &mut [u8], seed: u32, count: Number) -> usize
+    ensures { λ r. ⌜ Placed (now (out .entry)) 0 (loadWith (value seed) (numberIs count)) r (now (out .exit)) ⌝ }
+{
+    match count {
+        Number::Value(count) => {
+            if count > MOST_COUNT {
+                return put_refused(out, 31);
+            }
+            put_trials(out, seed, count)
+        }
+        Number::Refused(number) => put_refused(out, number),
+    }
+}
+
+// The output for an input, and its length.
+fn put_load(input: &[u8], out: &mut [u8]) -> usize
+    requires { ⌜ length (now input) ≤ 22 ⌝ }
+    ensures { λ r. ⌜ Placed (now (out .entry)) 0 (loadOf (now (input .entry))) r (now (out .exit)) ⌝ }
+{
+    let space = text::index_from(input, 0, b' ');
+    match text::number_up_to(input, 0, b' ') {
+        Number::Value(seed) => {
+            put_counted(out, seed, text::number_up_to(input, space + 1, b'\n'))
+        }
+        Number::Refused(no_seed) => put_refused(out, no_seed),
+    }
+}
+
+// The output for the first n bytes of an input, or for all of them.
+fn put_start(start: &[u8], n: usize, out: &mut [u8]) -> usize
+    requires { ⌜ length (now start) ≤ 22 ⌝ }
+    ensures { λ r. ⌜ Placed (now (out .entry)) 0 (loadOf (take n (now (start .entry)))) r (now (out .exit)) ⌝ }
+{
+    if n < start.len() {
+        return put_load(&start[..n], out);
+    }
+    put_load(start, out)
+}
+
+// Writes the output for an input of which the first n bytes are known: all that it has, or as many as start holds, which
+// decide. Answers the output's length.
+pub fn load(start: &[u8; 22], n: usize, out: &mut [u8; 80012]) -> usize
+    ensures { λ e. ⌜ Printed loadOf (now (start .entry)) n (now (out .entry)) e (now (out .exit)) ⌝ }
+{
+    put_start(start, n, out)
+}
+
+// The output where the input cannot be read.
+pub fn unread(out: &mut [u8; 80012]) -> usize
+    ensures { λ e. ⌜ Whole (refusedLine 24) (now (out .entry)) e (now (out .exit)) ⌝ }
+{
+    put_refused(out, 24)
+}
