@@ -88,6 +88,7 @@ impl Inputs {
             search("search, random inputs", 0.055, &self.random),
             self.lookup(),
             self.lookup_in(),
+            self.margin(),
             self.crystal_sheet(),
             self.plan_sheets(),
             self.pio(),
@@ -122,6 +123,25 @@ impl Inputs {
                 }
             }),
             ..search("", 0.0, &self.inexact)
+        }
+    }
+
+    /// The margin of a target, beside the same halving over the Rust's search.
+    fn margin(&self) -> Line<'_> {
+        Line {
+            name: "margin",
+            calls: self.inexact.len(),
+            goal: 0.1,
+            proved: Box::new(|| {
+                for &(input, target) in &self.inexact {
+                    let _ = black_box(dizbaral::target_margin(black_box(input), black_box(target)));
+                }
+            }),
+            rust: Box::new(|| {
+                for &(input, target) in &self.inexact {
+                    black_box(halved_margin(black_box(input), black_box(target)));
+                }
+            }),
         }
     }
 
@@ -243,6 +263,11 @@ impl Inputs {
             let found = dizbaral::find_pll_params(input, target);
             assert_eq!((book.lookup(target), dizbaral::lookup(target)), (found, found));
         }
+        for &(input, target) in &self.inexact {
+            let (low, high) = halved_margin(input, target);
+            let margin = dizbaral::Margin { lower: low.checked_sub(1), higher: high.checked_add(1) };
+            assert_eq!(dizbaral::target_margin(input, target), Ok(margin));
+        }
         let mut sheet = [0; 520];
         for numbers in &self.plans {
             let length = dizbaral::plan_sheet(numbers, READING, &mut sheet).unwrap();
@@ -296,6 +321,22 @@ fn search<'a>(name: &'static str, goal: f64, inputs: &'a [(u32, u32)]) -> Line<'
             }
         }),
     }
+}
+
+/// The lowest and the highest target with the setting of this one, by halving.
+fn halved_margin(input: u32, target: u32) -> (u32, u32) {
+    let setting = |target| clocks::search(input, target).map(|c| (c.fbdiv, c.post_div1, c.post_div2));
+    let (given, mut bottom, mut low) = (setting(target), 0, target);
+    while bottom < low {
+        let middle = bottom + (low - bottom) / 2;
+        if setting(middle) == given { low = middle } else { bottom = middle + 1 }
+    }
+    let (mut high, mut top) = (target, u32::MAX);
+    while high < top {
+        let middle = top - (top - high) / 2;
+        if setting(middle) == given { high = middle } else { top = middle - 1 }
+    }
+    (low, high)
 }
 
 /// Whether a setting gives the target with no remainder.

@@ -20,6 +20,7 @@
 
 #define DIZBARAL_REFUSAL ((uint64_t)1 << 48)
 #define DIZBARAL_MALFORMED ((uint64_t)1 << 49)
+#define DIZBARAL_ABSENT ((uint64_t)1 << 32)
 #define DIZBARAL_STEP ((uint64_t)1 << 58)
 
 /* What dizbaral_run answers beside these. */
@@ -56,6 +57,10 @@ uint64_t dizbaral_lookup_in(const uint64_t book[1988], uint32_t target_hz);
 /* find_usb_pll: the setting that makes 48 MHz of a crystal with no remainder, as dizbaral_search answers one.
  * Refusal 25. */
 uint64_t dizbaral_usb_pll(uint32_t crystal_hz);
+
+/* Writes the greatest lower target and the smallest higher target whose settings differ from the target's, each
+ * DIZBARAL_ABSENT where no target of 32 bits is such. All targets between the two share the setting. 0, or refusal 15. */
+uint64_t dizbaral_target_margin(uint32_t input_hz, uint32_t target_hz, uint64_t limits[2]);
 
 /* is_valid: whether the four dividers are valid for an input frequency. */
 bool dizbaral_is_valid(uint32_t input_hz, uint8_t refdiv, uint16_t fbdiv, uint8_t post_div1, uint8_t post_div2);

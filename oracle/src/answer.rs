@@ -6,6 +6,7 @@ use crate::book;
 use crate::case::{Case, Kind, PLAN};
 use crate::clocks::{self, ClockConfig, Gpout, GpoutSrc};
 use crate::cuts::{self, Cuts};
+use crate::margin::margin;
 use crate::pac;
 use crate::panics::{Panic, catch};
 use crate::peripherals::PIN_21;
@@ -75,6 +76,7 @@ pub fn answer(case: &Case) -> Answer {
             None => "refused 25".to_string(),
         }),
         Kind::Book => search(book::INPUT, n[0]),
+        Kind::Margin => margin(n[0], n[1]),
         Kind::Voltage => voltage(n[0]),
         Kind::Pio => {
             let value = || says(calculate_pio_clock_divider_value(n[0], n[1]).to_bits());

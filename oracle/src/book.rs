@@ -1,4 +1,4 @@
-//! The 12 MHz book: every candidate of the search with the Rust's output frequency.
+//! Candidates of the search with the Rust's output frequencies; those at 12 MHz are the book.
 
 use std::cmp::Reverse;
 
@@ -8,9 +8,9 @@ use crate::rules::{self, Setting};
 pub const INPUT: u32 = 12_000_000;
 
 /// By output, equal outputs in the search's order: the greatest dividers first.
-pub fn entries() -> Vec<(u32, Setting)> {
-    let output = |(feedback, post1, post2)| plan::pll(&[1, feedback, post1, post2]).output_frequency(INPUT);
-    let mut entries: Vec<_> = rules::candidates(INPUT).map(|setting| (output(setting), setting)).collect();
+pub fn by_output(input: u32) -> Vec<(u32, Setting)> {
+    let output = |(feedback, post1, post2)| plan::pll(&[1, feedback, post1, post2]).output_frequency(input);
+    let mut entries: Vec<_> = rules::candidates(input).map(|setting| (output(setting), setting)).collect();
     entries.sort_by_key(|&(output, setting)| (output, Reverse(setting)));
     entries
 }
@@ -18,5 +18,5 @@ pub fn entries() -> Vec<(u32, Setting)> {
 /// What the program `book` prints.
 pub fn text() -> String {
     let line = |(output, (feedback, post1, post2))| format!("{output} {feedback} {post1} {post2}\n");
-    entries().into_iter().map(line).collect()
+    by_output(INPUT).into_iter().map(line).collect()
 }

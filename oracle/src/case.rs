@@ -7,6 +7,7 @@ pub enum Kind {
     Search,
     UsbPll,
     Book,
+    Margin,
     List,
     Voltage,
     Pio,
@@ -55,12 +56,13 @@ pub const U16: Fits = UpTo(u16::MAX as u32);
 pub const U32: Fits = UpTo(u32::MAX);
 pub const ROOM: Fits = UpTo(1024);
 
-pub const KINDS: [(&str, Kind); 19] = [
+pub const KINDS: [(&str, Kind); 20] = [
     ("valid", Kind::Valid),
     ("output", Kind::Output),
     ("search", Kind::Search),
     ("usb_pll", Kind::UsbPll),
     ("book", Kind::Book),
+    ("margin", Kind::Margin),
     ("list", Kind::List),
     ("voltage", Kind::Voltage),
     ("pio", Kind::Pio),
@@ -86,7 +88,7 @@ impl Kind {
     pub fn numbers(self) -> &'static [Fits] {
         match self {
             Kind::Valid | Kind::Output => &[U32, U8, U16, U8, U8],
-            Kind::Search | Kind::Pio => &[U32, U32],
+            Kind::Search | Kind::Margin | Kind::Pio => &[U32, U32],
             Kind::UsbPll | Kind::Book => &[U32],
             Kind::List => &[U32, U32, ROOM],
             Kind::Voltage => &[U8],

@@ -65,7 +65,7 @@ fn ruled_case(r: &mut Random) -> Case {
 fn of_kind(r: &mut Random, kind: Kind) -> Case {
     let numbers = match kind {
         Kind::Valid | Kind::Output => setting(r),
-        Kind::Search => search(r),
+        Kind::Search | Kind::Margin => search(r),
         Kind::UsbPll => vec![ruled::crystal(r)],
         Kind::Book => vec![search_target(r, 12_000_000)],
         Kind::List => ruled::list(r),

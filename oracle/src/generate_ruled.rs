@@ -8,20 +8,21 @@ use crate::limits;
 use crate::random::Random;
 use crate::sleep::cases as sleep;
 
-pub const KINDS: [Kind; 6] = [Kind::UsbPll, Kind::Book, Kind::List, Kind::Sleep, Kind::Wake, Kind::SystemFrom];
+pub const KINDS: [Kind; 7] = [Kind::UsbPll, Kind::Book, Kind::Margin, Kind::List, Kind::Sleep, Kind::Wake, Kind::SystemFrom];
 
 pub fn limits() -> Vec<Case> {
     let mut cases = Vec::new();
     for input in limits::SEARCH_INPUTS {
         for target in [0, 1, 48_000_000, 125_000_000, 200_000_000, 800_000_000, 1_600_000_000, u32::MAX] {
             cases.extend([0, 2, 1024].map(|room| Case::new(Kind::List, &[input, target, room])));
+            cases.push(Case::new(Kind::Margin, &[input, target]));
         }
     }
     for crystal in limits::CRYSTALS.into_iter().chain(limits::PLL_INPUTS) {
         cases.push(Case::new(Kind::UsbPll, &[crystal]));
     }
     // Every output, the middle to the next one, and their neighbours.
-    let outputs: Vec<u32> = book::entries().into_iter().map(|(output, _)| output).collect();
+    let outputs: Vec<u32> = book::by_output(book::INPUT).into_iter().map(|(output, _)| output).collect();
     for (&output, &next) in outputs.iter().zip(outputs.iter().skip(1).chain([&u32::MAX])) {
         let middle = output + (next - output) / 2;
         cases.extend(

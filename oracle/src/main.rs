@@ -11,6 +11,7 @@ mod generate;
 mod generate_ruled;
 mod limits;
 mod load;
+mod margin;
 mod pac;
 mod panics;
 mod plain_runner;

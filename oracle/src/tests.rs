@@ -59,6 +59,10 @@ fn worked_values() {
         ("list 12000000 125000000 3", "refused 19"),
         ("list 12000000 125000001 0", "0 -"),
         ("list 3000000 125000000 1024", "0 -"),
+        ("margin 4999999 125000000", "refused 15"),
+        ("margin 100000001 125000000", "refused 15"),
+        ("margin 12000000 0", "- 15551020"),
+        ("margin 12000000 4294967295", "1589999999 -"),
         ("system_from 11 520 4999999 125000000", "refused 15"),
         ("system_from 16 520 100000001 125000000", "refused 15"),
         ("system_from 16 520 12000000 125000000", "drops 18"),
@@ -178,7 +182,7 @@ fn every_usb_pll_is_valid_and_gives_48_mhz() {
 
 #[test]
 fn the_book_has_every_setting_once_and_the_search_finds_the_first_of_an_output() {
-    let entries = book::entries();
+    let entries = book::by_output(book::INPUT);
     assert_eq!(entries.len(), 1988);
     assert!(book::text().starts_with("15428571 63 7 7\n"));
     let mut settings: Vec<rules::Setting> = entries.iter().map(|&(_, setting)| setting).collect();
@@ -188,6 +192,34 @@ fn the_book_has_every_setting_once_and_the_search_finds_the_first_of_an_output()
     let firsts = entries.chunk_by(|one, other| one.0 == other.0).map(|equal| equal[0]);
     for (output, (feedback, post1, post2)) in firsts {
         assert_eq!(answer_line(&format!("book {output}")), format!("1 {feedback} {post1} {post2}"));
+    }
+}
+
+/// Going step by step until the setting changes gives the same edges, where they are near.
+#[test]
+fn margins_are_those_of_single_steps() {
+    let _alone = alone();
+    let near_edges = [
+        (12_000_000, 15_551_020),
+        (12_000_000, 125_071_400),
+        (9_999_991, 77_638_900),
+        (9_999_991, 77_817_300),
+    ];
+    for (input, target) in near_edges {
+        let setting = answer_line(&format!("search {input} {target}"));
+        let differs = |target: &u32| answer_line(&format!("search {input} {target}")) != setting;
+        let near = 200;
+        let lower = (target - near..target).rev().find(differs);
+        let higher = (target + 1..target + near).find(differs);
+        let margin = answer_line(&format!("margin {input} {target}"));
+        let edges: Vec<u32> = margin.split(' ').map(|edge| edge.parse().unwrap()).collect();
+        let is = |edge: u32, found: Option<u32>| {
+            found.map_or(edge.abs_diff(target) >= near, |found| edge == found)
+        };
+        assert!(
+            is(edges[0], lower) && is(edges[1], higher),
+            "{input} {target}: {margin}, {lower:?} {higher:?}"
+        );
     }
 }
 

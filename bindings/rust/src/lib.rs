@@ -114,6 +114,21 @@ pub fn lookup(target_hz: u32) -> Result<PllConfig, Refused> {
     found(unsafe { raw::dizbaral_lookup(target_hz) })
 }
 
+/// The greatest lower and the smallest higher target whose settings differ, each perhaps absent.
+#[derive(Clone, Copy, Debug, PartialEq, Eq)]
+pub struct Margin {
+    pub lower: Option<u32>,
+    pub higher: Option<u32>,
+}
+
+/// How far a target may be moved until [`find_pll_params`] gives another setting.
+pub fn target_margin(input_hz: u32, target_hz: u32) -> Result<Margin, Refused> {
+    let mut limits = [0; 2];
+    answer(unsafe { raw::dizbaral_target_margin(input_hz, target_hz, &mut limits) })?;
+    let [lower, higher] = limits.map(|limit| u32::try_from(limit).ok());
+    Ok(Margin { lower, higher })
+}
+
 /// A core voltage: its register code, and the brownout level that belongs to it.
 #[derive(Clone, Copy, Debug, PartialEq, Eq)]
 pub struct CoreVoltage {

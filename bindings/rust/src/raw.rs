@@ -7,6 +7,7 @@ unsafe extern "C" {
     pub fn dizbaral_open_book(book: *mut [u64; 1988]);
     pub fn dizbaral_lookup_in(book: *const [u64; 1988], target_hz: u32) -> u64;
     pub fn dizbaral_usb_pll(crystal_hz: u32) -> u64;
+    pub fn dizbaral_target_margin(input_hz: u32, target_hz: u32, limits: *mut [u64; 2]) -> u64;
     pub fn dizbaral_is_valid(input_hz: u32, refdiv: u8, fbdiv: u16, post_div1: u8, post_div2: u8) -> bool;
     pub fn dizbaral_output_frequency(
         input_hz: u32,

@@ -49,6 +49,19 @@ fn usb_pll() {
 }
 
 #[test]
+fn margin() {
+    let rows = [
+        (12 * MHZ, 125 * MHZ, Some(124_899_999), Some(125_071_429)),
+        (12 * MHZ, 0, None, Some(15_551_020)),
+        (12 * MHZ, u32::MAX, Some(1_589_999_999), None),
+    ];
+    for (input, target, lower, higher) in rows {
+        assert_eq!(dizbaral::target_margin(input, target), Ok(dizbaral::Margin { lower, higher }));
+    }
+    assert_eq!(dizbaral::target_margin(4_999_999, 125 * MHZ), Err(Refused(15)));
+}
+
+#[test]
 fn valid() {
     assert!(setting(150, 1, 1).is_valid(5 * MHZ));
     assert!(!setting(149, 1, 1).is_valid(5 * MHZ));

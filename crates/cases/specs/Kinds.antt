@@ -9,7 +9,7 @@ use Rattle.text.specs.Ascii.{ascii, same}
 use Rattle.fields.specs.Row.{u8, u16, u32, room}
 use Rattle.fields.specs.Fields.{Tail, Fields, noNumber, numbersIn, numbersOnly}
 use Rattle.replies.specs.Reply.{badCase}
-use Rattle.number_cases.specs.Numbers.{validText, outputText, searchText, usbPllText, bookText, voltageText, pioText, gpoutText}
+use Rattle.number_cases.specs.Numbers.{validText, outputText, searchText, usbPllText, bookText, marginText, voltageText, pioText, gpoutText}
 use Rattle.sheet_cases.specs.Sheets.{crystalText, roscText, defaultText, systemText, systemFromText}
 use Rattle.sheet_cases.specs.Sheets.{manualText, planSheetText}
 use Rattle.run_cases.specs.Runs.{runText}
@@ -22,6 +22,7 @@ use Rattle.cases.specs.declared.Kind.the-variants.{
   Search,
   UsbPll,
   Book,
+  Margin,
   Settings,
   Voltage,
   Pio,
@@ -77,6 +78,8 @@ rowOf Search = plain "search" (u32 ∷ u32 ∷ []) searchText
 rowOf UsbPll = plain "usb_pll" (u32 ∷ []) usbPllText
 -- TARGET
 rowOf Book = plain "book" (u32 ∷ []) bookText
+-- INPUT TARGET
+rowOf Margin = plain "margin" (u32 ∷ u32 ∷ []) marginText
 -- INPUT TARGET ROOM
 rowOf Settings = plain "list" (u32 ∷ u32 ∷ room ∷ []) listText
 -- READING
@@ -110,7 +113,7 @@ rowOf Unknown = nameless
 
 abbrev pub kinds : List Kind
 kinds =
-    Valid ∷ Output ∷ Search ∷ UsbPll ∷ Book ∷ Settings ∷ Voltage ∷ Pio ∷ Gpout
+    Valid ∷ Output ∷ Search ∷ UsbPll ∷ Book ∷ Margin ∷ Settings ∷ Voltage ∷ Pio ∷ Gpout
     ∷ Sheet ∷ Crystal ∷ Rosc ∷ Default ∷ System ∷ SystemFrom ∷ Manual ∷ Run ∷ Sleep ∷ Wake ∷ []
 
 abbrev pub firstNamed : List ℕ → List Kind → Kind

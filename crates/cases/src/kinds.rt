@@ -44,7 +44,8 @@ pub(crate) fn named(name: &[u8]) -> Kind
     let from_pio = where_named(name, b"pio", Kind::Pio, from_gpout);
     let from_voltage = where_named(name, b"voltage", Kind::Voltage, from_pio);
     let from_list = where_named(name, b"list", Kind::Settings, from_voltage);
-    let from_book = where_named(name, b"book", Kind::Book, from_list);
+    let from_margin = where_named(name, b"margin", Kind::Margin, from_list);
+    let from_book = where_named(name, b"book", Kind::Book, from_margin);
     let from_usb_pll = where_named(name, b"usb_pll", Kind::UsbPll, from_book);
     let from_search = where_named(name, b"search", Kind::Search, from_usb_pll);
     let from_output = where_named(name, b"output", Kind::Output, from_search);
@@ -73,6 +74,7 @@ pub(crate) fn read(kind: Kind, line: &[u8], at: usize, n: &mut [u32; 64]) -> Res
         Kind::Output => read_all(line, at, &[U32, U8, U16, U8, U8], n),
         Kind::Search => read_all(line, at, &[U32, U32], n),
         Kind::Book => read_all(line, at, &[U32], n),
+        Kind::Margin => read_all(line, at, &[U32, U32], n),
         Kind::UsbPll => read_all(line, at, &[U32], n),
         Kind::Settings => read_all(line, at, &[U32, U32, ROOM], n),
         Kind::Voltage => read_all(line, at, &[U8], n),

@@ -5,6 +5,7 @@ mod slots;
 
 use config::ClockConfig;
 use config::Planned;
+use margin::Margin;
 use plan_numbers::PlanRead;
 use pll::PllConfig;
 ghost use mathlib.Core.Path.{_≡_};
@@ -17,11 +18,12 @@ ghost use Rattle.pll.specs.Search.{searchOf};
 ghost use Rattle.speed_book.specs.Book.{crystal, table};
 ghost use Rattle.speed_book.specs.Lookup.{lookupIn};
 ghost use Rattle.pll.specs.Usb.{usbOf};
+ghost use Rattle.margin.specs.Margin.{marginOf};
 ghost use Rattle.config.specs.Presets.{plannedIs, systemPlan, systemPlanFrom};
 ghost use Rattle.lister.specs.Lister.{listedOf, listedIn};
 ghost use Rattle.up.specs.ComesUp.{longestWait};
 ghost use Rattle.plan_numbers.specs.Plan.{planOf};
-ghost use Rattle.export.specs.Numbers.{answerNumber, itself, settingNumber, voltageNumber, dividersAre};
+ghost use Rattle.export.specs.Numbers.{answerNumber, itself, settingNumber, voltageNumber, dividersAre, done, limitsAfter};
 ghost use Rattle.export.specs.Sheet.{SheetCall, PlanSheetCall};
 ghost use Rattle.sleep.specs.Sleep.{sleepOf, wakeOf};
 ghost use Rattle.export.specs.Run.{runNumber, runLeaves};
@@ -60,6 +62,24 @@ pub extern "C" fn dizbaral_usb_pll(crystal_hz: u32) -> u64
     ensures { λ r. ⌜ r ≡ answerNumber settingNumber (usbOf «crystal_hz») ⌝ }
 {
     numbers::found(pll::usb::find_usb_pll(crystal_hz))
+}
+
+#[no_mangle]
+pub extern "C" fn dizbaral_target_margin(
+    input_hz: u32,
+    target_hz: u32,
+    limits: &mut [u64; 2],
+) -> u64
+    ensures { λ r. ⌜ r ≡ answerNumber done (marginOf «input_hz» «target_hz») ⌝ }
+    ensures { λ _. ⌜ now (limits .exit) ≡ limitsAfter (marginOf «input_hz» «target_hz») (now (limits .entry)) ⌝ }
+{
+    match margin::target_margin(input_hz, target_hz) {
+        Margin::Between(lower, higher) => {
+            *limits = [numbers::limit(lower), numbers::limit(higher)];
+            0
+        }
+        Margin::Refused(number) => numbers::refused(number),
+    }
 }
 
 #[no_mangle]

@@ -1,4 +1,5 @@
 // Answers as numbers.
+use margin::Limit;
 use pll::Found;
 use voltage::VoltageRead;
 ghost use mathlib.Core.Path.{_≡_};
@@ -6,9 +7,13 @@ ghost use Prim.Native.Nat.{_+_};
 ghost use Rattle.base.specs.Answer.{numberIs, lengthIs};
 ghost use Rattle.voltage.specs.Answers.{voltageReadIs};
 ghost use Rattle.pll.specs.Search.{foundIs};
-ghost use Rattle.export.specs.Numbers.{answerNumber, itself, settingNumber, voltageNumber};
+ghost use Rattle.margin.specs.Margin.{limitIs};
+ghost use Rattle.export.specs.Numbers.{answerNumber, itself, settingNumber, voltageNumber, limitNumber};
 
 const REFUSAL: u64 = 1 << 48;
+
+// No target of 32 bits.
+const ABSENT: u64 = 1 << 32;
 
 // The numbers given are of no plan, no runner or no slots.
 pub const MALFORMED: u64 = 1 << 49;
@@ -54,5 +59,14 @@ pub(crate) fn length(answer: base::Length) -> u64
     match answer {
         base::Length::Bytes(n) => n as u64,
         base::Length::Refused(number) => REFUSAL + number as u64,
+    }
+}
+
+pub(crate) fn limit(limit: Limit) -> u64
+    ensures { λ r. ⌜ r ≡ limitNumber (limitIs limit) ⌝ }
+{
+    match limit {
+        Limit::At(target) => target as u64,
+        Limit::Nothing => ABSENT,
     }
 }

@@ -1,9 +1,11 @@
 -- What the cases answer that are about numbers alone, from the numbers n of the case.
 -- Assumes nothing.
 use mathlib.Core.List.{List, [], _∷_, _++_}
+use mathlib.Core.Option.{Option, none, some}
 use Prim.Native.Nat.{ℕ}
 use Rattle.base.specs.Answer.{Answer, value, refusal}
 use Rattle.text.specs.Decimal.{decimalOf}
+use Rattle.text.specs.Ascii.{ascii}
 use Rattle.voltage.specs.declared.CoreVoltage.{CoreVoltage}
 use Rattle.voltage.specs.Voltage.{codeOf, bodOf, coreVoltageOf}
 use Rattle.divider.specs.Gpout.{gpoutOf}
@@ -12,6 +14,7 @@ use Rattle.pll.specs.declared.PllConfig.{PllConfig}
 use Rattle.pll.specs.Setting.{validOf, outputOf}
 use Rattle.pll.specs.Search.{searchOf}
 use Rattle.pll.specs.Usb.{usbOf}
+use Rattle.margin.specs.Margin.{Sides, marginOf}
 use Rattle.speed_book.specs.Book.{crystal}
 use Rattle.fields.specs.Row.{nth, byteAt, pllAt, tenAt}
 use Rattle.replies.specs.Reply.{answerText, rowText, yesNo}
@@ -36,6 +39,20 @@ usbPllText n = answerText pllText (usbOf (nth n 0))
 
 abbrev pub bookText : List ℕ → List ℕ
 bookText n = answerText pllText (searchOf crystal (nth n 0))
+
+-- LOWER HIGHER, `-` where absent
+abbrev pub limitText : Option ℕ → List ℕ
+limitText (some t) = decimalOf t
+limitText none = ascii "-"
+
+abbrev pub limitsText : Option ℕ → Option ℕ → List ℕ
+limitsText lower higher = limitText lower ++ (32 ∷ limitText higher)
+
+abbrev pub sidesText : Sides → List ℕ
+sidesText s = limitsText (s .lower) (s .higher)
+
+abbrev pub marginText : List ℕ → List ℕ
+marginText n = answerText sidesText (marginOf (nth n 0) (nth n 1))
 
 -- CODE BROWNOUT
 abbrev pub levelText : CoreVoltage → List ℕ

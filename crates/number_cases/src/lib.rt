@@ -1,5 +1,7 @@
 // The cases that are about numbers alone. Each takes the numbers n of the case; its limits stand in `cases`.
 use base::Number;
+use margin::Limit;
+use margin::Margin;
 use pll::Found;
 use pll::PllConfig;
 use voltage::VoltageRead;
@@ -7,8 +9,10 @@ ghost use mathlib.Core.Path.{_≡_};
 ghost use Rattle.base.specs.Answer.{numberIs};
 ghost use Rattle.base.specs.Placed.{Placed};
 ghost use Rattle.pll.specs.Search.{foundIs};
+ghost use Rattle.margin.specs.Margin.{limitIs, marginIs};
 ghost use Rattle.text.specs.Decimal.{decimalOf};
 ghost use Rattle.replies.specs.Reply.{answerText};
+ghost use Rattle.number_cases.specs.Numbers.{limitText, limitsText, sidesText, marginText};
 ghost use Rattle.number_cases.specs.Numbers.{pllText, validText, outputText, searchText, usbPllText, bookText};
 ghost use Rattle.number_cases.specs.Numbers.{voltageText, pioText, gpoutText};
 
@@ -64,6 +68,40 @@ pub fn put_usb_pll(n: &[u32; 64], out: &mut [u8]) -> usize
     ensures { λ r. ⌜ Placed (now (out .entry)) 0 (usbPllText (now (n .entry))) r (now (out .exit)) ⌝ }
 {
     put_found(out, pll::usb::find_usb_pll(fields::number_at(n, 0)))
+}
+
+fn put_limit(out: &mut [u8], at: usize, limit: Limit) -> usize
+    ensures { λ r. ⌜ Placed (now (out .entry)) at (limitText (limitIs limit)) r (now (out .exit)) ⌝ }
+{
+    match limit {
+        Limit::At(target) => text::put_decimal(out, at, target as u64),
+        Limit::Nothing => text::put_byte(out, at, b'-'),
+    }
+}
+
+fn put_sides(out: &mut [u8], lower: Limit, higher: Limit) -> usize
+    ensures { λ r. ⌜ Placed (now (out .entry)) 0 (limitsText (limitIs lower) (limitIs higher)) r (now (out .exit)) ⌝ }
+{
+    let end = put_limit(out, 0, lower);
+    let at = text::put_byte(out, end, b' ');
+    put_limit(out, at, higher)
+}
+
+fn put_between(out: &mut [u8], answer: Margin) -> usize
+    ensures { λ r. ⌜ Placed (now (out .entry)) 0 (answerText sidesText (marginIs answer)) r (now (out .exit)) ⌝ }
+{
+    match answer {
+        Margin::Between(lower, higher) => put_sides(out, lower, higher),
+        Margin::Refused(number) => replies::put_refused(out, number),
+    }
+}
+
+pub fn put_margin(n: &[u32; 64], out: &mut [u8]) -> usize
+    ensures { λ r. ⌜ Placed (now (out .entry)) 0 (marginText (now (n .entry))) r (now (out .exit)) ⌝ }
+{
+    let input = fields::number_at(n, 0);
+    let target = fields::number_at(n, 1);
+    put_between(out, margin::target_margin(input, target))
 }
 
 pub fn put_voltage(n: &[u32; 64], out: &mut [u8]) -> usize

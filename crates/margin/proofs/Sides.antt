@@ -1,0 +1,115 @@
+-- Two settings that agree or not, and the two sides of a target.
+-- Assumes nothing.
+use mathlib.Core.Path.{_≡_, refl, sym, ap, subst, _∙_}
+use mathlib.Core.Bool.{Bool, true, false, _&&_}
+use mathlib.Core.Option.{Option, none, some}
+use Prim.Native.Nat.{ℕ, _+_, _≤_, _<_}
+use native.Mathlib.Omega.{arith}
+use lib.Dec.{eqb}
+use borrow.Author.Tests.{eqb-true, eq-eqb}
+use Rattle.base.specs.Answer.{Answer, value, refusal}
+use Rattle.base.proofs.Bools.{both-true}
+use Rattle.pll.specs.Search.{searchOf}
+use Rattle.pll.specs.Law.{RightAnswer}
+use Rattle.pll.specs.declared.PllConfig.{PllConfig}
+use Rattle.pll.proofs.Right.{search-right}
+use Rattle.near.proofs.Near.{search-between}
+use Rattle.margin.specs.Margin.{same}
+use Rattle.margin.specs.Law.{RightLower, RightHigher}
+use Rattle.margin.specs.Walk.{Has, Tells, Lowest, Highest, JustBelow, JustAbove}
+
+pub no : {A : Type 0} → false ≡ true → A
+no e = let z : _≡_ {A = ℕ} 0 1 = cc in absurd (omega arith)
+
+pub same-path : (c d : PllConfig) → same c d ≡ true → c ≡ d
+same-path c d e =
+    let a = eqb (c .refdiv) (d .refdiv) in
+    let b = eqb (c .fbdiv) (d .fbdiv) in
+    let f = eqb (c .«post_div1») (d .«post_div1») in
+    let p = both-true (a && b && f) (eqb (c .«post_div2») (d .«post_div2»)) e in
+    let q = both-true (a && b) f (p .0) in
+    let r = both-true a b (q .0) in
+    λ i. record {
+      refdiv = eqb-true (c .refdiv) (d .refdiv) (r .0) i;
+      fbdiv = eqb-true (c .fbdiv) (d .fbdiv) (r .1) i;
+      «post_div1» = eqb-true (c .«post_div1») (d .«post_div1») (q .1) i;
+      «post_div2» = eqb-true (c .«post_div2») (d .«post_div2») (p .1) i;
+    }
+
+pub same-self : (c d : PllConfig) → c ≡ d → same c d ≡ true
+same-self c d e =
+    rw (
+      e,
+      eq-eqb (d .refdiv) (d .refdiv) refl,
+      eq-eqb (d .fbdiv) (d .fbdiv) refl,
+      eq-eqb (d .«post_div1») (d .«post_div1») refl,
+      eq-eqb (d .«post_div2») (d .«post_div2») refl,
+    )
+
+pub value-same : (c d : PllConfig) → _≡_ {A = Answer PllConfig} (value c) (value d) → c ≡ d
+value-same c d e = cc
+
+pub refused-not : (n : ℕ) (c : PllConfig) → _≡_ {A = Answer PllConfig} (refusal n) (value c) → ⊥
+refused-not n c e = let z : _≡_ {A = ℕ} 0 1 = cc in omega arith
+
+-- what two settings tell of the search that gave the first
+pub found-tells : (input t : ℕ) (d c : PllConfig) (r : Bool) → searchOf input t ≡ value d → r ≡ same d c
+    → Tells input t c r
+found-tells input t d c r e s =
+    record {
+      yes = λ y. e ∙ ap value (same-path d c (sym s ∙ y));
+      no = λ h. s ∙ same-self d c (value-same d c (sym e ∙ h));
+    }
+
+pub refused-tells : (input t n : ℕ) (c : PllConfig) → searchOf input t ≡ refusal n → Tells input t c false
+refused-tells input t n c e = record { yes = λ y. no y; no = λ h. absurd (refused-not n c (sym e ∙ h)) }
+
+-- at the loop's end low and high are one
+pub lowest-end : (input target low high : ℕ) (c : PllConfig) → low ≡ high → high ≤ target → Has input c target
+    → Has input c high → ((t : ℕ) → t < low → Has input c t → ⊥) → Lowest input target c low
+lowest-end input target low high c e h s t n =
+    record {
+      within = omega arith;
+      below = n;
+      from = λ u a b. search-between input high u target c (omega arith) b t s;
+    }
+
+pub highest-end : (input target low high : ℕ) (c : PllConfig) → low ≡ high → target ≤ low → high < 4294967296
+    → Has input c target → Has input c low → ((t : ℕ) → high < t → t < 4294967296 → Has input c t → ⊥)
+    → Highest input target c low
+highest-end input target low high c e h f s t n =
+    record {
+      within = h;
+      fits = omega arith;
+      above = λ u a b. n u (omega arith) b;
+      up-to = λ u a b. search-between input target u low c a b s t;
+    }
+
+-- from the lowest target with the setting to the next lower one, and from the highest to the next higher one
+pub lower-side : (input target low : ℕ) (c : PllConfig) (l : Option ℕ) → Has input c target
+    → Lowest input target c low → JustBelow low l → RightLower input target l
+lower-side input target low c (some l) s h e =
+    let w = h .within in (
+      omega arith,
+      λ d. h .below l (omega arith) (d ∙ s),
+      λ t a b. h .from t (omega arith) b ∙ sym s,
+    )
+lower-side input target low c none s h e = λ t b. h .from t (omega arith) b ∙ sym s
+
+pub higher-side : (input target high : ℕ) (c : PllConfig) (g : Option ℕ) → Has input c target
+    → Highest input target c high → JustAbove high g → RightHigher input target g
+higher-side input target high c (some g) s h e =
+    let w = h .within in (
+      omega arith,
+      e .1,
+      λ d. h .above g (omega arith) (e .1) (d ∙ s),
+      λ t a b. h .up-to t a (omega arith) ∙ sym s,
+    )
+higher-side input target high c none s h e = λ t a b. h .up-to t a (omega (arith, h .fits)) ∙ sym s
+
+-- the search refuses with 15 only
+pub refused-15 : (input target n : ℕ) → searchOf input target ≡ refusal n
+    → (n ≡ 15) × (searchOf input target ≡ refusal 15)
+refused-15 input target n e =
+    let k : n ≡ 15 = subst (RightAnswer input target) e (search-right input target) .0 in
+    (k, e ∙ ap refusal k)

@@ -1,0 +1,40 @@
+-- How far a target may be moved, said without how it is found: proved of `marginOf` in `proofs/Right.antt`;
+-- `proofs/Unique.antt` has that this leaves no choice.
+-- Assumes nothing.
+use mathlib.Core.Path.{_≡_}
+use mathlib.Core.Option.{Option, none, some}
+use Prim.Native.Nat.{ℕ, _≤_, _<_}
+use Rattle.base.specs.Answer.{Answer, value, refusal}
+use Rattle.pll.specs.Search.{searchOf}
+use Rattle.pll.specs.declared.PllConfig.{PllConfig}
+use Rattle.margin.specs.Margin.{Sides}
+
+-- two targets share the settings
+abbrev pub Share : ℕ → ℕ → ℕ → Type 0
+Share input t u = searchOf input t ≡ searchOf input u
+
+-- the greatest lower target whose settings differ: those between it and the target share the settings; none where all
+-- lower ones do
+abbrev pub RightLower : ℕ → ℕ → Option ℕ → Type 0
+RightLower input target (some l) =
+    (l < target)
+    × (Share input l target → ⊥)
+    × ((t : ℕ) → l < t → t ≤ target → Share input t target)
+RightLower input target none = (t : ℕ) → t ≤ target → Share input t target
+
+-- the smallest higher 32-bit target whose settings differ, in the same way
+abbrev pub RightHigher : ℕ → ℕ → Option ℕ → Type 0
+RightHigher input target (some h) =
+    (target < h)
+    × (h < 4294967296)
+    × (Share input h target → ⊥)
+    × ((t : ℕ) → target ≤ t → t < h → Share input t target)
+RightHigher input target none = (t : ℕ) → target ≤ t → t < 4294967296 → Share input t target
+
+-- an answer is right: both sides, where the search finds a setting; else 15
+abbrev pub RightMargin : ℕ → ℕ → Answer Sides → Type 0
+RightMargin input target (value s) =
+    ((c : PllConfig) × (searchOf input target ≡ value c))
+    × RightLower input target (s .lower)
+    × RightHigher input target (s .higher)
+RightMargin input target (refusal n) = (n ≡ 15) × (searchOf input target ≡ refusal 15)

@@ -1,0 +1,5 @@
+-- The definitions that the contracts cite.
+-- Assumes nothing.
+pub mod Margin
+pub mod Law
+pub mod Walk

@@ -1,0 +1,64 @@
+-- How far a target may be moved until the search gives another setting: step by step to either side.
+-- Assumes nothing.
+use mathlib.Core.Bool.{Bool, false, _&&_}
+use mathlib.Core.Option.{Option, none, some}
+use Prim.Native.Nat.{ℕ, zero, suc, _-_}
+use lib.Dec.{eqb}
+use Rattle.base.specs.Answer.{Answer, value, refusal}
+use Rattle.base.specs.Choice.{pick}
+use Rattle.pll.specs.Search.{searchOf}
+use Rattle.pll.specs.declared.PllConfig.{PllConfig}
+use Rattle.margin.specs.declared.Limit.{Limit}
+use Rattle.margin.specs.declared.Limit.the-variants.{At, Nothing}
+use Rattle.margin.specs.declared.Margin.{Margin}
+use Rattle.margin.specs.declared.Margin.the-variants.{Between, Refused}
+
+-- the greatest lower and the smallest higher target whose settings differ, each perhaps absent
+pub record Sides : Type 0 where
+  pub lower : Option ℕ
+  pub higher : Option ℕ
+
+-- c and d have the same four dividers
+abbrev pub same : PllConfig → PllConfig → Bool
+same c d =
+    eqb (c .refdiv) (d .refdiv)
+    && eqb (c .fbdiv) (d .fbdiv)
+    && eqb (c .«post_div1») (d .«post_div1»)
+    && eqb (c .«post_div2») (d .«post_div2»)
+
+-- an answer is the setting c
+abbrev pub isSetting : PllConfig → Answer PllConfig → Bool
+isSetting c (value d) = same d c
+isSetting c (refusal n) = false
+
+-- below t, the greatest that does not pass the test
+unfoldable pub lowerFrom : (ℕ → Bool) → ℕ → Option ℕ
+lowerFrom test zero = none
+lowerFrom test (suc t) = pick (test t) (lowerFrom test t) (some t)
+
+-- of the n numbers above t, the smallest that does not pass the test
+unfoldable pub higherFrom : (ℕ → Bool) → ℕ → ℕ → Option ℕ
+higherFrom test zero t = none
+higherFrom test (suc n) t = pick (test (suc t)) (higherFrom test n (suc t)) (some (suc t))
+
+-- of a target for which the search gave an answer; the greatest target of 32 bits is 4294967295
+abbrev pub marginAt : ℕ → ℕ → Answer PllConfig → Answer Sides
+marginAt input target (value c) =
+    value (record {
+      lower = lowerFrom (λ t. isSetting c (searchOf input t)) target;
+      higher = higherFrom (λ t. isSetting c (searchOf input t)) (4294967295 - target) target;
+    })
+marginAt input target (refusal n) = refusal n
+
+-- `target_margin`
+unfoldable pub marginOf : ℕ → ℕ → Answer Sides
+marginOf input target = marginAt input target (searchOf input target)
+
+-- what an answer of the code says
+abbrev pub limitIs : Limit → Option ℕ
+limitIs (At t) = some t
+limitIs Nothing = none
+
+abbrev pub marginIs : Margin → Answer Sides
+marginIs (Between l h) = value (record { lower = limitIs l; higher = limitIs h })
+marginIs (Refused n) = refusal n
