@@ -15,8 +15,7 @@ unfolding fieldsOf answerTo
 returns c =
     let put-kind = c .before .before in let named = put-kind .before .before in
     let index-from = named .before .before in let start = index-from .before .before .before in
-    let line = start .args .line .now in
-    let index = index-from .index-from .ensures .0 in
+    let line = start .args .line .now in let index = index-from .index-from .ensures .0 in
     let put = rw (named .named .ensures, index) at (put-kind .put-kind .ensures) in
     rw (first-word line, behind-first line) at put
 

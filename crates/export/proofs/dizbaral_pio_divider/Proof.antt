@@ -4,10 +4,7 @@ use borrow.Author.Needs.{needs}
 use Rattle.export.proofs.dizbaral_pio_divider.Statement.{statement}
 use Rattle.export.proofs.dizbaral_pio_divider.Tie as tie
 
-returns : tie.Need-returns
-returns c = cc
-
 pub dizbaral-pio-divider-spec : {M : Type 1} → statement M
 dizbaral-pio-divider-spec =
     tie.close
-    (tie.spec (λ c κs. search needs) (λ c κs. search needs) returns)
+    (tie.spec (λ c κs. search needs) (λ c κs. search needs) (λ c. cc))

@@ -8,9 +8,7 @@ use Rattle.export.proofs.dizbaral_plan_sheet.Tie as tie
 
 returns : tie.Need-returns
 returns c =
-    let i = c .before .before .before in
-    let k = i .before .before .before in
-    let o = i .init .ensures in
+    let i = c .before .before .before in let k = i .before .before .before in let o = i .init .ensures in
     rw (← k .before .before .plan .ensures, k .config .given .1)
     (record { answer = c .length .ensures ∙ ap (answerNumber itself) (o .answer); bytes = o .bytes; typed = o .typed })
 

@@ -21,16 +21,13 @@ answer-requires c κs =
 
 put-state-requires : tie.Need-put-state-requires
 put-state-requires c κs =
-    let t = c .before .before .before .before in
-    let s = t .before .before .before in
+    let t = c .before .before .before .before in let s = t .before .before .before in
     rw (ap (λ (x : Outcome State). x .next .position) (t .turn .ensures)) (position-fits _ _ _ (s .state .ensures .1))
 
 returns-2 : tie.Need-returns-2
 unfolding runNumber runLeaves advanceOf
 returns-2 c =
-    let a = c .before .before in
-    let t = a .before .before .before in
-    let s = t .before .before .before in
+    let a = c .before .before in let t = a .before .before .before in let s = t .before .before .before in
     let replied = ap (λ (x : Outcome State). x .answer) (t .turn .ensures) in
     let yes = le-leb _ _ (s .before .before .if1 .left) in (
       rw (yes, ← s .state .ensures .0)

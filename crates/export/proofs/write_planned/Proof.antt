@@ -8,8 +8,7 @@ use Rattle.export.proofs.write_planned.Tie as tie
 
 returns : tie.Need-returns
 returns c =
-    let i = c .before .before .before in
-    let plan = i .before .before .before .plan .given .1 in
+    let i = c .before .before .before in let plan = i .before .before .before .plan .given .1 in
     let o = i .init .ensures in
     rw plan (record { answer = c .length .ensures ∙ ap (answerNumber itself) (o .answer); bytes = o .bytes; typed = o .typed })
 

@@ -34,8 +34,7 @@ same-length-2 c =
 returns-2 : tie.Need-returns-2 Inv-loop μ-loop
 returns-2 c =
     let number-up-to = c .before .before in let if1 = number-up-to .before in let before = if1 .before in
-    let at-loop = before .before in
-    let word = number-up-to .number-up-to .ensures in
+    let at-loop = before .before in let word = number-up-to .number-up-to .ensures in
     no-number (at-loop .loop .inv .2) (before .loop-test .taken)
     (if1 .if1 .left) _ (sym (ap numberIs (c .enum-told .given .1)) ∙ word)
 
@@ -46,16 +45,14 @@ same-length-3 c =
 
 returns-3 : tie.Need-returns-3 Inv-loop μ-loop
 returns-3 c =
-    let number = c .before .before .before in
-    let test = number .before .before .before in
+    let number = c .before .before .before in let test = number .before .before .before in
     let word = number .before .before .number-up-to .ensures in
     number-over (test .before .before .loop .inv .2) (test .before .loop-test .taken) (test .if1 .left) _
     (sym (ap numberIs (number .n .given .1)) ∙ word) (c .if2 .taken)
 
 loop-again : tie.Need-loop-again Inv-loop μ-loop
 loop-again c =
-    let put = c .before .before .before in
-    let number = put .before .before .before .before .before in
+    let put = c .before .before .before in let number = put .before .before .before .before .before in
     let test = number .before .before .before in
     let word = number .before .before .number-up-to .ensures in (
       omega arith,

@@ -19,8 +19,7 @@ returns c =
 
 slice-aggregate-answer : tie.Need-slice-aggregate-answer
 slice-aggregate-answer c =
-    let if1 = c .before in let start = if1 .before .before .before in
-    let args = start .args in
+    let if1 = c .before in let start = if1 .before .before .before in let args = start .args in
     let held = length (args .held .now) in
     let fits : args .len ≤ held =
     ltb-false held (args .len) (both-false (args .over) (ltb held (args .len)) (if1 .if1 .left) .1)

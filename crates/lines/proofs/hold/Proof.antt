@@ -12,10 +12,8 @@ slice-aggregate-put-bytes c = simp length-take (omega arith)
 
 returns : tie.Need-returns
 returns c =
-    let room = c .before .before .before .before .before in
-    let index = room .before in
-    let text = index .before .before .before .args .text .now in
-    let end = index .index-from .ensures .0 in
+    let room = c .before .before .before .before .before in let index = room .before in
+    let text = index .before .before .before .args .text .now in let end = index .index-from .ensures .0 in
     record {
       used = end ∙ line-end text;
       used-within = omega arith;

@@ -25,8 +25,7 @@ loop-holds c = (omega arith, refl, record { index = omega arith; bytes = refl })
 
 loop-again : tie.Need-loop-again Inv-loop μ-loop
 loop-again c =
-    let put = c .before .before in
-    let at-loop = put .before .before .before .before in
+    let put = c .before .before in let at-loop = put .before .before .before .before in
     let ns = at-loop .before .before .before .before .args .ns .now in (
       omega arith,
       put .put-next .kept .0 ∙ at-loop .loop .inv .1,
@@ -38,8 +37,7 @@ same-length c = c .before .loop .inv .1
 
 returns : tie.Need-returns Inv-loop μ-loop
 returns c =
-    let at-loop = c .before in
-    let ns = at-loop .before .before .before .before .args .ns .now in
+    let at-loop = c .before in let ns = at-loop .before .before .before .before .args .ns .now in
     rw (take-all (at-loop .loop .i) ns (c .loop-test .left)) at (at-loop .loop .inv .2)
 
 pub put-spaced-spec : {M : Type 1} → statement M

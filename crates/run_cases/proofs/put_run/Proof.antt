@@ -41,8 +41,7 @@ returns-2 : tie.Need-returns-2
 unfolding runText
 returns-2 c =
     let put-bad = c .before .before in let enum-told = put-bad .before .before in
-    let hex-bytes = enum-told .before .before .before in
-    let start = hex-bytes .before .before .before .before in
+    let hex-bytes = enum-told .before .before .before in let start = hex-bytes .before .before .before .before in
     let told = rw (enum-told .enum-told .given .1) at (hex-bytes .hex-bytes .ensures) in
     rw (no-word (start .args .word .now) (replicate 2048 0) _ told) (put-bad .put-bad .ensures)
 

@@ -6,8 +6,7 @@ use Rattle.run_cases.proofs.put_step.Tie as tie
 
 returns : tie.Need-returns
 returns c =
-    let put-row = c .before .before in
-    let put-bytes = put-row .before .before .before .before .before .before in
+    let put-row = c .before .before in let put-bytes = put-row .before .before .before .before .before .before in
     placed-append (put-bytes .put-bytes .ensures) (put-row .put-row .ensures)
 
 pub put-step-spec : {M : Type 1} → statement M

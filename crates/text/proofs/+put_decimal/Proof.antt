@@ -34,8 +34,7 @@ claims t = (
 
 same-length-2 : (t : ℕ) → lts.Need-same-length-2 (claims t) (here t) reads.Post
 same-length-2 t c =
-    let put = c .before .before in
-    let own = put .before .before .before .before .before in
+    let put = c .before .before in let own = put .before .before .before .before .before in
     put .put-byte2 .kept .0 ∙ own .put-decimal .kept .0
 
 returns : (t : ℕ) → lts.Need-returns (claims t) (here t) reads.Post
@@ -46,8 +45,7 @@ returns t c =
 
 returns-2 : (t : ℕ) → lts.Need-returns-2 (claims t) (here t) reads.Post
 returns-2 t c =
-    let put = c .before .before in
-    let own = put .before .before .before .before .before in
+    let put = c .before .before in let own = put .before .before .before .before .before in
     let more : 10 ≤ own .before .before .before .before .args .n = omega arith in
     rw (decimal-more _ more, ← put .before .last-digit2 .ensures)
     (placed-append (own .put-decimal .ensures) (put .put-byte2 .ensures))

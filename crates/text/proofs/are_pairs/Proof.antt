@@ -19,8 +19,7 @@ abbrev μ-loop : tie.MeasureT-loop
 
 returns : tie.Need-returns Inv-loop μ-loop
 returns c =
-    let at-loop = c .before .before in
-    let s = at-loop .before .before .args .s .now in
+    let at-loop = c .before .before in let s = at-loop .before .before .args .s .now in
     sym (sym (at-loop .loop .inv .1) ∙ pair-last s (at-loop .loop .i) (omega arith) (omega arith))
 
 returns-2 : tie.Need-returns-2 Inv-loop μ-loop

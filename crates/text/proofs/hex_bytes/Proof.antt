@@ -9,22 +9,18 @@ use Rattle.text.proofs.hex_bytes.Tie as tie
 
 returns : tie.Need-returns
 returns c =
-    let is-hex-word = c .before in let start = is-hex-word .before .before .before in
-    let args = start .args in
+    let is-hex-word = c .before in let start = is-hex-word .before .before .before in let args = start .args in
     no-word (args .s .now) (args .buf .now) (sym (is-hex-word .is-hex-word .ensures) ∙ not-true _ (c .if1 .taken))
 
 returns-2 : tie.Need-returns-2
 returns-2 c =
-    let test = c .before .before in
-    let args = test .before .before .before .args in
+    let test = c .before .before in let args = test .before .before .before .args in
     let word = sym (test .is-hex-word .ensures) ∙ not-false _ (c .before .if1 .left) in
     no-room (args .s .now) (args .buf .now) word (omega arith)
 
 returns-3 : tie.Need-returns-3
 returns-3 c =
-    let put = c .before .before in
-    let if1 = put .before .before .before in
-    let test = if1 .before in
+    let put = c .before .before in let if1 = put .before .before .before in let test = if1 .before in
     let args = test .before .before .before .args in
     let word = sym (test .is-hex-word .ensures) ∙ not-false _ (if1 .if1 .left) in
     word-read (args .s .now) (args .buf .now) word (omega arith) _ _ (put .put-pairs .ensures)

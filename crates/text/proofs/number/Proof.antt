@@ -23,8 +23,7 @@ abbrev μ-loop : tie.MeasureT-loop
 
 returns : tie.Need-returns Inv-loop μ-loop
 returns c =
-    let at-in-range = c .before in let start = at-in-range .before .before in
-    let s = start .args .s .now in
+    let at-in-range = c .before in let start = at-in-range .before .before in let s = start .args .s .now in
     sym (bad-length s (sym (at-in-range .in-range .ensures) ∙ not-true _ (c .if1 .taken)))
 
 loop-holds : tie.Need-loop-holds Inv-loop μ-loop
@@ -45,20 +44,16 @@ next n e = ap (λ (d : ℕ). n * 10 + d) e
 returns-3 : tie.Need-returns-3 Inv-loop μ-loop
 returns-3 c =
     let at-loop = c .before .before .before .before .before .before in
-    let s = at-loop .before .before .before .before .args .s .now in
-    let i = at-loop .loop .i in
-    let rest = drop (i + 1) s in
-    let e = next (at-loop .loop .n) (c .before .digit-value .ensures .0) in
+    let s = at-loop .before .before .before .before .args .s .now in let i = at-loop .loop .i in
+    let rest = drop (i + 1) s in let e = next (at-loop .loop .n) (c .before .digit-value .ensures .0) in
     let step = value-step s i (omega arith) (at-loop .loop .n) in
     let grown = value-grows rest (at-loop .loop .n * 10 + c .before .digit-value .result) in
     sym (bad-value s (omega (arith, ap (λ (m : ℕ). valueAfter m rest) e)))
 
 loop-again : tie.Need-loop-again Inv-loop μ-loop
 loop-again c =
-    let digit = c .before .before .before in
-    let at-loop = digit .before .before .before in
-    let s = at-loop .before .before .before .before .args .s .now in
-    let i = at-loop .loop .i in
+    let digit = c .before .before .before in let at-loop = digit .before .before .before in
+    let s = at-loop .before .before .before .before .args .s .now in let i = at-loop .loop .i in
     let e = next (at-loop .loop .n) (c .before .digit-value .ensures .0) in
     let yes = sym (digit .between .ensures) ∙ not-false _ (c .before .before .if2 .left) in (
       omega arith,
@@ -69,9 +64,7 @@ loop-again c =
 
 returns-4 : tie.Need-returns-4 Inv-loop μ-loop
 returns-4 c =
-    let at-loop = c .before in
-    let test = at-loop .before .before in
-    let s = test .before .before .args .s .now in
+    let at-loop = c .before in let test = at-loop .before .before in let s = test .before .before .args .s .now in
     let none = drop-of-length-le s (c .loop-test .left) in
     let v : at-loop .loop .n ≡ valueOf s = rw none at (at-loop .loop .inv .2) in
     let short = in-range 1 10 (length s) (sym (test .in-range .ensures) ∙ not-false _ (at-loop .before .if1 .left)) in

@@ -15,8 +15,7 @@ returns c = rw (drop-of-length-le (c .before .before .args .s .now) (c .if1 .tak
 returns-2 : tie.Need-returns-2
 returns-2 c =
     let index-from = c .before .before in let start = index-from .before .before .before in
-    let args = start .args in
-    let word = between (args .s .now) (args .at) (args .b) in
+    let args = start .args in let word = between (args .s .now) (args .at) (args .b) in
     c .number .ensures ∙ ap numberOf (rw (index-from .index-from .ensures .0) word)
 
 pub number-up-to-spec : {M : Type 1} → statement M

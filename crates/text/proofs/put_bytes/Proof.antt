@@ -25,10 +25,8 @@ loop-holds c = (omega arith, refl, record { index = omega arith; bytes = refl })
 
 loop-again : tie.Need-loop-again Inv-loop μ-loop
 loop-again c =
-    let put = c .before .before in
-    let at-loop = put .before .before .before .before in
-    let s = at-loop .before .before .before .before .args .s .now in
-    let i = at-loop .loop .i in
+    let put = c .before .before in let at-loop = put .before .before .before .before in
+    let s = at-loop .before .before .before .before .args .s .now in let i = at-loop .loop .i in
     let inside : i < length s = omega arith in
     let one : take (i + 1) s ≡ take i s ++ (getD s i 0 ∷ []) = rw add-one (take-suc s i 0 inside) in (
       omega arith,
@@ -41,8 +39,7 @@ same-length c = c .before .loop .inv .1
 
 returns : tie.Need-returns Inv-loop μ-loop
 returns c =
-    let loop = c .before in let start = loop .before .before .before .before in
-    let s = start .args .s .now in
+    let loop = c .before in let start = loop .before .before .before .before in let s = start .args .s .now in
     rw (take-all (loop .loop .i) s (c .loop-test .left)) at (loop .loop .inv .2)
 
 pub put-bytes-spec : {M : Type 1} → statement M

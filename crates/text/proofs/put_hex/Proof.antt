@@ -33,8 +33,7 @@ loop-holds c = (omega arith, refl, record { index = omega arith; bytes = refl })
 
 loop-again : tie.Need-loop-again Inv-loop μ-loop
 loop-again c =
-    let put = c .before .before in
-    let at-loop = put .before .before .before .before in
+    let put = c .before .before in let at-loop = put .before .before .before .before in
     let s = at-loop .before .before .before .before .before .args .s .now in
     let step = hex-step s (at-loop .loop .i) (omega arith) in (
       omega arith,
@@ -47,8 +46,7 @@ same-length-2 c = c .before .loop .inv .1
 
 returns-2 : tie.Need-returns-2 Inv-loop μ-loop
 returns-2 c =
-    let at-loop = c .before in
-    let s = at-loop .before .before .before .before .before .args .s .now in
+    let at-loop = c .before in let s = at-loop .before .before .before .before .before .args .s .now in
     let some : 1 ≤ length s = omega (arith, at-loop .before .before .if1 .left) in
     rw (hex-some s some) (rw (take-all (at-loop .loop .i) s (c .loop-test .left)) at (at-loop .loop .inv .2))
 

@@ -8,8 +8,7 @@ use Rattle.text.proofs.put_hex_byte.Tie as tie
 
 returns : tie.Need-returns
 returns c =
-    let second = c .before .before in
-    let first = second .before .before .before .before .before in
+    let second = c .before .before in let first = second .before .before .before .before .before in
     let b = first .before .before .before .before .args .b in
     let e = hex-pair b _ _ (omega arith) (first .before .hex-digit .ensures) (second .before .hex-digit2 .ensures) in
     rw e at (placed-append (first .put-byte .ensures) (second .put-byte2 .ensures))

@@ -26,13 +26,9 @@ loop-holds c = (omega arith, refl, omega arith, λ n ys p. p)
 
 loop-again : tie.Need-loop-again Inv-loop μ-loop
 loop-again c =
-    let put = c .before .before in
-    let low = put .before in
-    let high = low .before .before in
-    let at-loop = high .before .before .before .before in
-    let s = at-loop .before .before .before .args .s .now in
-    let i = at-loop .loop .i in
-    let step = ap pairValues (pair-step s i (omega arith)) in
+    let put = c .before .before in let low = put .before in let high = low .before .before in
+    let at-loop = high .before .before .before .before in let s = at-loop .before .before .before .args .s .now in
+    let i = at-loop .loop .i in let step = ap pairValues (pair-step s i (omega arith)) in
     let value : high .hex-value .result * 16 + low .hex-value2 .result
     ≡ hexValue (getD s i 0) * 16 + hexValue (getD s (i + 1) 0) =
     rw (high .hex-value .ensures .0, low .hex-value2 .ensures .0) in

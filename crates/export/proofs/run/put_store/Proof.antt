@@ -36,8 +36,7 @@ element-write-numbers c = omega (arith, fits c .0)
 returns-2 : tie.Need-returns-2
 unfolding storedBy
 returns-2 c =
-    let e = c .before in
-    let a = e .before .before .args in
+    let e = c .before in let a = e .before .before .args in
     rw (eq-eqb _ _ (e .if1 .left)) (set-behind (a .numbers .now) (a .step .f0) (a .step .f1))
 
 pub put-store-spec : {M : Type 1} → statement M

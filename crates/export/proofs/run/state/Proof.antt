@@ -6,8 +6,7 @@ use Rattle.export.proofs.run.state.Tie as tie
 
 returns : tie.Need-returns
 returns c =
-    let wide = c .before .before .before in
-    let w = wide .wide .ensures in
+    let wide = c .before .before .before in let w = wide .wide .ensures in
     (rw (w .0), w .1)
 
 pub state-spec : {M : Type 1} → statement M

@@ -12,8 +12,7 @@ below n k some e = omega arith
 
 returns-5 : tie.Need-returns-5
 returns-5 c =
-    let rest = c .match .rest in
-    let n = c .before .args .code in
+    let rest = c .match .rest in let n = c .before .args .code in
     simp (
       ne-eqb n 0 (rest .0 .0 .0 .1),
       ne-eqb (n - 1) 0 (λ e. rest .0 .0 .1 (below n 0 (rest .0 .0 .0 .1) e)),

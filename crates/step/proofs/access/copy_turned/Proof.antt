@@ -29,8 +29,7 @@ loop-holds c = (omega arith, omega arith, refl, refl)
 
 loop-again : tie.Need-loop-again Inv-loop μ-loop
 loop-again c =
-    let put = c .before .before in
-    let turn = put .before .before .before .before in
+    let put = c .before .before in let turn = put .before .before .before .before in
     let start = turn .before .before .before .before in (
       omega arith,
       turn .loop .inv .1,
@@ -46,8 +45,7 @@ same-length c = c .before .loop .inv .2
 
 returns-2 : tie.Need-returns-2 Inv-loop μ-loop
 returns-2 c =
-    let turn = c .before in
-    let start = turn .before .before .before .before in
+    let turn = c .before in let start = turn .before .before .before .before in
     let ws : List ℕ = now (start .args .words) in
     let room = copied-room ws (now (start .args .buf)) (turn .loop .inv .1) in
     let all : turn .loop .i ≡ length ws = le-antisymm (turn .loop .inv .0) (c .loop-test .left) in

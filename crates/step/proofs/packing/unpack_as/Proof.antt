@@ -14,14 +14,9 @@ use Rattle.step.proofs.packing.unpack_as.Tie as tie
 returns : tie.Need-returns
 unfolding unpackOf sound known spareIn stepIn kindIn widths
 returns c =
-    let a = c .before in
-    let b = a .before .before .before in
-    let d = b .before .before .before .before in
-    let l = d .before .before .before .before .before in
-    let w = l .layout .ensures in
-    let s = l .before in
-    let kind : ℕ = s .args .word / 2 ^ 58 % 2 ^ 6 in
-    let from : leb 1 kind ≡ true = le-leb 1 kind (omega arith) in
+    let a = c .before in let b = a .before .before .before in let d = b .before .before .before .before in
+    let l = d .before .before .before .before .before in let w = l .layout .ensures in let s = l .before in
+    let kind : ℕ = s .args .word / 2 ^ 58 % 2 ^ 6 in let from : leb 1 kind ≡ true = le-leb 1 kind (omega arith) in
     let to : leb kind kinds ≡ true = le-leb kind kinds (omega arith) in
     rw (c .step-if .ensures, a .allowed .ensures, a .before .low .ensures, b .bits5 .ensures .0)
     (rw (b .before .bits4 .ensures .0, b .before .before .bits3 .ensures .0, b .before .before .before .bits2 .ensures .0)
