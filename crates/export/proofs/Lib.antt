@@ -2,3 +2,4 @@
 -- Assumes nothing.
 pub mod Runners
 pub mod Demand3
+pub mod Ranges

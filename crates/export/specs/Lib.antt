@@ -5,3 +5,4 @@ pub mod Sheet
 pub mod Demand3
 pub mod Run
 pub mod Slots
+pub mod Ranges

@@ -1,0 +1,49 @@
+-- The ranges of exported answers hold, so that a caller may tell them apart by size alone.
+-- Assumes nothing.
+use mathlib.Core.Bool.{Bool, true, false}
+use mathlib.Core.Path.{_≡_, refl}
+use Prim.Native.Nat.{ℕ, _+_, _*_, _/_, _%_, _^_, _≤_, _<_}
+use native.Mathlib.Omega.{arith}
+use lib.Dec.{T}
+use Rattle.base.proofs.Bools.{in-range}
+use Rattle.voltage.specs.declared.CoreVoltage.{CoreVoltage}
+use Rattle.voltage.proofs.Codes.{code-small, bod-small}
+use Rattle.step.specs.declared.Step.{Step}
+use Rattle.step.specs.Layout.{kinds}
+use Rattle.step.specs.Steps.{packOf, known, kindIn, WellFormed}
+use Rattle.step.proofs.Laws.{kind-in, pack-lt}
+use Rattle.runner.specs.Run.{Progress, done, handed, passed, waiting}
+use Rattle.export.specs.Numbers.{refusals, voltageNumber}
+use Rattle.export.specs.Ranges.{ProgressRange, Ranges}
+
+is-true : (b : Bool) → T b → b ≡ true
+is-true true t = refl
+is-true false t = absurd t
+
+-- a step's kind, from 1 on, stands in the word's upper 6 bits
+word-from : (s : Step) → WellFormed s → 2 ^ 58 ≤ packOf s
+unfolding kindIn known
+word-from s w =
+    let kind = kind-in s w in
+    let known = in-range 1 kinds (s .kind) (is-true _ (w .is-known)) .0 in
+    omega (arith, kind, known)
+
+voltage-below : (v : CoreVoltage) → voltageNumber v < refusals
+voltage-below v = omega (arith, code-small v, bod-small v)
+
+progress-range : (p : Progress) → ProgressRange p
+progress-range done = omega arith
+progress-range passed = omega arith
+progress-range waiting = omega arith
+progress-range (handed s) = λ w. (word-from s w, pack-lt s)
+
+pub ranges : Ranges
+ranges =
+    record {
+      settings = λ c r f p q. omega arith;
+      voltages = voltage-below;
+      numbers = λ n h. omega arith;
+      refused = λ f n h. omega arith;
+      malformed-below = omega arith;
+      progress = progress-range;
+    }
