@@ -1,0 +1,41 @@
+-- `polled::main` meets its contract: the sheet's length is within the buffer.
+-- Assumes nothing.
+use mathlib.Core.List.{List}
+use mathlib.Core.Path.{_≡_, sym}
+use Prim.Native.Nat.{ℕ, _≤_}
+use native.Mathlib.Omega.{arith}
+use borrow.Author.Needs.{needs}
+use lib.ListN.{length, length-append}
+use lib.Seq.{length-take-le}
+use Rattle.base.specs.Answer.{value, lengthIs}
+use Rattle.base.specs.declared.Length.{Length}
+use Rattle.config.specs.declared.ClockConfig.{ClockConfig}
+use Rattle.sheet.specs.Writer.{InitCall}
+use Rattle.sheet.proofs.Demand3.{answered}
+use Rattle.polled.proofs.main.Statement.{statement}
+use Rattle.polled.proofs.main.Tie as tie
+
+fits : (p : ClockConfig) (reading : ℕ) (b b′ : List ℕ) (r : Length) → InitCall p reading b r b′ → (n : ℕ)
+    → lengthIs r ≡ value n → n ≤ length b′
+fits p reading b b′ r o n e =
+    let a = answered p reading b b′ r o n e in
+    rw (a .bytes) (simp length-append (omega (arith, a .count)))
+
+array-share-prefix-bytes : tie.Need-array-share-prefix-bytes
+array-share-prefix-bytes c =
+    let told = c .before .n .given in
+    let init = c .before .before .before .before .init in
+    fits _ _ _ _ _ (init .ensures) _ (rw (told .1))
+
+slice-aggregate-run : tie.Need-slice-aggregate-run
+slice-aggregate-run c =
+    let told = c .before .before .n .given in
+    let init = c .before .before .before .before .before .init in
+    sym (length-take-le _ _ (fits _ _ _ _ _ (init .ensures) _ (rw (told .1))))
+
+pub main-spec : {M : Type 1} → statement M
+main-spec =
+    tie.close
+    (tie.spec (λ c κs. search needs) (λ c. search needs) (λ c κs. search needs) (λ c. search needs)
+    array-share-prefix-bytes slice-aggregate-run (λ c κs. search needs) (λ c κs. search needs) (λ c. search needs)
+    (λ c. search needs) (λ c. search needs) (λ c κs. search needs) (λ c. search needs) (λ c. search needs))
