@@ -1,6 +1,7 @@
 //! Reads the published sources, cuts out what is not compared, and replaces `use` lines.
 //!
-//! Only whole lines are taken out or replaced; every function that stays, stays word for word.
+//! Only whole lines are taken out or replaced; every function that stays, stays word for word. A second copy of each file has
+//! the lines of the RP235x in place of those of the RP2040.
 
 use std::path::{Path, PathBuf};
 use std::{env, fs};
@@ -32,6 +33,13 @@ const CLOCKS_USES: [(&str, &str); 6] = [
 ];
 
 const DIVIDER_USES: [(&str, &str); 1] = [("use fixed", "use crate::fixed::{self, types::extra::U8};")];
+
+/// The second copy: which lines are a chip's goes by `cfg`, and both chips stand in one program, each with a root of its own.
+const RP235X: [(&str, &str); 3] = [
+    ("cfg(feature = \"rp2040\")", "cfg(any())"),
+    ("cfg(feature = \"_rp235x\")", "cfg(all())"),
+    ("crate::", "crate::rp235x::"),
+];
 
 fn main() {
     println!("cargo::rerun-if-env-changed={FOLDER}");
@@ -96,7 +104,13 @@ fn prepare(
         let at = only(&lines, old, path)?;
         lines[at] = new;
     }
-    write(out, &(lines.join("\n") + "\n"))
+    let text = lines.join("\n") + "\n";
+    let second = RP235X.iter().fold(text.clone(), |text, (rp2040, rp235x)| text.replace(rp2040, rp235x));
+    let beside = out.with_file_name(format!("rp235x_{}", out.file_name().unwrap().display()));
+    for (path, text) in [(out, text), (&beside, second)] {
+        fs::write(path, text).map_err(|why| format!("{}: {why}", path.display()))?;
+    }
+    Ok(())
 }
 
 /// The number of the one line with this text in it.

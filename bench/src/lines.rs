@@ -2,7 +2,7 @@
 
 use std::hint::black_box;
 
-use dizbaral::{Progress, raw};
+use dizbaral::{Chip, GpoutDiv, Progress, raw};
 
 use crate::clocks::{self, ClockConfig, Gpout};
 use crate::peripherals::PIN_21;
@@ -29,6 +29,9 @@ pub struct Line<'a> {
 
 const SEED: u64 = 1;
 const READING: u8 = 11;
+
+/// The chip of the calls that are measured.
+const RP2040: u8 = Chip::Rp2040 as u8;
 const MHZ: u32 = 1_000_000;
 
 /// The inputs, made once.
@@ -47,7 +50,7 @@ impl Inputs {
     pub fn new() -> Inputs {
         let mut r = Random::new(SEED);
         let mut sheet = vec![0; dizbaral::SHEET_BYTES];
-        let length = dizbaral::system_sheet(125 * MHZ, READING, &mut sheet).unwrap();
+        let length = dizbaral::system_sheet(Chip::Rp2040, 125 * MHZ, READING, &mut sheet).unwrap();
         sheet.truncate(length);
         Inputs {
             exact: (16..=133).map(|mhz| (12 * MHZ, mhz * MHZ)).filter(is_exact).collect(),
@@ -146,14 +149,14 @@ impl Inputs {
     }
 
     fn crystal_sheet(&self) -> Line<'_> {
-        let mut sheet = [0; 520];
+        let mut sheet = [0; 528];
         Line {
             name: "sheet, crystal preset",
             calls: 1,
             goal: 0.70,
             proved: Box::new(move || {
                 black_box(unsafe {
-                    raw::dizbaral_system_sheet(black_box(125 * MHZ), READING, sheet.as_mut_ptr(), 520)
+                    raw::dizbaral_system_sheet(RP2040, black_box(125 * MHZ), READING, sheet.as_mut_ptr(), 528)
                 });
                 black_box(&sheet);
             }),
@@ -166,7 +169,7 @@ impl Inputs {
     }
 
     fn plan_sheets(&self) -> Line<'_> {
-        let mut sheet = [0; 520];
+        let mut sheet = [0; 528];
         Line {
             name: "sheet, random plans",
             calls: self.plans.len(),
@@ -175,7 +178,7 @@ impl Inputs {
                 for plan in &self.plans {
                     let plan = black_box(plan);
                     let sheet = sheet.as_mut_ptr();
-                    black_box(unsafe { raw::dizbaral_plan_sheet(plan.as_ptr(), 48, READING, sheet, 520) });
+                    black_box(unsafe { raw::dizbaral_plan_sheet(RP2040, plan.as_ptr(), 48, READING, sheet, 528) });
                     black_box(&sheet);
                 }
             }),
@@ -217,7 +220,7 @@ impl Inputs {
             proved: Box::new(|| {
                 for &(source, whole, fraction) in &self.gpout {
                     let frequencies = black_box(&self.frequencies);
-                    black_box(unsafe { raw::dizbaral_gpout_frequency(source, whole, fraction, frequencies) });
+                    black_box(unsafe { raw::dizbaral_gpout_frequency(RP2040, source, whole, fraction as u16, frequencies) });
                 }
             }),
             rust: Box::new(move || {
@@ -268,9 +271,9 @@ impl Inputs {
             let margin = dizbaral::Margin { lower: low.checked_sub(1), higher: high.checked_add(1) };
             assert_eq!(dizbaral::target_margin(input, target), Ok(margin));
         }
-        let mut sheet = [0; 520];
+        let mut sheet = [0; 528];
         for numbers in &self.plans {
-            let length = dizbaral::plan_sheet(numbers, READING, &mut sheet).unwrap();
+            let length = dizbaral::plan_sheet(Chip::Rp2040, numbers, READING, &mut sheet).unwrap();
             recorder::start(READING);
             clocks::write_sheet(plan::config(numbers));
             assert_eq!(&sheet[..length], recorder::sheet());
@@ -285,7 +288,7 @@ impl Inputs {
         let output = Gpout::new(Peri::new(PIN_21));
         for &(source, whole, fraction) in &self.gpout {
             recorder::set_gpout(source, whole, fraction);
-            let ours = dizbaral::gpout_frequency(source, whole, fraction, &self.frequencies);
+            let ours = dizbaral::gpout_frequency(source, GpoutDiv::Rp2040 { whole, fraction }, &self.frequencies);
             assert_eq!(ours, Ok(gpout(&output)));
         }
         let (mut ours, mut rust) = (dizbaral::Runner::new(), Runner::default());
@@ -351,7 +354,7 @@ fn accepted(plan: &[u32; 48]) -> bool {
     let (ring_hz, code, given, time) = (plan[1], plan[25], plan[26], plan[27]);
     let settles = code != READING as u32 && if given == 1 { time != 0 } else { code > 11 };
     let alike = !settles || ring_hz != 0 && ring_hz.is_multiple_of(MHZ);
-    alike && dizbaral::plan_sheet(plan, READING, &mut [0; 520]).is_ok()
+    alike && dizbaral::plan_sheet(Chip::Rp2040, plan, READING, &mut [0; 528]).is_ok()
 }
 
 #[inline(never)]

@@ -13,12 +13,12 @@ mod case;
 #[allow(dead_code)]
 #[path = "../../oracle/src/limits.rs"]
 mod limits;
-#[allow(dead_code)]
+#[allow(dead_code, unused_imports)]
 #[path = "../../oracle/src/pac/mod.rs"]
 mod pac;
 #[path = "../../oracle/src/plain_runner.rs"]
 mod plain_runner;
-#[allow(dead_code)]
+#[allow(dead_code, unused_imports)]
 #[path = "../../oracle/src/plan.rs"]
 mod plan;
 #[allow(dead_code)]

@@ -1,4 +1,4 @@
-/* Clock sheets for the RP2040, from the proved library libexport.a.
+/* Clock sheets for the RP2040 and the RP235x, from the proved library libexport.a.
  *
  * Every function is total: it answers every input, and its answer is one number.
  *   below DIZBARAL_REFUSAL   the value, as each function says
@@ -28,8 +28,12 @@
 #define DIZBARAL_PASSED ((uint64_t)1)
 #define DIZBARAL_WAITING ((uint64_t)2)
 
+/* The chips; any other number is malformed. */
+#define DIZBARAL_RP2040 ((uint8_t)0)
+#define DIZBARAL_RP235X ((uint8_t)1)
+
 /* A sheet has at most this many bytes. */
-#define DIZBARAL_SHEET_BYTES 520
+#define DIZBARAL_SHEET_BYTES 528
 
 /* What a step of a sleep or a wake waits for. */
 #define DIZBARAL_RING_STABLE 11
@@ -69,26 +73,31 @@ bool dizbaral_is_valid(uint32_t input_hz, uint8_t refdiv, uint16_t fbdiv, uint8_
 uint64_t dizbaral_output_frequency(uint32_t input_hz, uint8_t refdiv, uint16_t fbdiv, uint8_t post_div1,
                                    uint8_t post_div2);
 
-/* core_voltage: of a reading of the regulator, voltage code << 8 | brownout level. Refusal 18. */
-uint64_t dizbaral_core_voltage(uint8_t reading);
+/* core_voltage: of a reading of the chip's regulator, voltage code << 8 | brownout level. Refusal 18. */
+uint64_t dizbaral_core_voltage(uint8_t chip, uint8_t reading);
 
 /* calculate_pio_clock_divider_value: the divider in 256ths. Refusal 17. */
 uint64_t dizbaral_pio_divider(uint32_t sys_hz, uint32_t target_hz);
 
 /* Gpout get_freq: the frequency in Hz of a clock output with this source code and divider, over the ten stored
- * frequencies (rosc, xosc, pll_sys, pll_usb, ref, sys, peri, usb, adc, rtc). Refusal 23. */
-uint64_t dizbaral_gpout_frequency(uint8_t source, uint32_t whole, uint8_t fraction, const uint32_t freqs[10]);
+ * frequencies (rosc, xosc, pll_sys, pll_usb, ref, sys, peri, usb, adc, rtc). Refusal 23; malformed where a fraction
+ * of the RP2040 has more than 8 bits. */
+uint64_t dizbaral_gpout_frequency(uint8_t chip, uint8_t source, uint32_t whole, uint16_t fraction,
+                                  const uint32_t freqs[10]);
 
-/* Writes the sheet of the system_freq plan (12 MHz crystal) at a reading of the regulator to the start of the
+/* Writes the sheet of the chip's system_freq plan (12 MHz crystal) at a reading of the regulator to the start of the
  * buffer. The length in bytes; bytes past it keep their values. Refusals 18, 1 to 14, 19. */
-uint64_t dizbaral_system_sheet(uint32_t hz, uint8_t reading, uint8_t *sheet, size_t length);
+uint64_t dizbaral_system_sheet(uint8_t chip, uint32_t hz, uint8_t reading, uint8_t *sheet, size_t length);
 
 /* The same for a crystal of crystal_hz, with the PLLs that dizbaral_search and dizbaral_usb_pll find. Before the other
  * refusals 15, then 25. */
-uint64_t dizbaral_system_sheet_from(uint32_t crystal_hz, uint32_t hz, uint8_t reading, uint8_t *sheet, size_t length);
+uint64_t dizbaral_system_sheet_from(uint8_t chip, uint32_t crystal_hz, uint32_t hz, uint8_t reading, uint8_t *sheet,
+                                    size_t length);
 
-/* The same for a plan of 48 numbers: docs/CASES.md, A plan in numbers. Malformed where they are of no plan. */
-uint64_t dizbaral_plan_sheet(const uint32_t *plan, size_t numbers, uint8_t reading, uint8_t *sheet, size_t length);
+/* The same for a plan of 48 numbers, 43 for the RP235x: docs/CASES.md, A plan in numbers. Malformed where they are of
+ * no plan. */
+uint64_t dizbaral_plan_sheet(uint8_t chip, const uint32_t *plan, size_t numbers, uint8_t reading, uint8_t *sheet,
+                             size_t length);
 
 /* Writes every setting that gives the target with no remainder, each once, two bytes each, most significant first:
  * feedback divider (9 bits), post dividers (3)(3), a zero bit. The lowest feedback divider comes first, then the
@@ -105,7 +114,7 @@ uint64_t dizbaral_run(uint32_t runner[14], const uint8_t *sheet, size_t length, 
 
 /* How long to wait for a sheet of this library: where no wait of a fresh runner's run hears more than k unready polls,
  * at most this many calls of dizbaral_run come before the first that answers DIZBARAL_DONE, and none is refused.
- * 65 + 10 * k. From 1000000 on a lock may time out, and the answer is 4294967295. */
+ * 66 + 10 * k. From 1000000 on a lock may time out, and the answer is 4294967295. */
 uint32_t dizbaral_longest_wait(uint32_t k);
 
 /* Sleep (docs/SLEEP.md): saves the eleven register words in a slot from 0 to 3, and makes them the words of the sleeping

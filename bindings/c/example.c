@@ -32,7 +32,7 @@ static bool read_sheet(const char *name, size_t *length) {
 }
 
 static bool make_sheet(size_t *length) {
-    uint64_t answer = dizbaral_system_sheet(125000000, 11, sheet, sizeof sheet);
+    uint64_t answer = dizbaral_system_sheet(DIZBARAL_RP2040, 125000000, 11, sheet, sizeof sheet);
     *length = answer;
     return !refused(answer);
 }

@@ -4,8 +4,9 @@ use std::fmt::{self, Display, Formatter};
 
 use crate::book;
 use crate::case::{Case, Kind, PLAN};
-use crate::clocks::{self, ClockConfig, Gpout, GpoutSrc};
+use crate::clocks::{self, ClockConfig, Gpout, GpoutSrc, RtcClkSrc};
 use crate::cuts::{self, Cuts};
+use crate::cuts_of;
 use crate::margin::margin;
 use crate::pac;
 use crate::panics::{Panic, catch};
@@ -13,7 +14,9 @@ use crate::peripherals::PIN_21;
 use crate::pio_programs::clock_divider::calculate_pio_clock_divider_value;
 use crate::plan::{self, pll};
 use crate::recorder::{self, Record};
+use crate::rp235x;
 use crate::rules;
+use crate::sheet;
 use crate::sleep;
 use crate::standins::Peri;
 use crate::steps::Step;
@@ -27,6 +30,8 @@ pub enum Answer {
     Sheet(Vec<Step>),
     /// The Rust's sheet, but with the settling delay of docs/FORMAT.md, which is longer.
     Settled(Vec<Step>),
+    /// The same with the system frequency of the RP2350 datasheet, whose divider has 65536ths.
+    Scaled(Vec<Step>),
     Refused(u8),
     /// It panics. The refusals that this place of the code belongs to.
     Panic(Vec<u8>),
@@ -41,7 +46,7 @@ impl Display for Answer {
     fn fmt(&self, f: &mut Formatter<'_>) -> fmt::Result {
         match self {
             Answer::Says(text) | Answer::Ruled(text) => f.write_str(text),
-            Answer::Sheet(steps) | Answer::Settled(steps) => {
+            Answer::Sheet(steps) | Answer::Settled(steps) | Answer::Scaled(steps) => {
                 write!(f, "{} ", steps.len() * 8)?;
                 steps.iter().try_for_each(|step| write!(f, "{:016x}", step.word))
             }
@@ -91,30 +96,19 @@ pub fn answer(case: &Case) -> Answer {
         Kind::Rosc => sheet(n[0], ClockConfig::rosc),
         Kind::Default => sheet(n[0], ClockConfig::default),
         Kind::System => sheet(n[0], || ClockConfig::system_freq(n[2]).expect("system_freq never errs")),
-        Kind::SystemFrom => system_from(n[0], n[2], n[3]),
+        Kind::SystemFrom => system_from(n[2], clocks::search(n[2], n[3]), |sys_pll, usb_pll| {
+            sheet(n[0], || plan::system_freq_from(n[2], n[3], sys_pll, pll(&usb_pll)))
+        }),
         Kind::Manual => sheet(n[0], || ClockConfig::manual_pll(n[2], pll(&n[3..7]), plan::voltage(n[7]))),
         Kind::List => Answer::Ruled(rules::list(n[0], n[1], n[2] as usize)),
         Kind::Run => Answer::NoCounterpart,
         Kind::Sleep | Kind::Wake => sleep::answer(case.kind, n),
+        _ => rp235x::answer::answer(case),
     }
 }
 
-fn says(number: u32) -> Answer {
+pub fn says(number: u32) -> Answer {
     Answer::Says(number.to_string())
-}
-
-/// The Rust's search and `init` with the rule's USB PLL, which are three of its plan's pieces.
-fn system_from(reading: u32, crystal: u32, hz: u32) -> Answer {
-    if crystal < rules::MINIMUM {
-        return Answer::Ruled("refused 15".to_string());
-    }
-    let Some(sys_pll) = clocks::search(crystal, hz) else {
-        return Answer::Refused(15);
-    };
-    let Some(usb_pll) = rules::usb_pll(crystal) else {
-        return Answer::Ruled("refused 25".to_string());
-    };
-    sheet(reading, || plan::system_freq_from(crystal, hz, sys_pll, pll(&usb_pll)))
 }
 
 fn search(input: u32, target: u32) -> Answer {
@@ -125,7 +119,7 @@ fn search(input: u32, target: u32) -> Answer {
 }
 
 /// Runs code that touches registers, the regulator at a reading. Nothing where it panics.
-fn run<T>(reading: u8, code: impl FnOnce() -> T) -> (Option<T>, Record) {
+pub fn run<T>(reading: u8, code: impl FnOnce() -> T) -> (Option<T>, Record) {
     recorder::start(reading);
     let result = catch(code);
     let mut record = recorder::finish();
@@ -206,37 +200,37 @@ fn gpout_source(code: u32) -> Option<GpoutSrc> {
     })
 }
 
+/// The Rust's search and `init` with the rule's USB PLL, which are three of its plan's pieces.
+pub fn system_from<Pll>(
+    crystal: u32,
+    found: Option<Pll>,
+    sheet: impl FnOnce(Pll, [u32; 4]) -> Answer,
+) -> Answer {
+    if crystal < rules::MINIMUM {
+        return Answer::Ruled("refused 15".to_string());
+    }
+    let Some(sys_pll) = found else {
+        return Answer::Refused(15);
+    };
+    match rules::usb_pll(crystal) {
+        Some(usb_pll) => sheet(sys_pll, usb_pll),
+        None => Answer::Ruled("refused 25".to_string()),
+    }
+}
+
 fn sheet(reading: u32, config: impl FnOnce() -> ClockConfig) -> Answer {
-    let config = match catch(config) {
-        Ok(config) => config,
-        // Only `manual_pll` panics before there is a plan.
-        Err(Panic::Published) => return Answer::Panic(vec![5]),
-        Err(Panic::Elsewhere(place)) => return Answer::Unknown(place),
-    };
-    let Some(reading) = reading_held(reading) else {
-        return Answer::Drops(18);
-    };
-    let cuts = Cuts::of(&config);
-    let (done, mut record) = run(reading, || unsafe { clocks::init(config) });
-    if record.output_writes != 0 {
-        return Answer::Unknown("a clock output is set up".to_string());
-    }
-    if let Some(what) = record.unknown {
-        return Answer::Unknown(what);
-    }
-    cuts.add_to(&mut record);
-    match (done, record.lost) {
-        (Some(()), None) if cuts.settle(&mut record.steps) => Answer::Settled(record.steps),
-        (Some(()), None) => Answer::Sheet(record.steps),
-        (Some(()), Some(number)) => Answer::Drops(number),
-        (None, lost) => {
-            let panics = cuts.refusals_after(&record.steps);
-            match lost.filter(|&number| panics.iter().all(|&panic| number < panic)) {
-                // The Rust waits for a shorter time and goes on.
-                Some(3) => Answer::Drops(3),
-                Some(number) => Answer::Panic(vec![number]),
-                None => Answer::Panic(panics),
-            }
-        }
+    sheet::sheet(reading_held(reading), || {
+        let config = config();
+        let rtc = config.rtc_clk.as_ref().map(|rtc| (clock_of(rtc.src), rtc.div_int, rtc.div_frac));
+        (Cuts { rtc, ..cuts_of::cuts(&config) }, move || unsafe { clocks::init(config) })
+    })
+}
+
+fn clock_of(source: RtcClkSrc) -> u32 {
+    match source {
+        RtcClkSrc::PllUsb => 3,
+        RtcClkSrc::PllSys => 2,
+        RtcClkSrc::Rosc => 0,
+        RtcClkSrc::Xosc => 1,
     }
 }

@@ -22,6 +22,14 @@ pub enum Kind {
     Run,
     Sleep,
     Wake,
+    Voltage235,
+    Gpout235,
+    Sheet235,
+    Crystal235,
+    Rosc235,
+    Default235,
+    System235,
+    SystemFrom235,
 }
 
 /// A case with its numbers in the order of the text.
@@ -56,7 +64,7 @@ pub const U16: Fits = UpTo(u16::MAX as u32);
 pub const U32: Fits = UpTo(u32::MAX);
 pub const ROOM: Fits = UpTo(1024);
 
-pub const KINDS: [(&str, Kind); 20] = [
+pub const KINDS: [(&str, Kind); 28] = [
     ("valid", Kind::Valid),
     ("output", Kind::Output),
     ("search", Kind::Search),
@@ -77,6 +85,14 @@ pub const KINDS: [(&str, Kind); 20] = [
     ("run", Kind::Run),
     ("sleep", Kind::Sleep),
     ("wake", Kind::Wake),
+    ("voltage235", Kind::Voltage235),
+    ("gpout235", Kind::Gpout235),
+    ("sheet235", Kind::Sheet235),
+    ("crystal235", Kind::Crystal235),
+    ("rosc235", Kind::Rosc235),
+    ("default235", Kind::Default235),
+    ("system235", Kind::System235),
+    ("system_from235", Kind::SystemFrom235),
 ];
 
 impl Kind {
@@ -91,14 +107,25 @@ impl Kind {
             Kind::Search | Kind::Margin | Kind::Pio => &[U32, U32],
             Kind::UsbPll | Kind::Book => &[U32],
             Kind::List => &[U32, U32, ROOM],
-            Kind::Voltage => &[U8],
+            Kind::Voltage | Kind::Voltage235 => &[U8],
             Kind::Gpout => &[U8, U32, U8, U32, U32, U32, U32, U32, U32, U32, U32, U32, U32],
+            Kind::Gpout235 => &[U8, U32, U16, U32, U32, U32, U32, U32, U32, U32, U32, U32, U32],
             Kind::Sheet | Kind::Rosc | Kind::Default => &[U8, ROOM],
-            Kind::Crystal | Kind::System => &[U8, ROOM, U32],
-            Kind::SystemFrom => &[U8, ROOM, U32, U32],
+            Kind::Sheet235 | Kind::Rosc235 | Kind::Default235 => &[U8, ROOM],
+            Kind::Crystal | Kind::System | Kind::Crystal235 | Kind::System235 => &[U8, ROOM, U32],
+            Kind::SystemFrom | Kind::SystemFrom235 => &[U8, ROOM, U32, U32],
             Kind::Manual => &[U8, ROOM, U32, U8, U16, U8, U8, Code],
             Kind::Run => &[],
             Kind::Sleep | Kind::Wake => &SLEEP_NUMBERS,
+        }
+    }
+
+    /// The numbers of its plan.
+    pub fn plan(self) -> &'static [Fits] {
+        match self {
+            Kind::Sheet => &PLAN_NUMBERS,
+            Kind::Sheet235 => &PLAN_NUMBERS_235,
+            _ => &[],
         }
     }
 }
@@ -134,6 +161,15 @@ pub const PLAN_NUMBERS: [Fits; 48] = [
     FLAG, UpTo(3), U8, U8, // ADC: the same
     FLAG, UpTo(3), U32, U8, U8, // RTC: source, whole, fraction, phase
 ];
+
+/// The 43 numbers of a plan for the RP235x: no RTC, every code from 0 to 15, a system divider of two 16-bit numbers.
+pub const PLAN_NUMBERS_235: [Fits; at::RTC] = {
+    let mut numbers = *PLAN_NUMBERS.first_chunk().unwrap();
+    numbers[at::VOLTAGE] = UpTo(15);
+    numbers[at::SYSTEM + 1] = U16;
+    numbers[at::SYSTEM + 2] = U16;
+    numbers
+};
 
 /// Where the parts of a plan begin; a part that may be absent begins with its flag.
 pub mod at {
@@ -202,7 +238,7 @@ impl Case {
     /// Whether it is a case: parse and generate use the same rules.
     pub fn well_formed(&self) -> bool {
         let before = self.kind.numbers();
-        let plan: &[Fits] = if self.kind == Kind::Sheet { &PLAN_NUMBERS } else { &[] };
+        let plan = self.kind.plan();
         let fits = before.iter().chain(plan);
         self.numbers.len() == before.len() + plan.len()
             && fits.zip(&self.numbers).all(|(fits, &number)| fits.accepts(number))
@@ -215,7 +251,8 @@ fn whole_plan(plan: &[u32]) -> bool {
     let absent_zero =
         |&(flag, end): &(usize, usize)| plan[flag] == 1 || plan[flag..end].iter().all(|&n| n == 0);
     let pll_with_crystal = |pll: usize| plan[pll] <= plan[at::CRYSTAL];
-    PARTS.iter().all(absent_zero) && pll_with_crystal(at::SYSTEM_PLL) && pll_with_crystal(at::USB_PLL)
+    let mut parts = PARTS.iter().filter(|&&(flag, _)| flag < plan.len());
+    parts.all(absent_zero) && pll_with_crystal(at::SYSTEM_PLL) && pll_with_crystal(at::USB_PLL)
 }
 
 /// One to ten decimal digits, of a number of 32 bits.

@@ -23,6 +23,8 @@ pub enum Class {
     SameRingDivider,
     /// The sheet but for the settling delay, which is the rule's.
     SameSettling,
+    /// The sheet but for the stored system frequency, which is the datasheet's.
+    SameScale,
     /// Both say it is no case.
     NoCase,
     /// Refused with this number where the Rust panics.
@@ -34,6 +36,7 @@ pub enum Class {
     ExactVco,
     PioShift,
     GpoutWhole0,
+    GpoutScale,
     /// The search refuses a reference under the datasheet's minimum.
     UnderMinimum,
     /// An enable code that is none: the crystal counts as running.
@@ -49,6 +52,9 @@ impl Class {
             Class::SameSettling => {
                 "same steps, settling delay by the rule, the Rust's is shorter".to_string()
             }
+            Class::SameScale => {
+                "same steps, system frequency by a divider of 65536ths, the Rust takes 256ths".to_string()
+            }
             Class::NoCase => "no case on both sides".to_string(),
             Class::Panics(number) => format!("refused {number}, the Rust panics"),
             Class::Loses(3) => "refused 3 by the rule, the Rust's shorter settling delay fits".to_string(),
@@ -57,6 +63,7 @@ impl Class {
             Class::ExactVco => "not valid by the exact VCO, the Rust's product overflows".to_string(),
             Class::PioShift => "PIO value, the Rust's shifts lose bits".to_string(),
             Class::GpoutWhole0 => "Gpout whole part 0 is 65536, the Rust takes 65535".to_string(),
+            Class::GpoutScale => "Gpout by a divider of 65536ths, the Rust takes 256ths".to_string(),
             Class::UnderMinimum => "refused 15, reference under 5 MHz: the Rust has no minimum".to_string(),
             Class::CrystalCode => {
                 "a crystal whose enable code is none runs, for the Rust it is off".to_string()
@@ -69,7 +76,9 @@ impl Class {
 pub fn class(case: &Case, rust: &Answer, ours: &str) -> Option<Class> {
     let refused: Option<u8> = ours.strip_prefix("refused ").and_then(|number| number.parse().ok());
     match (rust, refused) {
-        (Answer::Sheet(steps) | Answer::Settled(steps), _) if case.room() < steps.len() * 8 => {
+        (Answer::Sheet(steps) | Answer::Settled(steps) | Answer::Scaled(steps), _)
+            if case.room() < steps.len() * 8 =>
+        {
             (refused == Some(19)).then_some(Class::Room)
         }
         (Answer::Panic(_), None) => (exact_vco(case) && ours == "no").then_some(Class::ExactVco),
@@ -80,8 +89,8 @@ pub fn class(case: &Case, rust: &Answer, ours: &str) -> Option<Class> {
         (Answer::Drops(number), Some(refused)) => {
             (refused == *number && pio_value(case).is_none()).then_some(Class::Loses(refused))
         }
-        (Answer::Says(says), _) if gpout_whole_0(case) && gpout_value(case) != *says => {
-            (gpout_value(case) == ours).then_some(Class::GpoutWhole0)
+        (Answer::Says(says), _) if gpout_ruled(case).is_some() && gpout_value(case) != *says => {
+            gpout_ruled(case).filter(|_| gpout_value(case) == ours)
         }
         (Answer::Says(_), _) if under_minimum(case) => (refused == Some(15)).then_some(Class::UnderMinimum),
         (Answer::Unknown(_) | Answer::NoCounterpart, _) => None,
@@ -91,6 +100,7 @@ pub fn class(case: &Case, rust: &Answer, ours: &str) -> Option<Class> {
         }
         (Answer::Ruled(_), _) => Some(Class::SameByRule(case.word())),
         (Answer::Settled(_), _) => Some(Class::SameSettling),
+        (Answer::Scaled(_), _) => Some(Class::SameScale),
         _ if ring_divider(case) => Some(Class::SameRingDivider),
         _ => Some(Class::Same),
     }
@@ -119,25 +129,32 @@ fn pio_value(case: &Case) -> Option<String> {
     (256..=16_777_215).contains(&value).then(|| value.to_string())
 }
 
-pub fn gpout_whole_0(case: &Case) -> bool {
-    case.kind == Kind::Gpout && case.numbers[1] == 0
+/// The class of a Gpout whose divider the Rust takes otherwise than the datasheet.
+pub fn gpout_ruled(case: &Case) -> Option<Class> {
+    match (case.kind, &case.numbers[..]) {
+        (Kind::Gpout, [_, 0, _, ..]) | (Kind::Gpout235, [_, 0, 0, ..]) => Some(Class::GpoutWhole0),
+        (Kind::Gpout235, [_, _, fraction, ..]) if *fraction != 0 => Some(Class::GpoutScale),
+        _ => None,
+    }
 }
 
-/// The value for a whole part of 0 by docs/FORMAT.md, Gpout.
+/// The value by docs/FORMAT.md, Gpout.
 fn gpout_value(case: &Case) -> String {
     let n = &case.numbers;
     // The clock's number of each source.
-    let clock = match n[0] {
-        0 => 2,
-        3 => 3,
-        4 => 0,
-        5 => 1,
-        6 => 5,
-        7 => 7,
-        8 => 8,
+    let clock = match (case.kind, n[0]) {
+        (_, 0) => 2,
+        (_, 3) => 3,
+        (Kind::Gpout, 4) | (Kind::Gpout235, 5) => 0,
+        (Kind::Gpout, 5) | (Kind::Gpout235, 6) => 1,
+        (Kind::Gpout, 6) | (Kind::Gpout235, 8) => 5,
+        (Kind::Gpout, 7) | (Kind::Gpout235, 9) => 7,
+        (Kind::Gpout, 8) | (Kind::Gpout235, 10) => 8,
         _ => 4,
     };
-    (n[3 + clock] as u64 * 256 / (65_536 * 256 + n[2] as u64)).to_string()
+    let scale = if case.kind == Kind::Gpout { 256 } else { 65_536 };
+    let whole = if n[1] == 0 { 65_536 } else { n[1] as u64 };
+    (n[3 + clock] as u64 * scale / (whole * scale + n[2] as u64)).to_string()
 }
 
 /// Compares, prints the counts by class, and says whether there was no finding.

@@ -1,7 +1,6 @@
 //! Where the published code loses bits itself, before a register's field could show it; where it settles for a shorter
 //! time than the rule; and which refusal the place of a panic belongs to.
 
-use crate::clocks::{ClockConfig, CoreVoltage, RtcClkSrc};
 use crate::recorder::Record;
 use crate::rules;
 use crate::steps::{self, Step};
@@ -14,27 +13,33 @@ pub fn pio(system: u32, target: u32) -> bool {
 /// What has to be known of a plan after the run.
 pub struct Cuts {
     /// Cycles of the settling delay, where there is one.
-    settling: u64,
-    startup: bool,
-    system_pll: bool,
-    system_whole_0: bool,
+    pub settling: u64,
+    pub startup: bool,
+    pub system_pll: bool,
+    pub system_whole_0: bool,
     /// The clock that RTC divides, whole part and fraction.
-    rtc: Option<(u32, u32, u8)>,
+    pub rtc: Option<(u32, u32, u8)>,
+    /// A system divider of the RP235x, where it has a whole part and a fraction.
+    pub scale: Option<Scale>,
+}
+
+/// The datasheet scales this divider by 65536, the Rust by 256.
+pub struct Scale {
+    /// The clock that the system clock divides.
+    pub source: u32,
+    pub whole: u16,
+    pub fraction: u16,
+    /// Whether the peripheral clock is the system clock.
+    pub peripheral: bool,
+}
+
+impl Scale {
+    fn hz(&self, steps: &[Step]) -> u32 {
+        rules::divided_by_65536ths(stored(steps, self.source), self.whole, self.fraction)
+    }
 }
 
 impl Cuts {
-    pub fn of(config: &ClockConfig) -> Cuts {
-        let xosc = config.xosc.as_ref();
-        let ring_hz = config.rosc.as_ref().map_or(0, |ring| ring.hz);
-        Cuts {
-            settling: rules::settling_cycles(settling_time(config), ring_hz),
-            startup: xosc.is_some_and(|x| startup_over(x.hz, x.delay_multiplier)),
-            system_pll: xosc.is_some_and(|x| x.sys_pll.is_some()),
-            system_whole_0: config.sys_clk.div_int == 0,
-            rtc: config.rtc_clk.as_ref().map(|rtc| (clock_of(rtc.src), rtc.div_int, rtc.div_frac)),
-        }
-    }
-
     /// Adds the losses that no register's field has seen.
     pub fn add_to(&self, record: &mut Record) {
         if voltage_step(&record.steps).is_some() && self.settling > u32::MAX as u64 {
@@ -64,19 +69,41 @@ impl Cuts {
         std::mem::replace(delay, ruled) != ruled
     }
 
-    /// The refusals of the tests that come next after the steps so far.
+    /// Puts the datasheet's frequency of the system clock in the place of the Rust's, and the divider as the plan has it.
+    /// Says whether it is another one.
+    pub fn scale(&self, steps: &mut [Step]) -> bool {
+        let Some(scale) = &self.scale else {
+            return false;
+        };
+        let hz = scale.hz(steps);
+        let mut changed = false;
+        for step in steps {
+            let ruled = match (step.kind, step.stored()) {
+                (45, _) => steps::wide_divider(scale.whole, scale.fraction),
+                (_, Some((5, _))) => steps::store(5, hz),
+                (_, Some((6, _))) if scale.peripheral => steps::store(6, hz),
+                _ => continue,
+            };
+            changed |= std::mem::replace(step, ruled.expect("it fits")) != *step;
+        }
+        changed
+    }
+
+    /// The refusals of the tests that come next after the steps so far. None where the datasheet's system frequency passes
+    /// the test that the Rust's does not.
     pub fn refusals_after(&self, steps: &[Step]) -> Vec<u8> {
         let Some(last) = steps.last() else {
             return vec![];
         };
         match (last.kind, last.stored()) {
             (10, _) => vec![2],
-            (13, _) => vec![3],
-            (15, _) | (37, Some((0, _))) => vec![4],
+            (13 | 43, _) => vec![3],
+            (15 | 44, _) | (37, Some((0, _))) => vec![4],
             (18, _) if self.system_pll => vec![5],
             (14 | 18, _) => vec![6],
             (37, Some((3, _))) => vec![7, 8],
-            (27, _) => vec![9, 10],
+            (42, _) if self.scale.as_ref().is_some_and(|scale| scale.hz(steps) != 0) => vec![],
+            (27 | 42, _) => vec![9, 10],
             (30, _) => vec![11],
             (32, _) => vec![12],
             (34, _) => vec![13],
@@ -86,32 +113,9 @@ impl Cuts {
     }
 }
 
-/// The settling time in microseconds, by docs/FORMAT.md, Voltages, where none is given.
-fn settling_time(config: &ClockConfig) -> u32 {
-    config.voltage_stabilization_delay_us.unwrap_or(match config.core_voltage {
-        CoreVoltage::V1_15 => 1000,
-        CoreVoltage::V1_20 | CoreVoltage::V1_25 | CoreVoltage::V1_30 => 2000,
-        _ => 0,
-    })
-}
-
 /// Where the voltage changes; the next step is the settling delay, or the brownout level.
 fn voltage_step(steps: &[Step]) -> Option<usize> {
-    steps.iter().position(|step| step.kind == 13)
-}
-
-fn clock_of(source: RtcClkSrc) -> u32 {
-    match source {
-        RtcClkSrc::PllUsb => 3,
-        RtcClkSrc::PllSys => 2,
-        RtcClkSrc::Rosc => 0,
-        RtcClkSrc::Xosc => 1,
-    }
-}
-
-/// Over the 14 bits of the startup register, which come after `as u16`.
-fn startup_over(hz: u32, multiplier: u32) -> bool {
-    ((hz / 1000) as u64 * multiplier as u64 + 128) / 256 > 16383
+    steps.iter().position(|step| [13, 43].contains(&step.kind))
 }
 
 /// Over the 16 bits of the RTC's frequency, which come from `as u16`.

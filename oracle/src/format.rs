@@ -13,6 +13,7 @@ const PAPERS: &str = concat!(
     include_str!("../../docs/WORKED-SHEET.md"),
     include_str!("../../docs/CASES.md"),
     include_str!("../../docs/PROGRAMS.md"),
+    include_str!("../../docs/RP235X.md"),
 );
 
 const CLOCKS: [&str; 10] = ["rosc", "xosc", "pll_sys", "pll_usb", "ref", "sys", "peri", "usb", "adc", "rtc"];
@@ -79,7 +80,7 @@ fn the_worked_sheet_is_the_rusts() {
 #[test]
 fn its_steps_give_its_bytes() {
     let widths = widths();
-    assert!(widths.keys().copied().eq(1..=37));
+    assert!(widths.keys().copied().eq(1..=45));
     for cells in rows("A worked sheet") {
         assert_eq!(format!("`{:016x}`", packed(cells[2], &widths)), cells[1], "{}", cells[2]);
     }
@@ -98,12 +99,35 @@ fn its_words_say_what_it_stores() {
 #[test]
 fn the_voltages_are_the_rusts() {
     let _alone = crate::tests::alone();
-    let row = |name: &str| cells("Voltages").into_iter().find(|cells| cells[0] == name).unwrap();
-    let (codes, levels) = (row("code"), row("brownout level"));
-    for reading in 0..=15 {
-        let known = codes.iter().position(|code| *code == reading.to_string());
-        let expected = known.map_or("refused 18".to_string(), |at| format!("{reading} {}", levels[at]));
-        assert_eq!(answer_line(&format!("voltage {reading}")), expected);
+    for (heading, word, readings) in [("Voltages", "voltage", 0..=15), ("The RP235x", "voltage235", 0..=31)] {
+        let row = |name: &str| cells(heading).into_iter().find(|cells| cells[0] == name).unwrap();
+        let (codes, levels) = (row("code"), row("brownout level"));
+        for reading in readings {
+            let known = codes.iter().position(|code| *code == reading.to_string());
+            let expected = known.map_or("refused 18".to_string(), |at| format!("{reading} {}", levels[at]));
+            assert_eq!(answer_line(&format!("{word} {reading}")), expected);
+        }
+    }
+}
+
+/// The settling times, with a ring of 1 MHz: as many cycles as microseconds.
+#[test]
+fn the_settling_times_are_the_rusts() {
+    let _alone = crate::tests::alone();
+    for (heading, word, end) in [("Voltages", "sheet", " 0 0 0 0 0"), ("The RP235x", "sheet235", "")] {
+        let row = |name: &str| cells(heading).into_iter().find(|cells| cells[0].starts_with(name)).unwrap();
+        for (code, time) in row("code").iter().zip(row("settling time where none is given")).skip(1) {
+            let reading = if *code == "11" { 12 } else { 11 };
+            let ring = "1 1000000 1 0 0 0 0 0 0 0 0 16 0 0 0 0 0 0 0 0 0 0 0 0 0";
+            let case = format!("{word} {reading} 528 {ring} {code} 0 0 0 1 0 1 0 0 0 0 0 0 0 0 0 0 0{end}");
+            let Some(Answer::Sheet(steps)) = Case::parse(&case).map(|case| answer(&case)) else {
+                panic!("no sheet: {case}");
+            };
+            let delays: Vec<u64> =
+                steps.iter().filter(|step| step.kind == 14).map(|step| step.word << 6 >> 32).collect();
+            let times: Vec<u64> = time.parse().into_iter().filter(|time| *time != 0).collect();
+            assert_eq!(delays, times, "{case}");
+        }
     }
 }
 

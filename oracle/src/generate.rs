@@ -6,23 +6,38 @@ use crate::generate_ruled as ruled;
 use crate::limits;
 use crate::random::Random;
 use crate::random_plan;
+use crate::rp235x::generate as rp235x;
 use crate::sleep::cases as sleep;
-
-/// Of random cases, one in so many rests on rules of the port's own.
-const RULED: usize = 5;
 
 /// Lines: cases, and a few lines that are none.
 pub fn lines(seed: u64, count: usize) -> impl Iterator<Item = String> {
-    let fixed = limits::all().into_iter().chain(ruled::limits()).map(|case| case.text());
+    let fixed = limits::all().into_iter().chain(ruled::limits()).chain(rp235x::limits());
     let (mut of_rust, mut of_rules) = (random_lines(seed, case), random_lines(!seed, ruled_case));
-    let random = (1..).map(move |at| if at % RULED == 0 { of_rules() } else { of_rust() });
-    fixed.chain(random).take(count)
+    let mut of_rp235x = random_lines(seed ^ RP235X, rp235x::case);
+    // Of random cases one in five rests on rules of the port's own, and one in five is the RP235x's.
+    let random = (1..).map(move |at: usize| match at % 5 {
+        0 => of_rules(),
+        1 => of_rp235x(),
+        _ => of_rust(),
+    });
+    fixed.map(|case| case.text()).chain(random).take(count)
 }
 
 /// Those that stored files are made from: the cases that rest on the Rust.
 pub fn stored_lines(seed: u64, count: usize) -> impl Iterator<Item = String> {
-    let fixed = limits::all().into_iter().map(|case| case.text());
-    fixed.chain(std::iter::repeat_with(random_lines(seed, case))).take(count)
+    let fixed = limits::all().into_iter().chain(rp235x::limits());
+    let (mut of_rust, mut of_rp235x) = (random_lines(seed, case), random_lines(seed ^ RP235X, rp235x::case));
+    let random = (0..).map(move |at: usize| if at.is_multiple_of(2) { of_rust() } else { of_rp235x() });
+    fixed.map(|case| case.text()).chain(random).take(count)
+}
+
+/// Sets the seed of the RP235x's cases apart.
+const RP235X: u64 = 235 << 32;
+
+/// Cases of the words that end so.
+pub fn lines_ending(word: String, seed: u64, count: usize) -> impl Iterator<Item = String> {
+    let asked = move |line: &String| line.split(' ').next().is_some_and(|first| first.ends_with(&word));
+    lines(seed, usize::MAX).filter(asked).take(count)
 }
 
 /// Lines of one kind: its limits, then random ones.
@@ -79,8 +94,8 @@ fn of_kind(r: &mut Random, kind: Kind) -> Case {
         Kind::System => with_buffer(r, |r| search(r)[1..].to_vec()),
         Kind::SystemFrom => with_buffer(r, ruled::system_from),
         Kind::Manual => with_buffer(r, manual),
-        // Not taken apart: no case of these is made.
-        Kind::Run => vec![],
+        // Not taken apart, or made in `rp235x`: no case of these is made here.
+        _ => vec![],
     };
     Case { kind, numbers }
 }

@@ -1,10 +1,17 @@
 //! The published Rust of embassy-rp's clocks, run over a stand-in that records what it does.
 
+// Some files stand over the types of each chip.
+#![allow(clippy::duplicate_mod)]
+
+#[macro_use]
+mod way_in;
+
 mod answer;
 mod book;
 mod case;
 mod compare;
 mod cuts;
+mod cuts_of;
 #[cfg(test)]
 mod format;
 mod generate;
@@ -22,7 +29,9 @@ mod recorder;
 mod replay;
 #[cfg(test)]
 mod request_tests;
+mod rp235x;
 mod rules;
+mod sheet;
 mod sleep;
 mod standins;
 mod steps;
@@ -70,6 +79,11 @@ fn main() -> ExitCode {
         ["compare", seed, count, program] => number(seed)
             .zip(number(count))
             .map_or(usage(), |(seed, n)| compare::compare(generate::lines(seed, n as usize), program)),
+        ["compare", seed, count, program, word] if word.ends_with("235") => {
+            number(seed).zip(number(count)).map_or(usage(), |(seed, n)| {
+                compare::compare(generate::lines_ending(word.to_string(), seed, n as usize), program)
+            })
+        }
         ["compare", seed, count, program, word] => number(seed)
             .zip(number(count))
             .zip(Kind::of(word).filter(|&kind| kind != Kind::Run))

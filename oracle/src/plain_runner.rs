@@ -1,7 +1,7 @@
 //! The runner, written straight from docs/FORMAT.md, Runner: what the proved one is held against.
 
-/// Widths of the fields of kinds 1 to 37.
-const WIDTHS: [&[u32]; 38] = [
+/// Widths of the fields of kinds 1 to 45.
+const WIDTHS: [&[u32]; 46] = [
     &[],
     &[25],
     &[25],
@@ -40,6 +40,14 @@ const WIDTHS: [&[u32]; 38] = [
     &[24, 8],
     &[2, 2],
     &[4, 32],
+    &[],
+    &[9],
+    &[],
+    &[9],
+    &[],
+    &[5],
+    &[5],
+    &[16, 16],
 ];
 
 #[derive(Clone, Copy, Debug, PartialEq, Eq)]
@@ -70,7 +78,7 @@ pub struct Runner {
 fn unpack(bytes: [u8; 8]) -> Option<Step> {
     let word = u64::from_be_bytes(bytes);
     let kind = (word >> 58) as u8;
-    if kind == 0 || kind > 37 {
+    if kind == 0 || kind > 45 {
         return None;
     }
     let mut fields = [0; 5];
@@ -86,13 +94,13 @@ fn unpack(bytes: [u8; 8]) -> Option<Step> {
 impl Runner {
     #[inline(never)]
     pub fn poll(&mut self, sheet: &[u8], ready: bool) -> Reply {
-        if self.position > 65 || self.lock_polls > 999_999 {
+        if self.position > 66 || self.lock_polls > 999_999 {
             return Reply::Refused(21);
         }
         if self.stopped {
             return Reply::Refused(22);
         }
-        if sheet.len() > 520 || !sheet.len().is_multiple_of(8) {
+        if sheet.len() > 528 || !sheet.len().is_multiple_of(8) {
             return Reply::Refused(20);
         }
         let Some(bytes) = sheet.chunks_exact(8).nth(self.position) else {

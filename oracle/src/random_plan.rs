@@ -1,6 +1,6 @@
 //! Random plans: every shape, most of them accepted, then some damaged.
 
-use crate::case::{Fits, PARTS, PLAN_NUMBERS, at};
+use crate::case::{Fits, PARTS, PLAN_NUMBERS, PLAN_NUMBERS_235, at};
 use crate::limits;
 use crate::random::Random;
 
@@ -17,12 +17,31 @@ struct Sources {
 
 pub fn plan(r: &mut Random) -> Vec<u32> {
     let mut plan = whole(r);
+    damage_some(r, &mut plan, &PLAN_NUMBERS, limits::values_at);
+    plan.to_vec()
+}
+
+/// A plan for the RP235x: without RTC, and with numbers of its own in three places.
+pub fn plan_235(r: &mut Random, values_at: fn(usize) -> &'static [u32]) -> Vec<u32> {
+    let mut plan = whole(r);
+    plan[at::VOLTAGE] = r.between(0, 15);
+    if plan[11] > 22_015 && r.percent(90) {
+        plan[11] = r.between(0, 22_015);
+    }
+    let whole = if r.percent(70) { 1 } else { r.any().clamp(1, 65_535) };
+    let fraction = if r.percent(60) { 0 } else { r.any() & 0xffff };
+    set(&mut plan, at::SYSTEM + 1, &[whole, fraction]);
+    let plan = &mut plan[..PLAN_NUMBERS_235.len()];
+    damage_some(r, plan, &PLAN_NUMBERS_235, values_at);
+    plan.to_vec()
+}
+
+fn damage_some(r: &mut Random, plan: &mut [u32], numbers: &[Fits], values_at: fn(usize) -> &'static [u32]) {
     if r.percent(40) {
         for _ in 0..r.between(1, 2) {
-            damage(r, &mut plan);
+            damage(r, plan, numbers, values_at);
         }
     }
-    plan.to_vec()
 }
 
 pub fn crystal_hz(r: &mut Random) -> u32 {
@@ -157,8 +176,8 @@ fn with_hz(hz: &[u32]) -> Vec<u32> {
 }
 
 /// Another number at one place. A part that goes away leaves zeros, a part that comes starts with them.
-fn damage(r: &mut Random, plan: &mut Plan) {
-    let place = r.between(0, PLAN_NUMBERS.len() as u32 - 1) as usize;
+fn damage(r: &mut Random, plan: &mut [u32], numbers: &[Fits], values_at: fn(usize) -> &'static [u32]) {
+    let place = r.between(0, numbers.len() as u32 - 1) as usize;
     let &(flag, end) =
         PARTS.iter().find(|&&(flag, end)| (flag..end).contains(&place)).unwrap_or(&(place, place));
     if flag != end && place == flag {
@@ -171,10 +190,10 @@ fn damage(r: &mut Random, plan: &mut Plan) {
             plan[flag] = 1;
         }
     } else if flag == end || plan[flag] == 1 {
-        let value = if r.percent(50) { r.pick(limits::values_at(place)) } else { r.any() };
-        let value = match PLAN_NUMBERS[place] {
+        let value = if r.percent(50) { r.pick(values_at(place)) } else { r.any() };
+        let value = match numbers[place] {
             Fits::UpTo(top) if value > top => r.between(0, top),
-            Fits::Code => r.pick(limits::values_at(at::VOLTAGE)),
+            Fits::Code => r.pick(values_at(at::VOLTAGE)),
             _ => value,
         };
         plan[place] = value;

@@ -3,12 +3,12 @@
 
 use std::cell::RefCell;
 
-use crate::clocks;
 use crate::pac::Name;
-use crate::pac::fields::{ClkRefCtrl, ClkSysCtrl, Loss, Vreg};
+use crate::pac::fields::{ClkRefCtrl, ClkSysCtrl, Loss};
 use crate::steps::{self, Change, Step};
+use crate::{clocks, rp235x};
 
-const REGISTERS: usize = Name::PadControl as usize + 1;
+const REGISTERS: usize = Name::WatchdogControl as usize + 1;
 const COPIES: usize = 4;
 
 /// A loop that reads a register until it says what is waited for. The answers still to be given, last one
@@ -49,9 +49,10 @@ struct EndlessWait;
 pub fn start(reading: u8) {
     RECORDER.with_borrow_mut(|recorder| {
         *recorder = Recorder::new();
-        let mut vreg = Vreg(1);
-        vreg.set_vsel(reading);
-        recorder.held[Name::Vreg as usize][0] = vreg.0;
+        // On either chip the setting begins at bit 4.
+        for vreg in [Name::Vreg, Name::Rp235xVreg] {
+            recorder.held[vreg as usize][0] = (reading as u32) << 4 | 1;
+        }
         // Away from what the first steps set, so that each of their changes is seen.
         recorder.held[Name::SysControl as usize][0] = 7 << 5 | 1;
         recorder.held[Name::RefControl as usize][0] = 3 << 5 | 3;
@@ -101,7 +102,7 @@ pub fn delay(cycles: u32) {
 pub fn store(address: usize, value: u32) {
     RECORDER.with_borrow_mut(|recorder| {
         recorder.end_wait();
-        match clocks::clock_number(address) {
+        match clocks::clock_number(address).or_else(|| rp235x::clocks::clock_number(address)) {
             Some(clock) => recorder.push(steps::store(clock, value)),
             None => recorder.say_unknown("store to an atomic that is no clock".to_string()),
         }
@@ -162,7 +163,7 @@ impl Recorder {
         if !matches!(&self.wait, Some(wait) if wait.name == name && wait.index == index) {
             self.end_wait();
             let (step, answers) = match name {
-                Name::Vreg | Name::GpoutControl | Name::GpoutDivider => {
+                Name::Vreg | Name::Rp235xVreg | Name::GpoutControl | Name::GpoutDivider => {
                     return Some(self.held[name as usize][index as usize]);
                 }
                 _ => self.begin_wait(name, index),

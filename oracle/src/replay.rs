@@ -7,7 +7,7 @@ use std::path::Path;
 
 use crate::answer::{Answer, answer};
 use crate::case::Case;
-use crate::compare::{gpout_whole_0, named, ring_divider, under_minimum};
+use crate::compare::{gpout_ruled, named, ring_divider, under_minimum};
 use crate::generate;
 
 /// Why a case is left out; nothing where it stays.
@@ -25,7 +25,10 @@ fn left_out(case: &Case, rust: &Answer) -> Option<String> {
             "buffer too short, no counterpart".to_string()
         }
         Answer::Sheet(_) if ring_divider(case) => "ring divider over the register's 12 bits".to_string(),
-        Answer::Says(_) if gpout_whole_0(case) => "Gpout whole part 0".to_string(),
+        Answer::Scaled(_) => "the Rust scales a divider otherwise".to_string(),
+        Answer::Says(_) if gpout_ruled(case).is_some() => {
+            "the Rust takes a Gpout divider otherwise".to_string()
+        }
         Answer::Says(_) if under_minimum(case) => "reference under 5 MHz".to_string(),
         _ => return None,
     })

@@ -45,6 +45,12 @@ pub fn usb_pll(crystal: u32) -> Option<[u32; 4]> {
     settings.into_iter().find(gives_48_mhz)
 }
 
+/// A clock over a divider of a whole part from 1 on and 65536ths, as in the RP2350 datasheet.
+pub fn divided_by_65536ths(source: u32, whole: u16, fraction: u16) -> u32 {
+    let divider = (whole as u64) << 16 | fraction as u64;
+    (((source as u64) << 16) / divider) as u32
+}
+
 /// The lister's answer: the settings that give the target with no remainder, in its order, 2 bytes each.
 pub fn list(input: u32, target: u32, room: usize) -> String {
     let exact = |&(feedback, post1, post2): &Setting| {

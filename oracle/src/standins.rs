@@ -102,7 +102,7 @@ pub mod peripherals {
         )* };
     }
 
-    pins!(PIN_21 PIN_23 PIN_24 PIN_25);
+    pins!(PIN_13 PIN_15 PIN_21 PIN_23 PIN_24 PIN_25);
 }
 
 /// Ownership of a peripheral.

@@ -2,6 +2,7 @@
 
 use crate::pac::Name;
 use crate::pac::fields::*;
+use crate::pac::rp235x::fields as rp235x;
 use crate::pac::values::{clocks::ClkRefCtrlAuxsrc, rosc, xosc};
 
 /// A step: its kind and its eight bytes as a number, most significant byte first.
@@ -50,6 +51,16 @@ pub fn store(clock: u32, hz: u32) -> Result<Step, String> {
     Step::pack(37, &[(clock, 4), (hz, 32)])
 }
 
+/// The first step of a sheet for the RP235x.
+pub fn mark() -> Step {
+    Step { kind: 38, word: 38 << 58 }
+}
+
+/// The system divider of the RP235x.
+pub fn wide_divider(whole: u16, fraction: u16) -> Result<Step, String> {
+    Step::pack(45, &[(whole as u32, 16), (fraction as u32, 16)])
+}
+
 pub fn wait_released(mask: u32) -> Result<Step, String> {
     Step::pack(3, &[(mask, 25)])
 }
@@ -78,7 +89,9 @@ pub fn of_change(name: Name, index: u8, change: Change, value: u32) -> Result<St
             Name::PllPower | Name::PllControl | Name::PllFeedback | Name::PllPosts => {
                 pll_write(name, index, value)
             }
-            _ => oscillator_write(name, value).or_else(|| clock_write(name, value)),
+            _ => oscillator_write(name, value)
+                .or_else(|| clock_write(name, value))
+                .or_else(|| rp235x_write(name, value)),
         },
         Change::Modified(from) => modification(name, index, from, value),
     };
@@ -203,6 +216,32 @@ fn clock_write(name: Name, value: u32) -> Perhaps {
     }
 }
 
+/// The password of the RP235x's power registers, in their top 16 bits.
+const PASSWORD: u32 = 0x5afe;
+
+/// What the RP235x has otherwise.
+fn rp235x_write(name: Name, value: u32) -> Perhaps {
+    let enabled = rp235x::TickControl(value).enable();
+    match name {
+        Name::Rp235xRefDivider => step(26, &[(rp235x::ClkRefDiv(value).int() as u32, 2)]),
+        Name::Rp235xUsbDivider => step(31, &[(rp235x::ClkUsbDiv(value).int() as u32, 2)]),
+        Name::Rp235xAdcDivider => step(33, &[(rp235x::ClkAdcDiv(value).int() as u32, 2)]),
+        Name::TimerCycles => step(39, &[(value, 9)]),
+        Name::TimerControl => step_if(enabled, 40, &[]),
+        Name::WatchdogCycles => step(41, &[(value, 9)]),
+        Name::WatchdogControl => step_if(enabled, 42, &[]),
+        Name::Rp235xBrownout => {
+            let r = rp235x::Bod(value);
+            step_if(value >> 16 == PASSWORD && r.en(), 44, &[(r.vsel() as u32, 5)])
+        }
+        Name::Rp235xSysDivider => {
+            let r = rp235x::ClkSysDiv(value);
+            Some(wide_divider(r.int(), r.frac()))
+        }
+        _ => None,
+    }
+}
+
 /// A change of a part of a register: the other bits must have stayed.
 fn modification(name: Name, index: u32, from: u32, value: u32) -> Perhaps {
     let changed = from ^ value;
@@ -212,6 +251,11 @@ fn modification(name: Name, index: u32, from: u32, value: u32) -> Perhaps {
         Name::SysControl => step_if(changed & !1 == 0, 5, &[(value & 1, 1)]),
         Name::RefControl => step_if(changed & !3 == 0, 7, &[(value & 3, 2)]),
         Name::Vreg => step_if(changed & !0xf0 == 0, 13, &[(Vreg(value).vsel() as u32, 4)]),
+        Name::Rp235xVreg => {
+            let others = changed & 0xffff & !0x1f0;
+            let level = rp235x::Vreg(value).vsel() as u32;
+            step_if(others == 0 && value >> 16 == PASSWORD, 43, &[(level, 5)])
+        }
         Name::PllPower => step_if(changed == 1 << 3 && !Pwr(value).postdivpd(), 24, &[(index, 1)]),
         _ => None,
     }

@@ -304,11 +304,11 @@ fn no_cases() {
 
 #[test]
 fn generated_lines_are_the_same_for_a_seed() {
-    let lines = |seed| generate::lines(seed, 20_000).collect::<Vec<_>>();
+    let lines = |seed| generate::lines(seed, 40_000).collect::<Vec<_>>();
     assert_eq!(lines(1), lines(1));
     assert_ne!(lines(1), lines(2));
     let cases = lines(1).iter().filter(|line| Case::parse(line).is_some()).count();
-    assert!(cases > 19_000);
+    assert!(cases > 38_000);
 }
 
 #[test]

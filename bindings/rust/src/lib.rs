@@ -1,4 +1,4 @@
-//! Clock sheets for the RP2040, from the proved library: safe calls of its static archive.
+//! Clock sheets for the RP2040 and the RP235x, from the proved library: safe calls of its static archive.
 #![no_std]
 
 pub mod raw;
@@ -34,6 +34,13 @@ fn answer(number: u64) -> Result<u64, Refused> {
     } else {
         Ok(number)
     }
+}
+
+/// The chip that a call is about.
+#[derive(Clone, Copy, Debug, PartialEq, Eq)]
+pub enum Chip {
+    Rp2040 = 0,
+    Rp235x = 1,
 }
 
 /// The four dividers of a PLL.
@@ -137,8 +144,8 @@ pub struct CoreVoltage {
 }
 
 /// The voltage whose code was read.
-pub fn core_voltage(reading: u8) -> Result<CoreVoltage, Refused> {
-    answer(unsafe { raw::dizbaral_core_voltage(reading) })
+pub fn core_voltage(chip: Chip, reading: u8) -> Result<CoreVoltage, Refused> {
+    answer(unsafe { raw::dizbaral_core_voltage(chip as u8, reading) })
         .map(|number| CoreVoltage { code: (number >> 8) as u8, brownout: number as u8 })
 }
 
@@ -147,24 +154,43 @@ pub fn pio_divider(sys_hz: u32, target_hz: u32) -> Result<u32, Refused> {
     answer(unsafe { raw::dizbaral_pio_divider(sys_hz, target_hz) }).map(|divider| divider as u32)
 }
 
+/// A Gpout's divider: the RP2040's fraction has 8 bits, the RP235x's 16.
+#[derive(Clone, Copy, Debug, PartialEq, Eq)]
+pub enum GpoutDiv {
+    Rp2040 { whole: u32, fraction: u8 },
+    Rp235x { whole: u32, fraction: u16 },
+}
+
 /// The frequency of a Gpout with this source code and divider, over the ten stored frequencies.
-pub fn gpout_frequency(source: u8, whole: u32, fraction: u8, freqs: &[u32; 10]) -> Result<u32, Refused> {
-    answer(unsafe { raw::dizbaral_gpout_frequency(source, whole, fraction, freqs) }).map(|hz| hz as u32)
+pub fn gpout_frequency(source: u8, divider: GpoutDiv, freqs: &[u32; 10]) -> Result<u32, Refused> {
+    let (chip, whole, fraction) = match divider {
+        GpoutDiv::Rp2040 { whole, fraction } => (Chip::Rp2040, whole, fraction as u16),
+        GpoutDiv::Rp235x { whole, fraction } => (Chip::Rp235x, whole, fraction),
+    };
+    let number = unsafe { raw::dizbaral_gpout_frequency(chip as u8, source, whole, fraction, freqs) };
+    answer(number).map(|hz| hz as u32)
 }
 
 /// A sheet has at most this many bytes.
-pub const SHEET_BYTES: usize = 520;
+pub const SHEET_BYTES: usize = 528;
 
 /// Writes the sheet of a 12 MHz crystal and a system frequency, and answers its length.
-pub fn system_sheet(hz: u32, reading: u8, sheet: &mut [u8]) -> Result<usize, Refused> {
-    let number = unsafe { raw::dizbaral_system_sheet(hz, reading, sheet.as_mut_ptr(), sheet.len()) };
+pub fn system_sheet(chip: Chip, hz: u32, reading: u8, sheet: &mut [u8]) -> Result<usize, Refused> {
+    let number =
+        unsafe { raw::dizbaral_system_sheet(chip as u8, hz, reading, sheet.as_mut_ptr(), sheet.len()) };
     answer(number).map(|length| length as usize)
 }
 
 /// Writes the sheet of a crystal, a system frequency and the PLLs found for them, and answers its length.
-pub fn system_sheet_from(crystal_hz: u32, hz: u32, reading: u8, sheet: &mut [u8]) -> Result<usize, Refused> {
+pub fn system_sheet_from(
+    chip: Chip,
+    crystal_hz: u32,
+    hz: u32,
+    reading: u8,
+    sheet: &mut [u8],
+) -> Result<usize, Refused> {
     let number = unsafe {
-        raw::dizbaral_system_sheet_from(crystal_hz, hz, reading, sheet.as_mut_ptr(), sheet.len())
+        raw::dizbaral_system_sheet_from(chip as u8, crystal_hz, hz, reading, sheet.as_mut_ptr(), sheet.len())
     };
     answer(number).map(|length| length as usize)
 }
@@ -188,10 +214,12 @@ impl Display for PlanError {
 
 impl Error for PlanError {}
 
-/// Writes the sheet of a plan given as 48 numbers (docs/CASES.md, A plan in numbers), and answers its length.
-pub fn plan_sheet(plan: &[u32; 48], reading: u8, sheet: &mut [u8]) -> Result<usize, PlanError> {
+/// Writes the sheet of a plan given as numbers, 48 for the RP2040 and 43 for the RP235x (docs/CASES.md, A plan in
+/// numbers), and answers its length.
+pub fn plan_sheet(chip: Chip, plan: &[u32], reading: u8, sheet: &mut [u8]) -> Result<usize, PlanError> {
+    let (numbers, bytes) = (plan.len(), sheet.len());
     let number = unsafe {
-        raw::dizbaral_plan_sheet(plan.as_ptr(), plan.len(), reading, sheet.as_mut_ptr(), sheet.len())
+        raw::dizbaral_plan_sheet(chip as u8, plan.as_ptr(), numbers, reading, sheet.as_mut_ptr(), bytes)
     };
     match answer(number) {
         Ok(raw::MALFORMED) => Err(PlanError::NoPlan),
@@ -268,7 +296,7 @@ impl Runner {
 }
 
 /// How many calls may come before the first that answers done, for a fresh runner over a sheet of this library where
-/// no wait hears more than `k` unready polls: 65 + 10 × k. From 1000000 on a lock may time out: nothing.
+/// no wait hears more than `k` unready polls: 66 + 10 × k, and 65 + 10 × k where the sheet is the RP2040's. From 1000000 on a lock may time out: nothing.
 pub fn longest_wait(k: u32) -> Option<u32> {
     let calls = unsafe { raw::dizbaral_longest_wait(k) };
     (calls != u32::MAX).then_some(calls)

@@ -16,11 +16,18 @@ unsafe extern "C" {
         post_div1: u8,
         post_div2: u8,
     ) -> u64;
-    pub fn dizbaral_core_voltage(reading: u8) -> u64;
+    pub fn dizbaral_core_voltage(chip: u8, reading: u8) -> u64;
     pub fn dizbaral_pio_divider(sys_hz: u32, target_hz: u32) -> u64;
-    pub fn dizbaral_gpout_frequency(source: u8, whole: u32, fraction: u8, freqs: *const [u32; 10]) -> u64;
-    pub fn dizbaral_system_sheet(hz: u32, reading: u8, sheet: *mut u8, length: usize) -> u64;
+    pub fn dizbaral_gpout_frequency(
+        chip: u8,
+        source: u8,
+        whole: u32,
+        fraction: u16,
+        freqs: *const [u32; 10],
+    ) -> u64;
+    pub fn dizbaral_system_sheet(chip: u8, hz: u32, reading: u8, sheet: *mut u8, length: usize) -> u64;
     pub fn dizbaral_system_sheet_from(
+        chip: u8,
         crystal_hz: u32,
         hz: u32,
         reading: u8,
@@ -28,6 +35,7 @@ unsafe extern "C" {
         length: usize,
     ) -> u64;
     pub fn dizbaral_plan_sheet(
+        chip: u8,
         plan: *const u32,
         numbers: usize,
         reading: u8,

@@ -2,8 +2,10 @@
 
 use std::error::Error;
 
+use dizbaral::Chip::{Rp235x, Rp2040};
 use dizbaral::{
-    PlanError, Progress, Refused, Runner, SHEET_BYTES, list, listed, plan_sheet, system_sheet, system_sheet_from,
+    PlanError, Progress, Refused, Runner, SHEET_BYTES, list, listed, plan_sheet, raw, system_sheet,
+    system_sheet_from,
 };
 
 const MHZ: u32 = 1_000_000;
@@ -22,7 +24,7 @@ fn crystal() -> [u32; 48] {
 
 fn sheet_of(hz: u32) -> Vec<u8> {
     let mut sheet = vec![0; SHEET_BYTES];
-    let length = system_sheet(hz, 11, &mut sheet).unwrap();
+    let length = system_sheet(Rp2040, hz, 11, &mut sheet).unwrap();
     sheet.truncate(length);
     sheet
 }
@@ -36,9 +38,39 @@ fn crystal_preset_has_62_steps() {
 }
 
 #[test]
+fn the_crystal_preset_of_the_rp235x_has_63_steps() {
+    let mut sheet = [0; SHEET_BYTES];
+    assert_eq!(system_sheet(Rp235x, 150 * MHZ, 11, &mut sheet), Ok(63 * 8));
+    // 38, then 1(0x1EF3B7F).
+    assert_eq!(sheet[..8], (38u64 << 58).to_be_bytes());
+    assert_eq!(sheet[8..16], (1u64 << 58 | 0x1EF3B7Fu64 << 33).to_be_bytes());
+    let mut plan = crystal();
+    plan[18] = 5;
+    let mut same = [0; SHEET_BYTES];
+    assert_eq!(plan_sheet(Rp235x, &plan[..43], 11, &mut same), Ok(63 * 8));
+    assert_eq!(same, sheet);
+    // A plan has its chip's count of numbers.
+    assert_eq!(plan_sheet(Rp235x, &plan, 11, &mut same), Err(PlanError::NoPlan));
+    assert_eq!(plan_sheet(Rp2040, &plan[..43], 11, &mut same), Err(PlanError::NoPlan));
+    // Readings go up to 31.
+    assert!(system_sheet(Rp235x, 150 * MHZ, 31, &mut same).is_ok());
+    assert_eq!(system_sheet(Rp235x, 150 * MHZ, 32, &mut same), Err(Refused(18)));
+}
+
+#[test]
+fn a_number_of_no_chip_is_malformed() {
+    let mut sheet = [0xEE; SHEET_BYTES];
+    let (at, length) = (sheet.as_mut_ptr(), sheet.len());
+    assert_eq!(unsafe { raw::dizbaral_system_sheet(2, 150 * MHZ, 11, at, length) }, raw::MALFORMED);
+    assert_eq!(unsafe { raw::dizbaral_core_voltage(255, 11) }, raw::MALFORMED);
+    assert_eq!(unsafe { raw::dizbaral_gpout_frequency(0, 0, 1, 256, &[1; 10]) }, raw::MALFORMED);
+    assert_eq!(sheet, [0xEE; SHEET_BYTES]);
+}
+
+#[test]
 fn a_plan_as_numbers_gives_the_same_sheet() {
     let mut sheet = [0xEE; SHEET_BYTES];
-    assert_eq!(plan_sheet(&crystal(), 11, &mut sheet), Ok(496));
+    assert_eq!(plan_sheet(Rp2040, &crystal(), 11, &mut sheet), Ok(496));
     assert_eq!(sheet[..496], sheet_of(125 * MHZ));
     assert_eq!(sheet[496..], [0xEE; SHEET_BYTES - 496]);
 }
@@ -46,35 +78,35 @@ fn a_plan_as_numbers_gives_the_same_sheet() {
 #[test]
 fn another_crystal_has_its_own_search() {
     let mut sheet = [0xEE; SHEET_BYTES];
-    assert_eq!(system_sheet_from(12 * MHZ, 125 * MHZ, 11, &mut sheet), Ok(496));
+    assert_eq!(system_sheet_from(Rp2040, 12 * MHZ, 125 * MHZ, 11, &mut sheet), Ok(496));
     assert_eq!(sheet[..496], sheet_of(125 * MHZ));
-    assert_eq!(system_sheet_from(8 * MHZ, 125 * MHZ, 11, &mut sheet), Ok(496));
+    assert_eq!(system_sheet_from(Rp2040, 8 * MHZ, 125 * MHZ, 11, &mut sheet), Ok(496));
     assert_ne!(sheet[..496], sheet_of(125 * MHZ));
     let before = sheet;
-    assert_eq!(system_sheet_from(13 * MHZ, 125 * MHZ, 16, &mut sheet), Err(Refused(25)));
-    assert_eq!(system_sheet_from(5 * MHZ - 1, 125 * MHZ, 16, &mut sheet), Err(Refused(15)));
+    assert_eq!(system_sheet_from(Rp2040, 13 * MHZ, 125 * MHZ, 16, &mut sheet), Err(Refused(25)));
+    assert_eq!(system_sheet_from(Rp2040, 5 * MHZ - 1, 125 * MHZ, 16, &mut sheet), Err(Refused(15)));
     assert_eq!(sheet, before);
 }
 
 #[test]
 fn refusals_leave_the_buffer() {
     let mut sheet = [0xEE; 495];
-    assert_eq!(system_sheet(125 * MHZ, 11, &mut sheet), Err(Refused(19)));
-    assert_eq!(system_sheet(125 * MHZ, 16, &mut sheet), Err(Refused(18)));
+    assert_eq!(system_sheet(Rp2040, 125 * MHZ, 11, &mut sheet), Err(Refused(19)));
+    assert_eq!(system_sheet(Rp2040, 125 * MHZ, 16, &mut sheet), Err(Refused(18)));
     let mut plan = crystal();
     plan[17] = 321;
-    assert_eq!(plan_sheet(&plan, 11, &mut sheet), Err(PlanError::Refused(5)));
+    assert_eq!(plan_sheet(Rp2040, &plan, 11, &mut sheet), Err(PlanError::Refused(5)));
     plan[0] = 2;
-    assert_eq!(plan_sheet(&plan, 11, &mut sheet), Err(PlanError::NoPlan));
+    assert_eq!(plan_sheet(Rp2040, &plan, 11, &mut sheet), Err(PlanError::NoPlan));
     assert_eq!(sheet, [0xEE; 495]);
 }
 
 #[test]
 fn refusals_are_errors() {
     let shown = |result: Result<usize, Box<dyn Error>>| result.unwrap_err().to_string();
-    assert_eq!(shown(system_sheet(125 * MHZ, 16, &mut []).map_err(Into::into)), "refused 18");
-    assert_eq!(shown(plan_sheet(&crystal(), 16, &mut []).map_err(Into::into)), "refused 18");
-    assert_eq!(shown(plan_sheet(&[2; 48], 11, &mut []).map_err(Into::into)), "the numbers are of no plan");
+    assert_eq!(shown(system_sheet(Rp2040, 125 * MHZ, 16, &mut []).map_err(Into::into)), "refused 18");
+    assert_eq!(shown(plan_sheet(Rp2040, &crystal(), 16, &mut []).map_err(Into::into)), "refused 18");
+    assert_eq!(shown(plan_sheet(Rp2040, &[2; 48], 11, &mut []).map_err(Into::into)), "the numbers are of no plan");
 }
 
 #[test]

@@ -2,7 +2,7 @@
 
 use std::fs;
 
-use dizbaral::{Progress, Runner, SHEET_BYTES, longest_wait, plan_sheet};
+use dizbaral::{Chip, Progress, Runner, SHEET_BYTES, longest_wait, plan_sheet};
 
 /// A plan at a reading, and the ten frequencies that the Rust stores for it.
 struct Case {
@@ -83,15 +83,15 @@ fn every_accepted_plan_comes_up_in_time() {
     let mut reached = 0;
     for case in &cases {
         let mut sheet = [0; SHEET_BYTES];
-        let length = plan_sheet(&case.plan, case.reading, &mut sheet).unwrap();
+        let length = plan_sheet(Chip::Rp2040, &case.plan, case.reading, &mut sheet).unwrap();
         let sheet = &sheet[..length];
         let steps = (length / 8) as u32;
         for k in [0, 1, 1 + random.below(50)] {
             let (calls, runner) = calls_before_done(sheet, || random.below(k + 1));
             let (most, slow) = calls_before_done(sheet, || k);
-            assert!(steps <= calls && calls <= most && most <= longest_wait(k).unwrap());
+            assert!(steps <= calls && calls <= most && most < longest_wait(k).unwrap());
             assert!(k > 0 || calls == steps);
-            reached += u32::from(Some(most) == longest_wait(k));
+            reached += u32::from(Some(most + 1) == longest_wait(k));
             for mut runner in [runner, slow] {
                 assert_eq!(runner.numbers()[4..], case.stored);
                 // From done on it stays as it is, whatever it hears.
@@ -109,13 +109,23 @@ fn every_accepted_plan_comes_up_in_time() {
 #[test]
 fn a_wait_of_999999_unready_polls_ends_in_time() {
     let mut sheet = [0; SHEET_BYTES];
-    let length = dizbaral::system_sheet(133_000_001, 11, &mut sheet).unwrap();
+    // The RP2040's longest sheet has 65 steps, the RP235x's 66: a reading that no code equals, and a settling time.
+    let length = dizbaral::system_sheet(Chip::Rp2040, 133_000_001, 11, &mut sheet).unwrap();
     let (calls, _) = calls_before_done(&sheet[..length], || 999_999);
+    assert_eq!(Some(calls + 1), longest_wait(999_999));
+    let plan = [
+        &[1, 6_500_000, 1, 0, 0, 0, 0, 0, 0, 0, 0, 16, 1, 12_000_000, 128, 1, 1, 125, 5, 2, 1, 1, 120, 6, 5][..],
+        &[11, 1, 1, 2, 1, 1, 1, 0, 1, 0, 1, 0, 1, 0, 1, 0, 1, 0][..],
+    ]
+    .concat();
+    let length = plan_sheet(Chip::Rp235x, &plan, 31, &mut sheet).unwrap();
+    let (calls, runner) = calls_before_done(&sheet[..length], || 999_999);
     assert_eq!(Some(calls), longest_wait(999_999));
+    assert_eq!(runner.frequency(9), Some(0));
 }
 
 #[test]
 fn longest_waits() {
-    assert_eq!([0, 1, 999_999].map(longest_wait), [Some(65), Some(75), Some(10_000_055)]);
+    assert_eq!([0, 1, 999_999].map(longest_wait), [Some(66), Some(76), Some(10_000_056)]);
     assert_eq!([1_000_000, u32::MAX].map(longest_wait), [None; 2]);
 }

@@ -6,12 +6,14 @@ use Prim.Native.String.{String}
 use lib.ListN.{replicate}
 use Rattle.base.specs.Choice.{pick}
 use Rattle.text.specs.Ascii.{ascii, same}
+use Rattle.chip.specs.declared.Chip.{Chip}
+use Rattle.chip.specs.declared.Chip.the-variants.{Rp2040, Rp235x}
 use Rattle.fields.specs.Row.{u8, u16, u32, room}
 use Rattle.fields.specs.Fields.{Tail, Fields, noNumber, numbersIn, numbersOnly}
 use Rattle.replies.specs.Reply.{badCase}
 use Rattle.number_cases.specs.Numbers.{validText, outputText, searchText, usbPllText, bookText, marginText, voltageText, pioText, gpoutText}
 use Rattle.sheet_cases.specs.Sheets.{crystalText, roscText, defaultText, systemText, systemFromText}
-use Rattle.sheet_cases.specs.Sheets.{manualText, planSheetText}
+use Rattle.sheet_cases.specs.Sheets.{manualText, planCount, planSheetText}
 use Rattle.run_cases.specs.Runs.{runText}
 use Rattle.sleep_cases.specs.Sleeps.{sleepText, wakeText}
 use Rattle.cases.specs.Lists.{listText}
@@ -52,6 +54,20 @@ abbrev pub plain : String → List ℕ → (List ℕ → List ℕ) → Row
 plain name limits text =
     record { name = ascii name; fields = numbersOnly limits; text = λ n word. text n }
 
+-- the same of a chip: the RP235x's name has a 235 behind it
+abbrev pub chipName : Chip → String → List ℕ
+chipName Rp2040 name = ascii name
+chipName Rp235x name = ascii name ++ ascii "235"
+
+abbrev pub onChip : Chip → String → List ℕ → (List ℕ → List ℕ) → Row
+onChip chip name limits text =
+    record { name = chipName chip name; fields = numbersOnly limits; text = λ n word. text n }
+
+-- the greatest fraction of a Gpout divider
+abbrev pub fractionTop : Chip → ℕ
+fractionTop Rp2040 = u8
+fractionTop Rp235x = u16
+
 -- numbers and a word
 abbrev pub worded : String → List ℕ → (List ℕ → List ℕ → List ℕ) → Row
 worded name limits text =
@@ -83,22 +99,22 @@ rowOf Margin = plain "margin" (u32 ∷ u32 ∷ []) marginText
 -- INPUT TARGET ROOM
 rowOf Settings = plain "list" (u32 ∷ u32 ∷ room ∷ []) listText
 -- READING
-rowOf Voltage = plain "voltage" (u8 ∷ []) voltageText
+rowOf (Voltage chip) = onChip chip "voltage" (u8 ∷ []) (voltageText chip)
 -- SYSTEM TARGET
 rowOf Pio = plain "pio" (u32 ∷ u32 ∷ []) pioText
 -- SOURCE WHOLE FRACTION F0 to F9
-rowOf Gpout = plain "gpout" (u8 ∷ u32 ∷ u8 ∷ replicate 10 u32) gpoutText
+rowOf (Gpout chip) = onChip chip "gpout" (u8 ∷ u32 ∷ fractionTop chip ∷ replicate 10 u32) (gpoutText chip)
 -- READING ROOM PLAN
-rowOf Sheet = plain "sheet" (u8 ∷ room ∷ replicate 48 u32) planSheetText
+rowOf (Sheet chip) = onChip chip "sheet" (u8 ∷ room ∷ replicate (planCount chip) u32) (planSheetText chip)
 -- READING ROOM HZ
-rowOf Crystal = plain "crystal" (u8 ∷ room ∷ u32 ∷ []) crystalText
+rowOf (Crystal chip) = onChip chip "crystal" (u8 ∷ room ∷ u32 ∷ []) (crystalText chip)
 -- READING ROOM
-rowOf Rosc = plain "rosc" (u8 ∷ room ∷ []) roscText
-rowOf Default = plain "default" (u8 ∷ room ∷ []) defaultText
+rowOf (Rosc chip) = onChip chip "rosc" (u8 ∷ room ∷ []) (roscText chip)
+rowOf (Default chip) = onChip chip "default" (u8 ∷ room ∷ []) (defaultText chip)
 -- READING ROOM HZ
-rowOf System = plain "system" (u8 ∷ room ∷ u32 ∷ []) systemText
+rowOf (System chip) = onChip chip "system" (u8 ∷ room ∷ u32 ∷ []) (systemText chip)
 -- READING ROOM CRYSTAL HZ
-rowOf SystemFrom = plain "system_from" (u8 ∷ room ∷ u32 ∷ u32 ∷ []) systemFromText
+rowOf (SystemFrom chip) = onChip chip "system_from" (u8 ∷ room ∷ u32 ∷ u32 ∷ []) (systemFromText chip)
 -- READING ROOM HZ REFDIV FBDIV POST1 POST2 CODE
 rowOf Manual = plain "manual" (u8 ∷ room ∷ u32 ∷ u8 ∷ u16 ∷ u8 ∷ u8 ∷ 15 ∷ []) manualText
 -- POSITION POLLS TOTAL STOPPED F0 to F9 READY, then SHEET
@@ -113,8 +129,10 @@ rowOf Unknown = nameless
 
 abbrev pub kinds : List Kind
 kinds =
-    Valid ∷ Output ∷ Search ∷ UsbPll ∷ Book ∷ Margin ∷ Settings ∷ Voltage ∷ Pio ∷ Gpout
-    ∷ Sheet ∷ Crystal ∷ Rosc ∷ Default ∷ System ∷ SystemFrom ∷ Manual ∷ Run ∷ Sleep ∷ Wake ∷ []
+    Valid ∷ Output ∷ Search ∷ UsbPll ∷ Book ∷ Margin ∷ Settings ∷ Voltage Rp2040 ∷ Voltage Rp235x ∷ Pio ∷ Gpout Rp2040
+    ∷ Gpout Rp235x ∷ Sheet Rp2040 ∷ Sheet Rp235x ∷ Crystal Rp2040 ∷ Crystal Rp235x ∷ Rosc Rp2040 ∷ Rosc Rp235x
+    ∷ Default Rp2040 ∷ Default Rp235x ∷ System Rp2040 ∷ System Rp235x ∷ SystemFrom Rp2040 ∷ SystemFrom Rp235x
+    ∷ Manual ∷ Run ∷ Sleep ∷ Wake ∷ []
 
 abbrev pub firstNamed : List ℕ → List Kind → Kind
 firstNamed name [] = Unknown

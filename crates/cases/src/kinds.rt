@@ -1,11 +1,13 @@
 // The kinds of cases by their names, and the limits of their numbers.
 use crate::Kind;
+use chip::Chip;
 use fields::Rest;
 use fields::read_all;
 ghost use mathlib.Core.Path.{_≡_};
 ghost use Rattle.base.specs.Choice.{pick};
 ghost use Rattle.text.specs.Ascii.{same};
 ghost use Rattle.fields.specs.Fields.{tailAt, numbersOnly, Reading};
+ghost use Rattle.cases.specs.declared.Kind.the-variants.{Gpout, Sheet};
 ghost use Rattle.cases.specs.Kinds.{sleepLimits, rowOf, kindNamed};
 
 const U8: u32 = 255;
@@ -34,15 +36,58 @@ pub(crate) fn named(name: &[u8]) -> Kind
     let from_sleep = where_named(name, b"sleep", Kind::Sleep, from_wake);
     let from_run = where_named(name, b"run", Kind::Run, from_sleep);
     let from_manual = where_named(name, b"manual", Kind::Manual, from_run);
-    let from_system_from = where_named(name, b"system_from", Kind::SystemFrom, from_manual);
-    let from_system = where_named(name, b"system", Kind::System, from_system_from);
-    let from_default = where_named(name, b"default", Kind::Default, from_system);
-    let from_rosc = where_named(name, b"rosc", Kind::Rosc, from_default);
-    let from_crystal = where_named(name, b"crystal", Kind::Crystal, from_rosc);
-    let from_sheet = where_named(name, b"sheet", Kind::Sheet, from_crystal);
-    let from_gpout = where_named(name, b"gpout", Kind::Gpout, from_sheet);
+    let from_system_from235 = where_named(
+        name,
+        b"system_from235",
+        Kind::SystemFrom(Chip::Rp235x),
+        from_manual,
+    );
+    let from_system_from = where_named(
+        name,
+        b"system_from",
+        Kind::SystemFrom(Chip::Rp2040),
+        from_system_from235,
+    );
+    let from_system235 = where_named(
+        name,
+        b"system235",
+        Kind::System(Chip::Rp235x),
+        from_system_from,
+    );
+    let from_system = where_named(name, b"system", Kind::System(Chip::Rp2040), from_system235);
+    let from_default235 = where_named(
+        name,
+        b"default235",
+        Kind::Default(Chip::Rp235x),
+        from_system,
+    );
+    let from_default = where_named(
+        name,
+        b"default",
+        Kind::Default(Chip::Rp2040),
+        from_default235,
+    );
+    let from_rosc235 = where_named(name, b"rosc235", Kind::Rosc(Chip::Rp235x), from_default);
+    let from_rosc = where_named(name, b"rosc", Kind::Rosc(Chip::Rp2040), from_rosc235);
+    let from_crystal235 = where_named(name, b"crystal235", Kind::Crystal(Chip::Rp235x), from_rosc);
+    let from_crystal = where_named(
+        name,
+        b"crystal",
+        Kind::Crystal(Chip::Rp2040),
+        from_crystal235,
+    );
+    let from_sheet235 = where_named(name, b"sheet235", Kind::Sheet(Chip::Rp235x), from_crystal);
+    let from_sheet = where_named(name, b"sheet", Kind::Sheet(Chip::Rp2040), from_sheet235);
+    let from_gpout235 = where_named(name, b"gpout235", Kind::Gpout(Chip::Rp235x), from_sheet);
+    let from_gpout = where_named(name, b"gpout", Kind::Gpout(Chip::Rp2040), from_gpout235);
     let from_pio = where_named(name, b"pio", Kind::Pio, from_gpout);
-    let from_voltage = where_named(name, b"voltage", Kind::Voltage, from_pio);
+    let from_voltage235 = where_named(name, b"voltage235", Kind::Voltage(Chip::Rp235x), from_pio);
+    let from_voltage = where_named(
+        name,
+        b"voltage",
+        Kind::Voltage(Chip::Rp2040),
+        from_voltage235,
+    );
     let from_list = where_named(name, b"list", Kind::Settings, from_voltage);
     let from_margin = where_named(name, b"margin", Kind::Margin, from_list);
     let from_book = where_named(name, b"book", Kind::Book, from_margin);
@@ -65,6 +110,37 @@ fn read_sleep(line: &[u8], at: usize, n: &mut [u32; 64]) -> Rest
     read_all(line, at, &limits, n)
 }
 
+// The numbers of a Gpout.
+fn read_gpout(chip: Chip, line: &[u8], at: usize, n: &mut [u32; 64]) -> Rest
+    ensures { λ r. ⌜ Reading (rowOf (Gpout chip) .fields (tailAt (now (line .entry)) at)) (now (line .entry)) at (now (n .entry)) r (now (n .exit)) ⌝ }
+{
+    let mut limits = [U32; 13];
+    limits[0] = U8;
+    match chip {
+        Chip::Rp2040 => {
+            limits[2] = U8;
+            read_all(line, at, &limits, n)
+        }
+        Chip::Rp235x => {
+            limits[2] = U16;
+            read_all(line, at, &limits, n)
+        }
+    }
+}
+
+// The numbers of a plan.
+fn read_plan(chip: Chip, line: &[u8], at: usize, n: &mut [u32; 64]) -> Rest
+    ensures { λ r. ⌜ Reading (rowOf (Sheet chip) .fields (tailAt (now (line .entry)) at)) (now (line .entry)) at (now (n .entry)) r (now (n .exit)) ⌝ }
+{
+    let mut limits = [U32; 50];
+    limits[0] = U8;
+    limits[1] = ROOM;
+    match chip {
+        Chip::Rp2040 => read_all(line, at, &limits, n),
+        Chip::Rp235x => read_all(line, at, &limits[..45], n),
+    }
+}
+
 // Reads the numbers of a kind, which stand behind the word that ends at `at`.
 pub(crate) fn read(kind: Kind, line: &[u8], at: usize, n: &mut [u32; 64]) -> Rest
     ensures { λ r. ⌜ Reading (rowOf kind .fields (tailAt (now (line .entry)) at)) (now (line .entry)) at (now (n .entry)) r (now (n .exit)) ⌝ }
@@ -77,25 +153,15 @@ pub(crate) fn read(kind: Kind, line: &[u8], at: usize, n: &mut [u32; 64]) -> Res
         Kind::Margin => read_all(line, at, &[U32, U32], n),
         Kind::UsbPll => read_all(line, at, &[U32], n),
         Kind::Settings => read_all(line, at, &[U32, U32, ROOM], n),
-        Kind::Voltage => read_all(line, at, &[U8], n),
+        Kind::Voltage(_) => read_all(line, at, &[U8], n),
         Kind::Pio => read_all(line, at, &[U32, U32], n),
-        Kind::Gpout => {
-            let mut limits = [U32; 13];
-            limits[0] = U8;
-            limits[2] = U8;
-            read_all(line, at, &limits, n)
-        }
-        Kind::Sheet => {
-            let mut limits = [U32; 50];
-            limits[0] = U8;
-            limits[1] = ROOM;
-            read_all(line, at, &limits, n)
-        }
-        Kind::Crystal => read_all(line, at, &[U8, ROOM, U32], n),
-        Kind::Rosc => read_all(line, at, &[U8, ROOM], n),
-        Kind::Default => read_all(line, at, &[U8, ROOM], n),
-        Kind::System => read_all(line, at, &[U8, ROOM, U32], n),
-        Kind::SystemFrom => read_all(line, at, &[U8, ROOM, U32, U32], n),
+        Kind::Gpout(chip) => read_gpout(chip, line, at, n),
+        Kind::Sheet(chip) => read_plan(chip, line, at, n),
+        Kind::Crystal(_) => read_all(line, at, &[U8, ROOM, U32], n),
+        Kind::Rosc(_) => read_all(line, at, &[U8, ROOM], n),
+        Kind::Default(_) => read_all(line, at, &[U8, ROOM], n),
+        Kind::System(_) => read_all(line, at, &[U8, ROOM, U32], n),
+        Kind::SystemFrom(_) => read_all(line, at, &[U8, ROOM, U32, U32], n),
         Kind::Manual => read_all(line, at, &[U8, ROOM, U32, U8, U16, U8, U8, 15], n),
         Kind::Run => {
             let mut limits = [U32; 15];

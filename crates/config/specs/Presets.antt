@@ -4,7 +4,11 @@ use Prim.Native.Nat.{ℕ}
 use lib.Dec.{eqb, ltb}
 use Rattle.base.specs.Choice.{pick}
 use Rattle.base.specs.Answer.{Answer, value, refusal}
+use Rattle.chip.specs.declared.Chip.{Chip}
+use Rattle.chip.specs.declared.Chip.the-variants.{Rp2040, Rp235x}
+use Rattle.chip.specs.Chips.{factsOf}
 use Rattle.voltage.specs.declared.CoreVoltage.{CoreVoltage}
+use Rattle.voltage.specs.declared.CoreVoltage235.{CoreVoltage235}
 use Rattle.pll.specs.declared.PllConfig.{PllConfig}
 use Rattle.pll.specs.Setting.{validOf}
 use Rattle.pll.specs.Search.{setting, searchOf}
@@ -21,6 +25,7 @@ use Rattle.config.specs.declared.OptionPeri.{OptionPeri}
 use Rattle.config.specs.declared.OptionAux.{OptionAux}
 use Rattle.config.specs.declared.OptionRtc.{OptionRtc}
 use Rattle.config.specs.declared.OptionU32.{OptionU32}
+use Rattle.config.specs.declared.ChipConfig.{ChipConfig}
 use Rattle.config.specs.declared.ClockConfig.{ClockConfig}
 use Rattle.config.specs.declared.Planned.{Planned}
 
@@ -50,78 +55,86 @@ feedingBoth hz sys usb =
 abbrev pub feeding : ℕ → PllConfig → OptionXosc
 feeding hz sys = feedingBoth hz sys (setting 120 6 5)
 
+-- an undivided system clock; the RP2040 at this voltage and with this RTC, the RP235x at 1.10 V
+abbrev pub plain : Chip → CoreVoltage → OptionRtc → ChipConfig
+plain Rp2040 voltage clock =
+    ChipConfig.Rp2040 (record { «core_voltage» = voltage; «div_int» = 1; «div_frac» = 0; «rtc_clk» = clock })
+plain Rp235x voltage clock = ChipConfig.Rp235x (record { «core_voltage» = CoreVoltage235.V1_10; «div_int» = 1; «div_frac» = 0 })
+
 -- the clocks of every preset with a crystal
-abbrev pub fromPlls : OptionRosc → OptionXosc → CoreVoltage → ClockConfig
-fromPlls rosc xosc voltage =
+abbrev pub fromPlls : Chip → CoreVoltage → OptionRosc → OptionXosc → ClockConfig
+fromPlls chip voltage rosc xosc =
     record {
+      chip = plain chip voltage (OptionRtc.Some (record { src = AuxClkSrc.PllUsb; «div_int» = 1024; «div_frac» = 0; phase = 0 }));
       rosc = rosc;
       xosc = xosc;
       «ref_clk» = record { src = RefClkSrc.Xosc; div = 1 };
-      «sys_clk» = record { src = SysClkSrc.PllSys; «div_int» = 1; «div_frac» = 0 };
+      «sys_clk_src» = SysClkSrc.PllSys;
       «peri_clk_src» = OptionPeri.Some PeriClkSrc.Sys;
       «usb_clk» = OptionAux.Some (record { src = AuxClkSrc.PllUsb; div = 1; phase = 0 });
       «adc_clk» = OptionAux.Some (record { src = AuxClkSrc.PllUsb; div = 1; phase = 0 });
-      «rtc_clk» = OptionRtc.Some (record { src = AuxClkSrc.PllUsb; «div_int» = 1024; «div_frac» = 0; phase = 0 });
-      «core_voltage» = voltage;
       «voltage_stabilization_delay_us» = OptionU32.None;
     }
 
-abbrev pub defaultPlan : ClockConfig
-defaultPlan =
+abbrev pub defaultPlan : Chip → ClockConfig
+defaultPlan chip =
     record {
+      chip = plain chip CoreVoltage.V1_10 OptionRtc.None;
       rosc = OptionRosc.None;
       xosc = OptionXosc.None;
       «ref_clk» = record { src = RefClkSrc.Rosc; div = 1 };
-      «sys_clk» = record { src = SysClkSrc.Rosc; «div_int» = 1; «div_frac» = 0 };
+      «sys_clk_src» = SysClkSrc.Rosc;
       «peri_clk_src» = OptionPeri.None;
       «usb_clk» = OptionAux.None;
       «adc_clk» = OptionAux.None;
-      «rtc_clk» = OptionRtc.None;
-      «core_voltage» = CoreVoltage.V1_10;
       «voltage_stabilization_delay_us» = OptionU32.None;
     }
 
-abbrev pub crystalPlan : ℕ → ClockConfig
-crystalPlan hz = fromPlls (ringConfig 6500000 RoscRange.Medium 16) (feeding hz (setting 125 6 2)) CoreVoltage.V1_10
+-- 125 MHz of the RP2040, 150 MHz of the RP235x where the crystal has 12 MHz
+abbrev pub crystalPlan : Chip → ℕ → ClockConfig
+crystalPlan chip hz =
+    fromPlls chip CoreVoltage.V1_10 (ringConfig 6500000 RoscRange.Medium 16) (feeding hz (setting 125 (factsOf chip .«preset_post») 2))
 
-abbrev pub roscPlan : ClockConfig
-roscPlan =
+abbrev pub roscPlan : Chip → ClockConfig
+roscPlan chip =
     record {
+      chip =
+          plain chip CoreVoltage.V1_10
+          (OptionRtc.Some (record { src = AuxClkSrc.Rosc; «div_int» = 2986; «div_frac» = 171; phase = 0 }));
       rosc = ringConfig 140000000 RoscRange.High 1;
       xosc = OptionXosc.None;
       «ref_clk» = record { src = RefClkSrc.Rosc; div = 1 };
-      «sys_clk» = record { src = SysClkSrc.Rosc; «div_int» = 1; «div_frac» = 0 };
+      «sys_clk_src» = SysClkSrc.Rosc;
       «peri_clk_src» = OptionPeri.Some PeriClkSrc.Rosc;
       «usb_clk» = OptionAux.None;
       «adc_clk» = OptionAux.Some (record { src = AuxClkSrc.Rosc; div = 3; phase = 0 });
-      «rtc_clk» = OptionRtc.Some (record { src = AuxClkSrc.Rosc; «div_int» = 2986; «div_frac» = 171; phase = 0 });
-      «core_voltage» = CoreVoltage.V1_10;
       «voltage_stabilization_delay_us» = OptionU32.None;
     }
 
--- 1.15 V above 133 MHz
+-- of the RP2040: 1.15 V above 133 MHz
 abbrev pub systemVoltage : ℕ → CoreVoltage
 systemVoltage hz = pick (ltb 133000000 hz) CoreVoltage.V1_15 CoreVoltage.V1_10
 
 -- the crystal preset with this system PLL and the USB PLL found
-abbrev pub withUsb : ℕ → ℕ → PllConfig → Answer PllConfig → Answer ClockConfig
-withUsb from hz sys (value usb) =
-    value (fromPlls (ringConfig 6500000 RoscRange.Medium 16) (feedingBoth from sys usb) (systemVoltage hz))
-withUsb from hz sys (refusal n) = refusal n
+abbrev pub withUsb : Chip → ℕ → ℕ → PllConfig → Answer PllConfig → Answer ClockConfig
+withUsb chip from hz sys (value usb) =
+    value (fromPlls chip (systemVoltage hz) (ringConfig 6500000 RoscRange.Medium 16) (feedingBoth from sys usb))
+withUsb chip from hz sys (refusal n) = refusal n
 
 -- with the system PLL found for the frequency; its refusal comes first
-abbrev pub withFound : ℕ → ℕ → Answer PllConfig → Answer PllConfig → Answer ClockConfig
-withFound from hz (value sys) usb = withUsb from hz sys usb
-withFound from hz (refusal n) usb = refusal n
+abbrev pub withFound : Chip → ℕ → ℕ → Answer PllConfig → Answer PllConfig → Answer ClockConfig
+withFound chip from hz (value sys) usb = withUsb chip from hz sys usb
+withFound chip from hz (refusal n) usb = refusal n
 
 -- from a crystal: always what the searches find, or 15, or 25
-unfoldable pub systemPlanFrom : ℕ → ℕ → Answer ClockConfig
-systemPlanFrom from hz = withFound from hz (searchOf from hz) (usbOf from)
+unfoldable pub systemPlanFrom : Chip → ℕ → ℕ → Answer ClockConfig
+systemPlanFrom chip from hz = withFound chip from hz (searchOf from hz) (usbOf from)
 
--- from 12 MHz; 125 MHz is the crystal preset
-unfoldable pub systemPlan : ℕ → Answer ClockConfig
-systemPlan hz = pick (eqb hz 125000000) (value (crystalPlan 12000000)) (systemPlanFrom 12000000 hz)
+-- from 12 MHz; the crystal preset's own frequency is that preset
+unfoldable pub systemPlan : Chip → ℕ → Answer ClockConfig
+systemPlan chip hz =
+    pick (eqb hz (factsOf chip .«preset_hz»)) (value (crystalPlan chip 12000000)) (systemPlanFrom chip 12000000 hz)
 
--- no ring, and 5 for a PLL that is not valid
+-- of the RP2040: no ring, and 5 for a PLL that is not valid
 unfoldable pub manualPlan : ℕ → PllConfig → CoreVoltage → Answer ClockConfig
-manualPlan hz p voltage = pick (validOf p hz) (value (fromPlls OptionRosc.None (feeding hz p) voltage)) (refusal 5)
+manualPlan hz p voltage = pick (validOf p hz) (value (fromPlls Rp2040 voltage OptionRosc.None (feeding hz p))) (refusal 5)

@@ -6,8 +6,9 @@ use native.Mathlib.Omega.{arith}
 use Rattle.divider.specs.Clock.{dividedHz}
 
 -- with a whole part from 1 on, a divided clock is at most its source
-pub divided-le : (source whole fraction : ℕ) → 1 ≤ whole → dividedHz source whole fraction ≤ source
+pub divided-le : (scale source whole fraction : ℕ) → 1 ≤ whole → dividedHz scale source whole fraction ≤ source
 unfolding dividedHz
-divided-le source whole fraction h =
-    let least : 256 ≤ whole * 256 + fraction = omega arith in
-    div-le-of-le-mul (whole * 256 + fraction) (omega (arith, mul-le-mul least (le-refl source)))
+divided-le scale source whole fraction h =
+    let least : 1 * scale ≤ whole * scale = mul-le-mul h (le-refl scale) in
+    let more : scale ≤ whole * scale + fraction = omega arith in
+    div-le-of-le-mul (whole * scale + fraction) (omega (arith, mul-le-mul more (le-refl source)))

@@ -7,28 +7,30 @@ use lib.Dec.{leb, ltb, eqb}
 use lib.ListN.{getD}
 use Rattle.base.specs.Choice.{pick}
 use Rattle.base.specs.Answer.{Answer, value, refusal}
+use Rattle.chip.specs.declared.Chip.{Chip}
+use Rattle.chip.specs.declared.Chip.the-variants.{Rp2040, Rp235x}
+use Rattle.chip.specs.Chips.{factsOf}
+use Rattle.divider.specs.declared.GpoutDiv.{GpoutDiv}
+use Rattle.divider.specs.declared.GpoutDiv.the-variants.{Rp2040 as On2040, Rp235x as On235x}
 use Rattle.divider.specs.Clock.{dividedHz}
 
 -- the clock, by its number in the list of clocks, that a source code stands for; 10, no clock, for other codes
-abbrev pub gpoutClock : ℕ → ℕ
-gpoutClock source =
-    pick (eqb source 0) 2  -- PLL sys
-    (pick (eqb source 3) 3  -- PLL USB
-    (pick (eqb source 4) 0  -- ring
-    (pick (eqb source 5) 1  -- crystal
-    (pick (eqb source 6) 5  -- system
-    (pick (eqb source 7) 7  -- USB
-    (pick (eqb source 8) 8  -- ADC
-    (pick (eqb source 10) 4 10)))))))  -- reference
+unfoldable pub gpoutClock : Chip → ℕ → ℕ
+gpoutClock chip source = getD (factsOf chip .gpout) source 10
 
 -- whole part 0 counts as 65536 (datasheet)
 abbrev pub gpoutWhole : ℕ → ℕ
 gpoutWhole whole = pick (eqb whole 0) 65536 whole
 
 -- the formula of a divided clock over the stored frequency of the source code;
--- refusal 23: a source code that stands for no clock, or whole part over 16777215
-unfoldable pub gpoutOf : ℕ → ℕ → ℕ → List ℕ → Answer ℕ
-gpoutOf source whole fraction freqs =
-    pick (leb whole 16777215 && ltb (gpoutClock source) 10)
-    (value (dividedHz (getD freqs (gpoutClock source) 0) (gpoutWhole whole) fraction))
+-- refusal 23: a source code that stands for no clock, or whole part over the chip's greatest
+unfoldable pub gpoutOf : Chip → ℕ → ℕ → ℕ → List ℕ → Answer ℕ
+gpoutOf chip source whole fraction freqs =
+    pick (leb whole (factsOf chip .«top_whole») && ltb (gpoutClock chip source) 10)
+    (value (dividedHz (factsOf chip .scale) (getD freqs (gpoutClock chip source) 0) (gpoutWhole whole) fraction))
     (refusal 23)
+
+-- a divider names its chip, whose fraction it has
+abbrev pub gpoutIn : GpoutDiv → ℕ → List ℕ → Answer ℕ
+gpoutIn (On2040 whole fraction) source freqs = gpoutOf Rp2040 source whole fraction freqs
+gpoutIn (On235x whole fraction) source freqs = gpoutOf Rp235x source whole fraction freqs

@@ -1,11 +1,12 @@
 // The formulas of the clocks: divided frequencies, delays, the Gpout frequency and the PIO divider.
 use base::Number;
+use chip::Chip;
 ghost use mathlib.Core.Path.{_≡_};
 ghost use Prim.Native.Nat.{_≤_};
 ghost use Rattle.base.specs.Answer.{numberIs};
 ghost use Rattle.divider.specs.Clock.{dividedHz};
 ghost use Rattle.divider.specs.Delay.{startupSum, cyclesPerUs, settlingCycles};
-ghost use Rattle.divider.specs.Gpout.{gpoutClock, gpoutWhole, gpoutOf};
+ghost use Rattle.divider.specs.Gpout.{gpoutClock, gpoutWhole, gpoutOf, gpoutIn};
 ghost use Rattle.divider.specs.Pio.{pioOf};
 
 // The refusal of a Gpout that has no frequency.
@@ -14,11 +15,20 @@ const NO_GPOUT: u8 = 23;
 // Cycles per microsecond where the ring has no frequency: from reset it runs at 12 MHz at most.
 const NO_RING: u64 = 12;
 
-// A source over a divider of a whole part and 256ths, rounded down; 0 over a divider of 0.
-pub fn divided_hz(source: u32, whole: u32, fraction: u8) -> u64
-    ensures { λ r. ⌜ r ≡ dividedHz source whole fraction ⌝ }
+// A Gpout's divider: the RP2040's fraction has 8 bits, the RP235x's 16.
+pub enum GpoutDiv {
+    Rp2040 { whole: u32, fraction: u8 },
+    Rp235x { whole: u32, fraction: u16 },
+}
+
+// A source over a divider of a whole part and a fraction in parts of the scale, rounded down; 0 over a divider of 0.
+pub fn divided_hz(scale: u32, source: u32, whole: u32, fraction: u16) -> u64
+    ensures { λ r. ⌜ r ≡ dividedHz scale source whole fraction ⌝ }
 {
-    base::quotient(source as u64 * 256, whole as u64 * 256 + fraction as u64)
+    base::quotient(
+        source as u64 * scale as u64,
+        whole as u64 * scale as u64 + fraction as u64,
+    )
 }
 
 // The sum whose 256th part is the crystal's startup delay.
@@ -47,23 +57,20 @@ pub fn settling_cycles(time_us: u32, ring_hz: u32) -> u64
 }
 
 // The clock that a Gpout source code stands for, 10 where there is none.
-fn gpout_clock(source: u8) -> u8
-    ensures { λ r. ⌜ r ≡ gpoutClock source ⌝ }
+fn gpout_clock(chip: Chip, source: u8) -> u8
+    ensures { λ r. ⌜ r ≡ gpoutClock chip source ⌝ }
 {
-    match source {
-        0 => 2,
-        3 => 3,
-        4 => 0,
-        5 => 1,
-        6 => 5,
-        7 => 7,
-        8 => 8,
-        10 => 4,
-        _ => 10,
+    let on = chip.facts();
+    let clocks = on.gpout;
+    let code = source as usize;
+    if code < clocks.len() {
+        clocks[code]
+    } else {
+        10
     }
 }
 
-// A whole part of 0 counts as 65536, as in the datasheet; the Rust takes 65535.
+// A whole part of 0 counts as 65536, as in the datasheets; the Rust takes 65535.
 fn gpout_whole(div_int: u32) -> u32
     ensures { λ r. ⌜ (r ≡ gpoutWhole «div_int») × (1 ≤ r) ⌝ }
 {
@@ -71,25 +78,47 @@ fn gpout_whole(div_int: u32) -> u32
 }
 
 // The frequency of a Gpout over its source's. The divider is not 0, so the quotient is at most the source.
-fn gpout_hz(source: u32, div_int: u32, div_frac: u8) -> u32
-    ensures { λ r. ⌜ r ≡ dividedHz source (gpoutWhole «div_int») «div_frac» ⌝ }
+fn gpout_hz(scale: u32, source: u32, div_int: u32, div_frac: u16) -> u32
+    ensures { λ r. ⌜ r ≡ dividedHz scale source (gpoutWhole «div_int») «div_frac» ⌝ }
 {
     let whole = gpout_whole(div_int);
-    (source as u64 * 256 / (whole as u64 * 256 + div_frac as u64)) as u32
+    divided_hz(scale, source, whole, div_frac) as u32
+}
+
+fn gpout_freq(chip: Chip, source: u8, div_int: u32, div_frac: u16, freqs: &[u32; 10]) -> Number
+    ensures { λ r. ⌜ numberIs r ≡ gpoutOf chip source «div_int» «div_frac» (now (freqs .entry)) ⌝ }
+{
+    let facts = chip.facts();
+    if facts.top_whole < div_int {
+        return Number::Refused(NO_GPOUT);
+    }
+    let clock = gpout_clock(chip, source) as usize;
+    if clock < 10 {
+        Number::Value(gpout_hz(facts.scale, freqs[clock], div_int, div_frac))
+    } else {
+        Number::Refused(NO_GPOUT)
+    }
 }
 
 // The frequency of a Gpout with this source code and divider, over the ten stored frequencies.
-pub fn get_freq(source: u8, div_int: u32, div_frac: u8, freqs: &[u32; 10]) -> Number
-    ensures { λ r. ⌜ numberIs r ≡ gpoutOf source «div_int» «div_frac» (now (freqs .entry)) ⌝ }
+pub fn get_freq(source: u8, divider: GpoutDiv, freqs: &[u32; 10]) -> Number
+    ensures { λ r. ⌜ numberIs r ≡ gpoutIn divider source (now (freqs .entry)) ⌝ }
 {
-    if 16777215 < div_int {
-        return Number::Refused(NO_GPOUT);
-    }
-    let clock = gpout_clock(source) as usize;
-    if clock < 10 {
-        Number::Value(gpout_hz(freqs[clock], div_int, div_frac))
-    } else {
-        Number::Refused(NO_GPOUT)
+    match divider {
+        GpoutDiv::Rp2040 { whole, fraction } => gpout_freq(
+            Chip::Rp2040,
+            source,
+            whole,
+            fraction as u16,
+            freqs,
+        ),
+        GpoutDiv::Rp235x { whole, fraction } => gpout_freq(
+            Chip::Rp235x,
+            source,
+            whole,
+            fraction,
+            freqs,
+        ),
     }
 }
 

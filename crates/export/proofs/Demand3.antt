@@ -15,10 +15,9 @@ use Rattle.settings.specs.Settings.{settingsOf}
 use Rattle.sheet.specs.Writer.{initAnswer, InitCall}
 use Rattle.sheet.specs.Demand3.{SameUpTo}
 use Rattle.sheet.proofs.Demand3.{demand-3}
-use Rattle.plan_numbers.specs.Plan.{planOf}
-use Rattle.export.specs.Numbers.{answerNumber, itself, refusals, malformed}
-use Rattle.export.specs.Sheet.{planIn, SheetCall, PlanSheetCall}
-use Rattle.export.specs.Demand3.{settingsIn, PlanSheets, PresetSheets, SystemSheets, SystemSheetsFrom}
+use Rattle.export.specs.Numbers.{answerNumber, itself, refusals, malformed, chipNumbered}
+use Rattle.export.specs.Sheet.{planIn, SheetCall, presetOn, planOn}
+use Rattle.export.specs.Demand3.{settingsIn, Sheets, PlanSheets, SystemSheets, SystemSheetsFrom}
 
 -- a call that answered a length is one of `init`
 record Wrote (plan : Option ClockConfig) (reading : ℕ) (before : List ℕ) (r : ℕ) (after : List ℕ) : Type 0 where
@@ -30,24 +29,9 @@ length-of : (a : Answer ℕ) (r : ℕ) → r ≡ answerNumber itself a → r < r
 length-of (value n) r e low = ap value e
 length-of (refusal n) r e low = absurd (omega arith)
 
-plan-wrote : (plan : Option ClockConfig) {reading r : ℕ} {before after : List ℕ}
-    → PlanSheetCall plan reading before r after → r < refusals → Wrote plan reading before r after
-plan-wrote (some plan) {reading} {r} {before} c low =
-    record {
-      config = plan;
-      is = refl;
-      call =
-          record {
-            answer = length-of (initAnswer plan reading before) r (c .answer) low;
-            bytes = c .bytes;
-            typed = c .typed;
-          };
-    }
-plan-wrote none c low = absurd (omega (arith, c .answer))
-
-preset-wrote : (plan : Answer ClockConfig) {reading r : ℕ} {before after : List ℕ}
+wrote : (plan : Option (Answer ClockConfig)) {reading r : ℕ} {before after : List ℕ}
     → SheetCall plan reading before r after → r < refusals → Wrote (planIn plan) reading before r after
-preset-wrote (value plan) {reading} {r} {before} c low =
+wrote (some (value plan)) {reading} {r} {before} c low =
     record {
       config = plan;
       is = refl;
@@ -58,30 +42,33 @@ preset-wrote (value plan) {reading} {r} {before} c low =
             typed = c .typed;
           };
     }
-preset-wrote (refusal n) c low = absurd (omega (arith, c .answer))
+wrote (some (refusal n)) c low = absurd (omega (arith, c .answer))
+wrote none c low = absurd (omega (arith, c .answer))
 
 both : (p q : Option ClockConfig) (reading : ℕ) (b b′ c c′ : List ℕ) (r s : ℕ)
     → Wrote p reading b r b′ → Wrote q reading c s c′
     → ((r ≡ s) × SameUpTo r b′ c′) ↔ (settingsIn p reading ≡ settingsIn q reading)
-both p q reading b b′ c c′ r s wrote wrote′ =
-    let x = wrote .config in
-    let y = wrote′ .config in
-    let same = demand-3 x y reading b b′ c c′ (Bytes r) (Bytes s) r s (wrote .call) refl (wrote′ .call) refl in
-    rw (wrote .is, wrote′ .is) (
+both p q reading b b′ c c′ r s first second =
+    let x = first .config in
+    let y = second .config in
+    let same = demand-3 x y reading b b′ c c′ (Bytes r) (Bytes s) r s (first .call) refl (second .call) refl in
+    rw (first .is, second .is) (
       (λ e. ap some (same .0 e)),
       (λ e. same .1 (let inner : settingsOf x reading ≡ settingsOf y reading = cc in inner)),
     )
 
-pub plan-sheets : PlanSheets
-plan-sheets ns ms reading b b′ c c′ r s call low call′ low′ =
-    both (planOf ns) (planOf ms) reading b b′ c c′ r s (plan-wrote (planOf ns) call low) (plan-wrote (planOf ms) call′ low′)
+pub sheets : (p q : Option (Answer ClockConfig)) → Sheets p q
+sheets p q reading b b′ c c′ r s call low call′ low′ =
+    both (planIn p) (planIn q) reading b b′ c c′ r s (wrote p call low) (wrote q call′ low′)
 
-pub preset-sheets : (p q : Answer ClockConfig) → PresetSheets p q
-preset-sheets p q reading b b′ c c′ r s call low call′ low′ =
-    both (planIn p) (planIn q) reading b b′ c c′ r s (preset-wrote p call low) (preset-wrote q call′ low′)
+pub plan-sheets : PlanSheets
+plan-sheets on on′ ns ms = sheets (planOn ns (chipNumbered on)) (planOn ms (chipNumbered on′))
 
 pub system-sheets : SystemSheets
-system-sheets hz hz′ = preset-sheets (systemPlan hz) (systemPlan hz′)
+system-sheets on on′ hz hz′ =
+    sheets (presetOn (λ chip. systemPlan chip hz) (chipNumbered on)) (presetOn (λ chip. systemPlan chip hz′) (chipNumbered on′))
 
 pub system-sheets-from : SystemSheetsFrom
-system-sheets-from from hz from′ hz′ = preset-sheets (systemPlanFrom from hz) (systemPlanFrom from′ hz′)
+system-sheets-from on on′ from hz from′ hz′ =
+    sheets (presetOn (λ chip. systemPlanFrom chip from hz) (chipNumbered on))
+    (presetOn (λ chip. systemPlanFrom chip from′ hz′) (chipNumbered on′))

@@ -6,14 +6,11 @@ use Prim.Native.Nat.{ℕ, _+_, _*_, _/_, _%_, _^_, _≤_, _<_}
 use native.Mathlib.Omega.{arith}
 use lib.Dec.{T}
 use Rattle.base.proofs.Bools.{in-range}
-use Rattle.voltage.specs.declared.CoreVoltage.{CoreVoltage}
-use Rattle.voltage.proofs.Codes.{code-small, bod-small}
 use Rattle.step.specs.declared.Step.{Step}
 use Rattle.step.specs.Layout.{kinds}
 use Rattle.step.specs.Steps.{packOf, known, kindIn, WellFormed}
 use Rattle.step.proofs.Laws.{kind-in, pack-lt}
 use Rattle.runner.specs.Run.{Progress, done, handed, passed, waiting}
-use Rattle.export.specs.Numbers.{refusals, voltageNumber}
 use Rattle.export.specs.Ranges.{ProgressRange, Ranges}
 
 is-true : (b : Bool) → T b → b ≡ true
@@ -28,9 +25,6 @@ word-from s w =
     let known = in-range 1 kinds (s .kind) (is-true _ (w .is-known)) .0 in
     omega (arith, kind, known)
 
-voltage-below : (v : CoreVoltage) → voltageNumber v < refusals
-voltage-below v = omega (arith, code-small v, bod-small v)
-
 progress-range : (p : Progress) → ProgressRange p
 progress-range done = omega arith
 progress-range passed = omega arith
@@ -41,7 +35,7 @@ pub ranges : Ranges
 ranges =
     record {
       settings = λ c r f p q. omega arith;
-      voltages = voltage-below;
+      voltages = λ c b h h′. omega arith;
       numbers = λ n h. omega arith;
       refused = λ f n h. omega arith;
       malformed-below = omega arith;

@@ -11,33 +11,34 @@ use Rattle.config.specs.Presets.{systemPlan, systemPlanFrom}
 use Rattle.settings.specs.Settings.{settingsOf}
 use Rattle.settings.specs.declared.Settings.{Settings}
 use Rattle.sheet.specs.Demand3.{SameUpTo}
-use Rattle.plan_numbers.specs.Plan.{planOf}
-use Rattle.export.specs.Numbers.{refusals}
-use Rattle.export.specs.Sheet.{planIn, SheetCall, PlanSheetCall}
+use Rattle.export.specs.Numbers.{refusals, chipNumbered}
+use Rattle.export.specs.Sheet.{planIn, SheetCall, presetOn, planOn}
 
 -- the settings of a plan, where there is one
 abbrev pub settingsIn : Option ClockConfig → ℕ → Option Settings
 settingsIn (some plan) reading = some (settingsOf plan reading)
 settingsIn none reading = none
 
--- Two calls at one reading, of any numbers, with any two buffers, that answered lengths.
-abbrev pub PlanSheets : Type 0
-PlanSheets =
-    (ns ms : List ℕ) (reading : ℕ) (b b′ c c′ : List ℕ) (r s : ℕ)
-    → PlanSheetCall (planOf ns) reading b r b′ → r < refusals
-    → PlanSheetCall (planOf ms) reading c s c′ → s < refusals
-    → ((r ≡ s) × SameUpTo r b′ c′) ↔ (settingsIn (planOf ns) reading ≡ settingsIn (planOf ms) reading)
-
--- the same of two presets
-abbrev pub PresetSheets : Answer ClockConfig → Answer ClockConfig → Type 0
-PresetSheets p q =
+-- Two calls at one reading, of any two plans, with any two buffers, that answered lengths.
+abbrev pub Sheets : Option (Answer ClockConfig) → Option (Answer ClockConfig) → Type 0
+Sheets p q =
     (reading : ℕ) (b b′ c c′ : List ℕ) (r s : ℕ)
     → SheetCall p reading b r b′ → r < refusals
     → SheetCall q reading c s c′ → s < refusals
     → ((r ≡ s) × SameUpTo r b′ c′) ↔ (settingsIn (planIn p) reading ≡ settingsIn (planIn q) reading)
 
+-- plans of any numbers, for any chips
+abbrev pub PlanSheets : Type 0
+PlanSheets = (on on′ : ℕ) (ns ms : List ℕ) → Sheets (planOn ns (chipNumbered on)) (planOn ms (chipNumbered on′))
+
+-- and presets
 abbrev pub SystemSheets : Type 0
-SystemSheets = (hz hz′ : ℕ) → PresetSheets (systemPlan hz) (systemPlan hz′)
+SystemSheets =
+    (on on′ hz hz′ : ℕ)
+    → Sheets (presetOn (λ chip. systemPlan chip hz) (chipNumbered on)) (presetOn (λ chip. systemPlan chip hz′) (chipNumbered on′))
 
 abbrev pub SystemSheetsFrom : Type 0
-SystemSheetsFrom = (from hz from′ hz′ : ℕ) → PresetSheets (systemPlanFrom from hz) (systemPlanFrom from′ hz′)
+SystemSheetsFrom =
+    (on on′ from hz from′ hz′ : ℕ)
+    → Sheets (presetOn (λ chip. systemPlanFrom chip from hz) (chipNumbered on))
+    (presetOn (λ chip. systemPlanFrom chip from′ hz′) (chipNumbered on′))

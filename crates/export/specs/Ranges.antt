@@ -2,12 +2,11 @@
 -- Assumes nothing.
 use Prim.Native.Nat.{ℕ, _^_, _≤_, _<_}
 use Rattle.base.specs.Answer.{Answer, refusal}
-use Rattle.voltage.specs.declared.CoreVoltage.{CoreVoltage}
 use Rattle.pll.specs.declared.PllConfig.{PllConfig}
 use Rattle.step.specs.declared.Step.{Step}
 use Rattle.step.specs.Steps.{WellFormed}
 use Rattle.runner.specs.Run.{Progress, done, handed, passed, waiting}
-use Rattle.export.specs.Numbers.{refusals, malformed, itself, answerNumber, settingNumber, voltageNumber}
+use Rattle.export.specs.Numbers.{refusals, malformed, itself, answerNumber, settingNumber, levelNumber}
 use Rattle.export.specs.Run.{progressNumber}
 
 -- a progress that hands out no step has a number below 2 ^ 48; a step that a sheet may hold one from 2 ^ 58 on
@@ -18,10 +17,11 @@ ProgressRange waiting = progressNumber waiting < refusals
 ProgressRange (handed s) = WellFormed s → (2 ^ 58 ≤ progressNumber (handed s)) × (progressNumber (handed s) < 2 ^ 64)
 
 pub record Ranges : Type 1 where
-  -- values are below 2 ^ 48: a setting whose dividers fit their types, a voltage, a number of 32 bits
+  -- values are below 2 ^ 48: a setting whose dividers fit their types, a voltage whose code and level fit 5 bits,
+  -- a number of 32 bits
   pub settings : (c : PllConfig) → c .refdiv < 256 → c .fbdiv < 65536 → c .«post_div1» < 256 → c .«post_div2» < 256
       → settingNumber c < refusals
-  pub voltages : (v : CoreVoltage) → voltageNumber v < refusals
+  pub voltages : (code brownout : ℕ) → code < 32 → brownout < 32 → levelNumber code brownout < refusals
   pub numbers : (n : ℕ) → n < 2 ^ 32 → itself n < refusals
   -- a refusal of 8 bits is from 2 ^ 48 on and below 2 ^ 49, which says that the numbers given are no such thing
   pub refused : {A : Type 0} (f : A → ℕ) (n : ℕ) → n < 256

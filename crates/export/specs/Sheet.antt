@@ -5,48 +5,52 @@ use mathlib.Core.List.{List}
 use mathlib.Core.Option.{Option, none, some}
 use Prim.Native.Nat.{ℕ}
 use Rattle.base.specs.Answer.{Answer, value, refusal}
+use Rattle.chip.specs.declared.Chip.{Chip}
 use Rattle.config.specs.declared.ClockConfig.{ClockConfig}
 use Rattle.settings.specs.Settings.{settingsOf}
 use Rattle.settings.specs.Typed.{Typed}
 use Rattle.sheet.specs.Writer.{initAnswer, initBuffer}
+use Rattle.plan_numbers.specs.Plan.{planOf}
 use Rattle.export.specs.Numbers.{answerNumber, itself, malformed}
 
--- the sheet's answer, or the preset's refusal
-abbrev pub sheetAnswer : Answer ClockConfig → ℕ → List ℕ → Answer ℕ
-sheetAnswer (value plan) reading buffer = initAnswer plan reading buffer
-sheetAnswer (refusal n) reading buffer = refusal n
+-- the sheet's answer, or the preset's refusal; none where the numbers given are of no chip or of no plan
+abbrev pub sheetNumber : Option (Answer ClockConfig) → ℕ → List ℕ → ℕ
+sheetNumber (some (value plan)) reading buffer = answerNumber itself (initAnswer plan reading buffer)
+sheetNumber (some (refusal n)) reading buffer = answerNumber itself (refusal n)
+sheetNumber none reading buffer = malformed
 
 -- the buffer after it; a refusal changes nothing
-abbrev pub sheetBuffer : Answer ClockConfig → ℕ → List ℕ → List ℕ
-sheetBuffer (value plan) reading buffer = initBuffer plan reading buffer
-sheetBuffer (refusal n) reading buffer = buffer
+abbrev pub sheetBuffer : Option (Answer ClockConfig) → ℕ → List ℕ → List ℕ
+sheetBuffer (some (value plan)) reading buffer = initBuffer plan reading buffer
+sheetBuffer (some (refusal n)) reading buffer = buffer
+sheetBuffer none reading buffer = buffer
 
 -- a plan that there is has numbers of their types
 abbrev pub TypedPlan : Option ClockConfig → ℕ → Type 0
 TypedPlan (some plan) reading = Typed (settingsOf plan reading)
 TypedPlan none reading = Unit {0}
 
-abbrev pub planIn : Answer ClockConfig → Option ClockConfig
-planIn (value plan) = some plan
-planIn (refusal n) = none
+abbrev pub planIn : Option (Answer ClockConfig) → Option ClockConfig
+planIn (some (value plan)) = some plan
+planIn (some (refusal n)) = none
+planIn none = none
 
 -- what a call promises: its answer r, and the whole buffer after it
-pub record SheetCall (plan : Answer ClockConfig) (reading : ℕ) (before : List ℕ) (r : ℕ) (after : List ℕ) : Type 0 where
-  pub answer : r ≡ answerNumber itself (sheetAnswer plan reading before)
-  pub bytes : after ≡ sheetBuffer plan reading before
-  pub typed : TypedPlan (planIn plan) reading
-
--- the same for numbers that may be of no plan
-abbrev pub planNumber : Option ClockConfig → ℕ → List ℕ → ℕ
-planNumber (some plan) reading buffer = answerNumber itself (initAnswer plan reading buffer)
-planNumber none reading buffer = malformed
-
-abbrev pub planBuffer : Option ClockConfig → ℕ → List ℕ → List ℕ
-planBuffer (some plan) reading buffer = initBuffer plan reading buffer
-planBuffer none reading buffer = buffer
-
-pub record PlanSheetCall (plan : Option ClockConfig) (reading : ℕ) (before : List ℕ) (r : ℕ) (after : List ℕ) : Type 0
+pub record SheetCall (plan : Option (Answer ClockConfig)) (reading : ℕ) (before : List ℕ) (r : ℕ) (after : List ℕ) : Type 0
   where
-    pub answer : r ≡ planNumber plan reading before
-    pub bytes : after ≡ planBuffer plan reading before
-    pub typed : TypedPlan plan reading
+    pub answer : r ≡ sheetNumber plan reading before
+    pub bytes : after ≡ sheetBuffer plan reading before
+    pub typed : TypedPlan (planIn plan) reading
+
+-- a chip's preset, and a chip's plan that is given as numbers
+abbrev pub presetOn : (Chip → Answer ClockConfig) → Option Chip → Option (Answer ClockConfig)
+presetOn preset (some chip) = some (preset chip)
+presetOn preset none = none
+
+abbrev pub given : Option ClockConfig → Option (Answer ClockConfig)
+given (some plan) = some (value plan)
+given none = none
+
+abbrev pub planOn : List ℕ → Option Chip → Option (Answer ClockConfig)
+planOn ns (some chip) = given (planOf chip ns)
+planOn ns none = none

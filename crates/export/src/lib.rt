@@ -6,12 +6,13 @@ mod slots;
 use config::ClockConfig;
 use config::Planned;
 use margin::Margin;
+use numbers::OptionChip;
+use numbers::OptionDiv;
 use plan_numbers::PlanRead;
 use pll::PllConfig;
 ghost use mathlib.Core.Path.{_≡_};
 ghost use lib.ListN.{length};
-ghost use Rattle.voltage.specs.Voltage.{coreVoltageOf};
-ghost use Rattle.divider.specs.Gpout.{gpoutOf};
+ghost use mathlib.Core.Option.{some};
 ghost use Rattle.divider.specs.Pio.{pioOf};
 ghost use Rattle.pll.specs.Setting.{validOf, outputOf};
 ghost use Rattle.pll.specs.Search.{searchOf};
@@ -22,9 +23,10 @@ ghost use Rattle.margin.specs.Margin.{marginOf};
 ghost use Rattle.config.specs.Presets.{plannedIs, systemPlan, systemPlanFrom};
 ghost use Rattle.lister.specs.Lister.{listedOf, listedIn};
 ghost use Rattle.up.specs.ComesUp.{longestWait};
-ghost use Rattle.plan_numbers.specs.Plan.{planOf};
-ghost use Rattle.export.specs.Numbers.{answerNumber, itself, settingNumber, voltageNumber, dividersAre, done, limitsAfter};
-ghost use Rattle.export.specs.Sheet.{SheetCall, PlanSheetCall};
+ghost use Rattle.plan_numbers.specs.Plan.{planReadIs};
+ghost use Rattle.export.specs.Numbers.{answerNumber, itself, settingNumber, dividersAre, done, limitsAfter, chipNumbered, onChip};
+ghost use Rattle.export.specs.Numbers.{voltageNumber, dividerNumbered, gpoutNumber};
+ghost use Rattle.export.specs.Sheet.{SheetCall, presetOn, given, planOn};
 ghost use Rattle.sleep.specs.Sleep.{sleepOf, wakeOf};
 ghost use Rattle.export.specs.Run.{runNumber, runLeaves};
 ghost use Rattle.export.specs.Slots.{askedWith, SlotsCall};
@@ -121,10 +123,13 @@ pub extern "C" fn dizbaral_output_frequency(
 }
 
 #[no_mangle]
-pub extern "C" fn dizbaral_core_voltage(reading: u8) -> u64
-    ensures { λ r. ⌜ r ≡ answerNumber voltageNumber (coreVoltageOf reading) ⌝ }
+pub extern "C" fn dizbaral_core_voltage(chip: u8, reading: u8) -> u64
+    ensures { λ r. ⌜ r ≡ onChip (λ on. voltageNumber on reading) (chipNumbered chip) ⌝ }
 {
-    numbers::voltage_read(voltage::core_voltage(reading))
+    match numbers::chip(chip) {
+        OptionChip::Some(on) => numbers::voltage(on, reading),
+        OptionChip::None => numbers::MALFORMED,
+    }
 }
 
 #[no_mangle]
@@ -136,18 +141,22 @@ pub extern "C" fn dizbaral_pio_divider(sys_hz: u32, target_hz: u32) -> u64
 
 #[no_mangle]
 pub extern "C" fn dizbaral_gpout_frequency(
+    chip: u8,
     source: u8,
     whole: u32,
-    fraction: u8,
+    fraction: u16,
     freqs: &[u32; 10],
 ) -> u64
-    ensures { λ r. ⌜ r ≡ answerNumber itself (gpoutOf source whole fraction (now (freqs .entry))) ⌝ }
+    ensures { λ r. ⌜ r ≡ gpoutNumber (dividerNumbered whole fraction (chipNumbered chip)) source (now (freqs .entry)) ⌝ }
 {
-    numbers::number(divider::get_freq(source, whole, fraction, freqs))
+    match numbers::divider(chip, whole, fraction) {
+        OptionDiv::Some(divider) => numbers::number(divider::get_freq(source, divider, freqs)),
+        OptionDiv::None => numbers::MALFORMED,
+    }
 }
 
 fn write_planned(plan: Planned, reading: u8, sheet: &mut [u8]) -> u64
-    ensures { λ r. ⌜ SheetCall (plannedIs plan) reading (now (sheet .entry)) r (now (sheet .exit)) ⌝ }
+    ensures { λ r. ⌜ SheetCall (some (plannedIs plan)) reading (now (sheet .entry)) r (now (sheet .exit)) ⌝ }
 {
     match plan {
         Planned::Plan(config) => numbers::length(sheet::init(config, reading, sheet)),
@@ -155,36 +164,52 @@ fn write_planned(plan: Planned, reading: u8, sheet: &mut [u8]) -> u64
     }
 }
 
-#[no_mangle]
-pub extern "C" fn dizbaral_system_sheet(hz: u32, reading: u8, sheet: &mut [u8]) -> u64
-    ensures { λ r. ⌜ SheetCall (systemPlan hz) reading (now (sheet .entry)) r (now (sheet .exit)) ⌝ }
+fn write_given(plan: PlanRead, reading: u8, sheet: &mut [u8]) -> u64
+    ensures { λ r. ⌜ SheetCall (given (planReadIs plan)) reading (now (sheet .entry)) r (now (sheet .exit)) ⌝ }
 {
-    write_planned(ClockConfig::system_freq(hz), reading, sheet)
+    match plan {
+        PlanRead::Plan(config) => numbers::length(sheet::init(config, reading, sheet)),
+        PlanRead::Bad => numbers::MALFORMED,
+    }
+}
+
+#[no_mangle]
+pub extern "C" fn dizbaral_system_sheet(chip: u8, hz: u32, reading: u8, sheet: &mut [u8]) -> u64
+    ensures { λ r. ⌜ SheetCall (presetOn (λ on. systemPlan on hz) (chipNumbered chip)) reading (now (sheet .entry)) r (now (sheet .exit)) ⌝ }
+{
+    match numbers::chip(chip) {
+        OptionChip::Some(on) => write_planned(ClockConfig::system_freq(on, hz), reading, sheet),
+        OptionChip::None => numbers::MALFORMED,
+    }
 }
 
 #[no_mangle]
 pub extern "C" fn dizbaral_system_sheet_from(
+    chip: u8,
     crystal_hz: u32,
     hz: u32,
     reading: u8,
     sheet: &mut [u8],
 ) -> u64
-    ensures { λ r. ⌜ SheetCall (systemPlanFrom «crystal_hz» hz) reading (now (sheet .entry)) r (now (sheet .exit)) ⌝ }
+    ensures { λ r. ⌜ SheetCall (presetOn (λ on. systemPlanFrom on «crystal_hz» hz) (chipNumbered chip)) reading (now (sheet .entry)) r (now (sheet .exit)) ⌝ }
 {
-    write_planned(
-        ClockConfig::system_freq_from(crystal_hz, hz),
-        reading,
-        sheet,
-    )
+    match numbers::chip(chip) {
+        OptionChip::Some(on) => write_planned(
+            ClockConfig::system_freq_from(on, crystal_hz, hz),
+            reading,
+            sheet,
+        ),
+        OptionChip::None => numbers::MALFORMED,
+    }
 }
 
 #[no_mangle]
-pub extern "C" fn dizbaral_plan_sheet(plan: &[u32], reading: u8, sheet: &mut [u8]) -> u64
-    ensures { λ r. ⌜ PlanSheetCall (planOf (now (plan .entry))) reading (now (sheet .entry)) r (now (sheet .exit)) ⌝ }
+pub extern "C" fn dizbaral_plan_sheet(chip: u8, plan: &[u32], reading: u8, sheet: &mut [u8]) -> u64
+    ensures { λ r. ⌜ SheetCall (planOn (now (plan .entry)) (chipNumbered chip)) reading (now (sheet .entry)) r (now (sheet .exit)) ⌝ }
 {
-    match plan_numbers::plan(plan) {
-        PlanRead::Plan(config) => numbers::length(sheet::init(config, reading, sheet)),
-        PlanRead::Bad => numbers::MALFORMED,
+    match numbers::chip(chip) {
+        OptionChip::Some(on) => write_given(plan_numbers::plan(on, plan), reading, sheet),
+        OptionChip::None => numbers::MALFORMED,
     }
 }
 

@@ -6,9 +6,13 @@ use Prim.Native.Nat.{ℕ}
 use Rattle.base.specs.Answer.{Answer, value, refusal}
 use Rattle.text.specs.Decimal.{decimalOf}
 use Rattle.text.specs.Ascii.{ascii}
-use Rattle.voltage.specs.declared.CoreVoltage.{CoreVoltage}
+use Rattle.chip.specs.declared.Chip.{Chip}
+use Rattle.chip.specs.declared.Chip.the-variants.{Rp2040, Rp235x}
 use Rattle.voltage.specs.Voltage.{codeOf, bodOf, coreVoltageOf}
-use Rattle.divider.specs.Gpout.{gpoutOf}
+use Rattle.voltage.specs.Voltage235.{code235Of, bod235Of, coreVoltage235Of}
+use Rattle.divider.specs.declared.GpoutDiv.{GpoutDiv}
+use Rattle.divider.specs.declared.GpoutDiv.the-variants.{Rp2040 as on2040, Rp235x as on235x}
+use Rattle.divider.specs.Gpout.{gpoutIn}
 use Rattle.divider.specs.Pio.{pioOf}
 use Rattle.pll.specs.declared.PllConfig.{PllConfig}
 use Rattle.pll.specs.Setting.{validOf, outputOf}
@@ -16,7 +20,7 @@ use Rattle.pll.specs.Search.{searchOf}
 use Rattle.pll.specs.Usb.{usbOf}
 use Rattle.margin.specs.Margin.{Sides, marginOf}
 use Rattle.speed_book.specs.Book.{crystal}
-use Rattle.fields.specs.Row.{nth, byteAt, pllAt, tenAt}
+use Rattle.fields.specs.Row.{nth, byteAt, halfAt, pllAt, tenAt}
 use Rattle.replies.specs.Reply.{answerText, rowText, yesNo}
 
 -- `yes` or `no`
@@ -55,16 +59,22 @@ abbrev pub marginText : List ℕ → List ℕ
 marginText n = answerText sidesText (marginOf (nth n 0) (nth n 1))
 
 -- CODE BROWNOUT
-abbrev pub levelText : CoreVoltage → List ℕ
-levelText v = rowText (codeOf v) (bodOf v ∷ [])
+abbrev pub levelText : ℕ → ℕ → List ℕ
+levelText code brownout = rowText code (brownout ∷ [])
 
-abbrev pub voltageText : List ℕ → List ℕ
-voltageText n = answerText levelText (coreVoltageOf (byteAt n 0))
+abbrev pub voltageText : Chip → List ℕ → List ℕ
+voltageText Rp2040 n = answerText (λ v. levelText (codeOf v) (bodOf v)) (coreVoltageOf (byteAt n 0))
+voltageText Rp235x n = answerText (λ v. levelText (code235Of v) (bod235Of v)) (coreVoltage235Of (byteAt n 0))
 
 -- VALUE
 abbrev pub pioText : List ℕ → List ℕ
 pioText n = answerText decimalOf (pioOf (nth n 0) (nth n 1))
 
+-- a fraction of the RP2040 has 8 bits, one of the RP235x 16
+abbrev pub dividerAt : Chip → List ℕ → GpoutDiv
+dividerAt Rp2040 n = on2040 (nth n 1) (byteAt n 2)
+dividerAt Rp235x n = on235x (nth n 1) (halfAt n 2)
+
 -- HZ
-abbrev pub gpoutText : List ℕ → List ℕ
-gpoutText n = answerText decimalOf (gpoutOf (byteAt n 0) (nth n 1) (byteAt n 2) (tenAt n 3))
+abbrev pub gpoutText : Chip → List ℕ → List ℕ
+gpoutText chip n = answerText decimalOf (gpoutIn (dividerAt chip n) (byteAt n 0) (tenAt n 3))

@@ -1,10 +1,13 @@
 // The cases that are about numbers alone. Each takes the numbers n of the case; its limits stand in `cases`.
 use base::Number;
+use chip::Chip;
+use divider::GpoutDiv;
 use margin::Limit;
 use margin::Margin;
 use pll::Found;
 use pll::PllConfig;
 use voltage::VoltageRead;
+use voltage::VoltageRead235;
 ghost use mathlib.Core.Path.{_≡_};
 ghost use Rattle.base.specs.Answer.{numberIs};
 ghost use Rattle.base.specs.Placed.{Placed};
@@ -13,8 +16,11 @@ ghost use Rattle.margin.specs.Margin.{limitIs, marginIs};
 ghost use Rattle.text.specs.Decimal.{decimalOf};
 ghost use Rattle.replies.specs.Reply.{answerText};
 ghost use Rattle.number_cases.specs.Numbers.{limitText, limitsText, sidesText, marginText};
+ghost use Rattle.voltage.specs.Voltage.{codeOf, bodOf};
+ghost use Rattle.voltage.specs.Voltage235.{code235Of, bod235Of};
+ghost use Rattle.voltage.specs.Answers.{voltageReadIs, voltageRead235Is};
 ghost use Rattle.number_cases.specs.Numbers.{pllText, validText, outputText, searchText, usbPllText, bookText};
-ghost use Rattle.number_cases.specs.Numbers.{voltageText, pioText, gpoutText};
+ghost use Rattle.number_cases.specs.Numbers.{levelText, voltageText, pioText, dividerAt, gpoutText};
 
 pub fn put_valid(n: &[u32; 64], out: &mut [u8]) -> usize
     ensures { λ r. ⌜ Placed (now (out .entry)) 0 (validText (now (n .entry))) r (now (out .exit)) ⌝ }
@@ -104,14 +110,37 @@ pub fn put_margin(n: &[u32; 64], out: &mut [u8]) -> usize
     put_between(out, margin::target_margin(input, target))
 }
 
-pub fn put_voltage(n: &[u32; 64], out: &mut [u8]) -> usize
-    ensures { λ r. ⌜ Placed (now (out .entry)) 0 (voltageText (now (n .entry))) r (now (out .exit)) ⌝ }
+fn put_level(out: &mut [u8], code: u8, brownout: u8) -> usize
+    ensures { λ r. ⌜ Placed (now (out .entry)) 0 (levelText code brownout) r (now (out .exit)) ⌝ }
 {
-    match voltage::core_voltage(fields::byte_at(n, 0)) {
-        VoltageRead::Voltage(v) => {
-            replies::put_row(out, 0, v.code() as u64, &[v.recommended_bod() as u64])
-        }
+    replies::put_row(out, 0, code as u64, &[brownout as u64])
+}
+
+fn put_read(out: &mut [u8], read: VoltageRead) -> usize
+    ensures { λ r. ⌜ Placed (now (out .entry)) 0 (answerText (λ v. levelText (codeOf v) (bodOf v)) (voltageReadIs read)) r (now (out .exit)) ⌝ }
+{
+    match read {
+        VoltageRead::Voltage(v) => put_level(out, v.code(), v.recommended_bod()),
         VoltageRead::Refused(number) => replies::put_refused(out, number),
+    }
+}
+
+fn put_read_235(out: &mut [u8], read: VoltageRead235) -> usize
+    ensures { λ r. ⌜ Placed (now (out .entry)) 0 (answerText (λ v. levelText (code235Of v) (bod235Of v)) (voltageRead235Is read)) r (now (out .exit)) ⌝ }
+{
+    match read {
+        VoltageRead235::Voltage(v) => put_level(out, v.code(), v.recommended_bod()),
+        VoltageRead235::Refused(number) => replies::put_refused(out, number),
+    }
+}
+
+pub fn put_voltage(chip: Chip, n: &[u32; 64], out: &mut [u8]) -> usize
+    ensures { λ r. ⌜ Placed (now (out .entry)) 0 (voltageText chip (now (n .entry))) r (now (out .exit)) ⌝ }
+{
+    let reading = fields::byte_at(n, 0);
+    match chip {
+        Chip::Rp2040 => put_read(out, voltage::core_voltage(reading)),
+        Chip::Rp235x => put_read_235(out, voltage::core_voltage_235(reading)),
     }
 }
 
@@ -135,12 +164,27 @@ pub fn put_pio(n: &[u32; 64], out: &mut [u8]) -> usize
     )
 }
 
-pub fn put_gpout(n: &[u32; 64], out: &mut [u8]) -> usize
-    ensures { λ r. ⌜ Placed (now (out .entry)) 0 (gpoutText (now (n .entry))) r (now (out .exit)) ⌝ }
+fn divider_at(chip: Chip, n: &[u32; 64]) -> GpoutDiv
+    ensures { λ r. ⌜ r ≡ dividerAt chip (now (n .entry)) ⌝ }
+{
+    let whole = fields::number_at(n, 1);
+    match chip {
+        Chip::Rp2040 => GpoutDiv::Rp2040 {
+            whole,
+            fraction: fields::byte_at(n, 2),
+        },
+        Chip::Rp235x => GpoutDiv::Rp235x {
+            whole,
+            fraction: fields::half_at(n, 2),
+        },
+    }
+}
+
+pub fn put_gpout(chip: Chip, n: &[u32; 64], out: &mut [u8]) -> usize
+    ensures { λ r. ⌜ Placed (now (out .entry)) 0 (gpoutText chip (now (n .entry))) r (now (out .exit)) ⌝ }
 {
     let freqs = fields::ten_at(n, 3);
     let source = fields::byte_at(n, 0);
-    let whole = fields::number_at(n, 1);
-    let fraction = fields::byte_at(n, 2);
-    put_number(out, divider::get_freq(source, whole, fraction, &freqs))
+    let divider = divider_at(chip, n);
+    put_number(out, divider::get_freq(source, divider, &freqs))
 }

@@ -1,4 +1,5 @@
--- A plan as 48 numbers in a row: each part's numbers in order, those of a part that may be absent behind a flag.
+-- A plan as numbers in a row, 48 for the RP2040 and 43, without the RTC's five, for the RP235x: each part's numbers in
+-- order, those of a part that may be absent behind a flag.
 -- Assumes nothing.
 use mathlib.Core.Bool.{Bool, _&&_}
 use mathlib.Core.List.{List, [], _∷_}
@@ -8,8 +9,12 @@ use lib.Dec.{eqb, leb}
 use lib.ListN.{length}
 use Rattle.base.specs.Answer.{Answer, value, refusal}
 use Rattle.base.specs.Choice.{pick}
+use Rattle.chip.specs.declared.Chip.{Chip}
+use Rattle.chip.specs.declared.Chip.the-variants.{Rp2040, Rp235x}
 use Rattle.voltage.specs.declared.CoreVoltage.{CoreVoltage}
+use Rattle.voltage.specs.declared.CoreVoltage235.{CoreVoltage235}
 use Rattle.voltage.specs.Voltage.{coreVoltageOf}
+use Rattle.voltage.specs.Voltage235.{coreVoltage235Of}
 use Rattle.config.specs.declared.OptionPll.{OptionPll}
 use Rattle.config.specs.declared.OptionPll.the-variants.{Some as pll, None as noPll}
 use Rattle.config.specs.declared.OptionRosc.{OptionRosc}
@@ -27,11 +32,14 @@ use Rattle.config.specs.declared.OptionU32.the-variants.{Some as time, None as 
 use Rattle.config.specs.declared.RefClkConfig.{RefClkConfig}
 use Rattle.config.specs.declared.SysClkSrc.{SysClkSrc}
 use Rattle.config.specs.declared.SysClkSrc.the-variants.{Ref as sysRef}
-use Rattle.config.specs.declared.SysClkConfig.{SysClkConfig}
+use Rattle.config.specs.declared.ChipConfig.{ChipConfig}
+use Rattle.config.specs.declared.ChipConfig.the-variants.{Rp2040 as on2040, Rp235x as on235x}
 use Rattle.config.specs.declared.ClockConfig.{ClockConfig}
 use Rattle.settings.specs.Codes.{rangeFrom, refFrom, sysFrom, periFrom, auxFrom}
 use Rattle.fields.specs.Row.{nth, byteAt, halfAt, pllAt, u8, u16, u32}
 use Rattle.plan_numbers.specs.Rows.{fitFrom, isPart}
+use Rattle.plan_numbers.specs.declared.ChipRead.{ChipRead}
+use Rattle.plan_numbers.specs.declared.ChipRead.the-variants.{Config, None}
 use Rattle.plan_numbers.specs.declared.PlanRead.{PlanRead}
 use Rattle.plan_numbers.specs.declared.PlanRead.the-variants.{Plan, Bad}
 
@@ -49,14 +57,19 @@ wholeClocks n =
     fitFrom n 25 (15 ∷ [])  -- voltage code
     && (isPart n 26 (1 ∷ u32 ∷ [])  -- settling time
     && (fitFrom n 28 (2 ∷ u8 ∷ [])  -- reference
-    && (fitFrom n 30 (4 ∷ u32 ∷ u8 ∷ [])  -- system
+    && (fitFrom n 30 (4 ∷ [])  -- system source
     && (isPart n 33 (1 ∷ 4 ∷ [])  -- peripheral
     && (isPart n 35 (1 ∷ 3 ∷ u8 ∷ u8 ∷ [])  -- USB
-    && (isPart n 39 (1 ∷ 3 ∷ u8 ∷ u8 ∷ [])  -- ADC
-    && isPart n 43 (1 ∷ 3 ∷ u32 ∷ u8 ∷ u8 ∷ [])))))))  -- RTC
+    && isPart n 39 (1 ∷ 3 ∷ u8 ∷ u8 ∷ []))))))  -- ADC
 
-abbrev pub wholePlan : List ℕ → Bool
-wholePlan n = eqb (length n) 48 && (wholeOscillators n && wholeClocks n)
+-- what the chips have apart: the system divider's whole part and fraction, and the RTC
+unfoldable pub wholeChip : Chip → List ℕ → Bool
+wholeChip Rp2040 n =
+    eqb (length n) 48 && (fitFrom n 31 (u32 ∷ u8 ∷ []) && isPart n 43 (1 ∷ 3 ∷ u32 ∷ u8 ∷ u8 ∷ []))
+wholeChip Rp235x n = eqb (length n) 43 && fitFrom n 31 (u16 ∷ u16 ∷ [])
+
+abbrev pub wholePlan : Chip → List ℕ → Bool
+wholePlan chip n = wholeChip chip n && (wholeOscillators n && wholeClocks n)
 
 -- a part that may be absent, by the flag at its place
 abbrev pub flagged : {A : Type 0} → List ℕ → ℕ → A → A → A
@@ -114,10 +127,6 @@ referenceAt n = record { src = refFrom (nth n 28); div = byteAt n 29 }
 abbrev pub systemSourceOf : ℕ → SysClkSrc
 systemSourceOf n = pick (eqb n 0) sysRef (sysFrom (n - 1))
 
--- source, whole part, fraction
-unfoldable pub systemAt : List ℕ → SysClkConfig
-systemAt n = record { src = systemSourceOf (nth n 30); «div_int» = nth n 31; «div_frac» = byteAt n 32 }
-
 unfoldable pub peripheralAt : List ℕ → OptionPeri
 peripheralAt n = flagged n 33 (peri (periFrom (nth n 34))) noPeri
 
@@ -136,29 +145,46 @@ rtcAt n =
     (record { src = auxFrom (nth n 44); «div_int» = nth n 45; «div_frac» = byteAt n 46; phase = byteAt n 47 }))
     noRtc
 
-unfoldable pub planAt : CoreVoltage → List ℕ → ClockConfig
-planAt v n =
+abbrev pub with2040 : Answer CoreVoltage → List ℕ → Option ChipConfig
+with2040 (value v) n =
+    some (on2040 (record { «core_voltage» = v; «div_int» = nth n 31; «div_frac» = byteAt n 32; «rtc_clk» = rtcAt n }))
+with2040 (refusal m) n = none
+
+abbrev pub with235x : Answer CoreVoltage235 → List ℕ → Option ChipConfig
+with235x (value v) n = some (on235x (record { «core_voltage» = v; «div_int» = halfAt n 31; «div_frac» = halfAt n 32 }))
+with235x (refusal m) n = none
+
+-- the chip's part: voltage, system divider and RTC; none for a number that is no voltage code of the chip
+unfoldable pub chipAt : Chip → List ℕ → Option ChipConfig
+chipAt Rp2040 n = with2040 (coreVoltageOf (byteAt n 25)) n
+chipAt Rp235x n = with235x (coreVoltage235Of (byteAt n 25)) n
+
+unfoldable pub planAt : ChipConfig → List ℕ → ClockConfig
+planAt c n =
     record {
+      chip = c;
       rosc = ringAt n;
       xosc = crystalAt n;
       «ref_clk» = referenceAt n;
-      «sys_clk» = systemAt n;
+      «sys_clk_src» = systemSourceOf (nth n 30);
       «peri_clk_src» = peripheralAt n;
       «usb_clk» = dividedAt n 35;
       «adc_clk» = dividedAt n 39;
-      «rtc_clk» = rtcAt n;
-      «core_voltage» = v;
       «voltage_stabilization_delay_us» = settlingAt n;
     }
 
-abbrev pub withVoltage : Answer CoreVoltage → List ℕ → Option ClockConfig
-withVoltage (value v) n = some (planAt v n)
-withVoltage (refusal m) n = none
+abbrev pub withChip : Option ChipConfig → List ℕ → Option ClockConfig
+withChip (some c) n = some (planAt c n)
+withChip none n = none
 
-unfoldable pub planOf : List ℕ → Option ClockConfig
-planOf n = pick (wholePlan n) (withVoltage (coreVoltageOf (byteAt n 25)) n) none
+unfoldable pub planOf : Chip → List ℕ → Option ClockConfig
+planOf chip n = pick (wholePlan chip n) (withChip (chipAt chip n) n) none
 
--- the code's answer
+-- the code's answers
+abbrev pub chipReadIs : ChipRead → Option ChipConfig
+chipReadIs (Config c) = some c
+chipReadIs None = none
+
 abbrev pub planReadIs : PlanRead → Option ClockConfig
 planReadIs (Plan p) = some p
 planReadIs Bad = none

@@ -1,20 +1,26 @@
-// A plan from the 48 numbers of a case.
+// A plan from the numbers of a case: 48 for the RP2040, 43 for the RP235x.
 mod part;
 mod rows;
 mod sources;
 
+use chip::Chip;
+use config::ChipConfig;
 use config::ClockConfig;
 use rows::fits;
 use rows::is_part;
-use voltage::CoreVoltage;
-use voltage::VoltageRead;
 ghost use mathlib.Core.Path.{_≡_};
-ghost use Rattle.plan_numbers.specs.Plan.{wholeOscillators, wholeClocks, wholePlan, planAt, planOf, planReadIs};
+ghost use Rattle.plan_numbers.specs.Plan.{wholeOscillators, wholeClocks, wholeChip, wholePlan, planAt, planOf, planReadIs};
 
 // A plan, or Bad where the numbers are none.
 pub enum PlanRead {
     Plan(ClockConfig),
     Bad,
+}
+
+// The chip's part of a plan; None where the voltage code is none of the chip's.
+pub enum ChipRead {
+    Config(ChipConfig),
+    None,
 }
 
 const U8: u32 = 255;
@@ -42,46 +48,69 @@ fn whole_clocks(n: &[u32]) -> bool
     let voltage = fits(n, 25, &[15]);
     let settling = is_part(n, 26, &[1, U32]);
     let reference = fits(n, 28, &[2, U8]);
-    let system = fits(n, 30, &[4, U32, U8]);
+    let system = fits(n, 30, &[4]);
     let peripheral = is_part(n, 33, &[1, 4]);
     let usb = is_part(n, 35, &[1, 3, U8, U8]);
     let adc = is_part(n, 39, &[1, 3, U8, U8]);
-    let rtc = is_part(n, 43, &[1, 3, U32, U8, U8]);
-    voltage & (settling & (reference & (system & (peripheral & (usb & (adc & rtc))))))
+    voltage & (settling & (reference & (system & (peripheral & (usb & adc)))))
 }
 
-fn whole_plan(n: &[u32]) -> bool
-    ensures { λ r. ⌜ r ≡ wholePlan (now (n .entry)) ⌝ }
+// The same for what the chips have apart.
+fn whole_chip(chip: Chip, n: &[u32]) -> bool
+    ensures { λ r. ⌜ r ≡ wholeChip chip (now (n .entry)) ⌝ }
 {
-    (n.len() == 48) & (whole_oscillators(n) & whole_clocks(n))
+    match chip {
+        Chip::Rp2040 => {
+            if n.len() != 48 {
+                return false;
+            }
+            let divider = fits(n, 31, &[U32, U8]);
+            let rtc = is_part(n, 43, &[1, 3, U32, U8, U8]);
+            divider & rtc
+        }
+        Chip::Rp235x => {
+            if n.len() != 43 {
+                return false;
+            }
+            fits(n, 31, &[U16, U16])
+        }
+    }
 }
 
-fn plan_at(core_voltage: CoreVoltage, n: &[u32]) -> ClockConfig
-    ensures { λ r. ⌜ r ≡ planAt «core_voltage» (now (n .entry)) ⌝ }
+fn whole_plan(chip: Chip, n: &[u32]) -> bool
+    ensures { λ r. ⌜ r ≡ wholePlan chip (now (n .entry)) ⌝ }
+{
+    if !whole_chip(chip, n) {
+        return false;
+    }
+    whole_oscillators(n) & whole_clocks(n)
+}
+
+fn plan_at(chip: ChipConfig, n: &[u32]) -> ClockConfig
+    ensures { λ r. ⌜ r ≡ planAt chip (now (n .entry)) ⌝ }
 {
     ClockConfig {
+        chip,
         rosc: part::ring(n),
         xosc: part::crystal(n),
         ref_clk: part::reference(n),
-        sys_clk: part::system(n),
+        sys_clk_src: sources::system(fields::number_at(n, 30)),
         peri_clk_src: part::peripheral(n),
         usb_clk: part::divided(n, 35),
         adc_clk: part::divided(n, 39),
-        rtc_clk: part::rtc(n),
-        core_voltage,
         voltage_stabilization_delay_us: part::settling(n),
     }
 }
 
-// The plan of 48 numbers.
-pub fn plan(n: &[u32]) -> PlanRead
-    ensures { λ r. ⌜ planReadIs r ≡ planOf (now (n .entry)) ⌝ }
+// The chip's plan of these numbers.
+pub fn plan(chip: Chip, n: &[u32]) -> PlanRead
+    ensures { λ r. ⌜ planReadIs r ≡ planOf chip (now (n .entry)) ⌝ }
 {
-    if !whole_plan(n) {
+    if !whole_plan(chip, n) {
         return PlanRead::Bad;
     }
-    match voltage::core_voltage(fields::byte_at(n, 25)) {
-        VoltageRead::Voltage(v) => PlanRead::Plan(plan_at(v, n)),
-        VoltageRead::Refused(_) => PlanRead::Bad,
+    match part::chip(chip, n) {
+        ChipRead::Config(config) => PlanRead::Plan(plan_at(config, n)),
+        ChipRead::None => PlanRead::Bad,
     }
 }

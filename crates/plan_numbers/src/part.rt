@@ -1,6 +1,9 @@
 // The parts of a plan, each from its place in the row n. A part that may be absent is there where its flag is 1.
+use crate::ChipRead;
 use crate::sources;
+use chip::Chip;
 use config::AuxClkConfig;
+use config::ChipConfig;
 use config::DriveStrength;
 use config::OptionAux;
 use config::OptionPeri;
@@ -11,15 +14,20 @@ use config::OptionU32;
 use config::OptionXosc;
 use config::RefClkConfig;
 use config::RoscConfig;
+use config::Rp235xConfig;
+use config::Rp2040Config;
 use config::RtcClkConfig;
-use config::SysClkConfig;
 use config::XoscConfig;
 use fields::byte_at;
 use fields::half_at;
 use fields::number_at;
+use voltage::VoltageRead;
+use voltage::VoltageRead235;
 ghost use mathlib.Core.Path.{_≡_};
 ghost use Rattle.plan_numbers.specs.Plan.{ringAt, optionPllAt, crystalAt, settlingAt};
-ghost use Rattle.plan_numbers.specs.Plan.{referenceAt, systemAt, peripheralAt, dividedAt, rtcAt};
+ghost use Rattle.voltage.specs.Answers.{voltageReadIs, voltageRead235Is};
+ghost use Rattle.plan_numbers.specs.Plan.{referenceAt, peripheralAt, dividedAt, rtcAt};
+ghost use Rattle.plan_numbers.specs.Plan.{with2040, with235x, chipAt, chipReadIs};
 
 pub(crate) fn ring(n: &[u32]) -> OptionRosc
     ensures { λ r. ⌜ r ≡ ringAt (now (n .entry)) ⌝ }
@@ -87,16 +95,6 @@ pub(crate) fn reference(n: &[u32]) -> RefClkConfig
     }
 }
 
-pub(crate) fn system(n: &[u32]) -> SysClkConfig
-    ensures { λ r. ⌜ r ≡ systemAt (now (n .entry)) ⌝ }
-{
-    SysClkConfig {
-        src: sources::system(number_at(n, 30)),
-        div_int: number_at(n, 31),
-        div_frac: byte_at(n, 32),
-    }
-}
-
 pub(crate) fn peripheral(n: &[u32]) -> OptionPeri
     ensures { λ r. ⌜ r ≡ peripheralAt (now (n .entry)) ⌝ }
 {
@@ -121,7 +119,7 @@ pub(crate) fn divided(n: &[u32], i: u8) -> OptionAux
     })
 }
 
-pub(crate) fn rtc(n: &[u32]) -> OptionRtc
+fn rtc(n: &[u32]) -> OptionRtc
     ensures { λ r. ⌜ r ≡ rtcAt (now (n .entry)) ⌝ }
 {
     if number_at(n, 43) != 1 {
@@ -133,4 +131,46 @@ pub(crate) fn rtc(n: &[u32]) -> OptionRtc
         div_frac: byte_at(n, 46),
         phase: byte_at(n, 47),
     })
+}
+
+fn with_2040(voltage: VoltageRead, n: &[u32]) -> ChipRead
+    ensures { λ r. ⌜ chipReadIs r ≡ with2040 (voltageReadIs voltage) (now (n .entry)) ⌝ }
+{
+    match voltage {
+        VoltageRead::Voltage(core_voltage) => {
+            ChipRead::Config(ChipConfig::Rp2040(Rp2040Config {
+                core_voltage,
+                div_int: number_at(n, 31),
+                div_frac: byte_at(n, 32),
+                rtc_clk: rtc(n),
+            }))
+        }
+        VoltageRead::Refused(_) => ChipRead::None,
+    }
+}
+
+fn with_235x(voltage: VoltageRead235, n: &[u32]) -> ChipRead
+    ensures { λ r. ⌜ chipReadIs r ≡ with235x (voltageRead235Is voltage) (now (n .entry)) ⌝ }
+{
+    match voltage {
+        VoltageRead235::Voltage(core_voltage) => {
+            ChipRead::Config(ChipConfig::Rp235x(Rp235xConfig {
+                core_voltage,
+                div_int: half_at(n, 31),
+                div_frac: half_at(n, 32),
+            }))
+        }
+        VoltageRead235::Refused(_) => ChipRead::None,
+    }
+}
+
+// The chip's part: voltage, system divider and RTC.
+pub(crate) fn chip(on: Chip, n: &[u32]) -> ChipRead
+    ensures { λ r. ⌜ chipReadIs r ≡ chipAt on (now (n .entry)) ⌝ }
+{
+    let code = byte_at(n, 25);
+    match on {
+        Chip::Rp2040 => with_2040(voltage::core_voltage(code), n),
+        Chip::Rp235x => with_235x(voltage::core_voltage_235(code), n),
+    }
 }

@@ -1,6 +1,7 @@
 // Takes the sheet of the `crystal` preset of 12000000 at reading 11 through a runner that each call changes in place, not
 // ready at first at each wait, and prints the steps, the unready polls and the ten frequencies (docs/FORMAT.md, Runner).
 use base::Length;
+use chip::Chip;
 use config::ClockConfig;
 use libc::STDOUT_FILENO;
 use runner::Reply;
@@ -86,7 +87,7 @@ fn show_runner(r: Runner) {
 
 fn main() {
     let mut bytes = [0u8; MAX_BYTES];
-    match sheet::init(ClockConfig::crystal(12000000), 11, &mut bytes) {
+    match sheet::init(ClockConfig::crystal(Chip::Rp2040, 12000000), 11, &mut bytes) {
         Length::Bytes(n) => show_runner(run(&bytes[..n])),
         Length::Refused(number) => show(b"refused", number as u64),
     }

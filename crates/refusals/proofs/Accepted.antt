@@ -10,7 +10,7 @@ use borrow.Author.Tests.{leb-false, not-false}
 use Rattle.base.specs.Choice.{pick, inRange}
 use Rattle.base.proofs.Bools.{both-false, in-range}
 use Rattle.settings.specs.declared.Settings.{Settings}
-use Rattle.settings.specs.Frequencies.{frequenciesOf}
+use Rattle.settings.specs.Frequencies.{boardIn, frequenciesOf}
 use Rattle.refusals.specs.Refusals.{dividerBad, referenceBad, wholeBad, testsOf, first, refusalOf}
 
 -- every number is from 1 on
@@ -41,24 +41,24 @@ test-false n ((number, test) ∷ rest) h = either (eqb n number) (h .0) (test-fa
     either true x y = x
     either false x y = y
 
-positive : (s : Settings) (reading : ℕ) → Positive (testsOf s (frequenciesOf s) reading)
+positive : (s : Settings) (reading : ℕ) → Positive (testsOf s (boardIn s) (frequenciesOf s) reading)
 positive s reading = omega arith
 
 -- the test of each number is false
-pub accepted-by :
-    (s : Settings) (reading : ℕ) → refusalOf s reading ≡ 0 → (n : ℕ) → testOf n (testsOf s (frequenciesOf s) reading) ≡ false
+pub accepted-by : (s : Settings) (reading : ℕ) → refusalOf s reading ≡ 0
+    → (n : ℕ) → testOf n (testsOf s (boardIn s) (frequenciesOf s) reading) ≡ false
 unfolding refusalOf
 accepted-by s reading e n =
-    test-false n (testsOf s (frequenciesOf s) reading)
-    (none-holds (testsOf s (frequenciesOf s) reading) (positive s reading) e)
+    test-false n (testsOf s (boardIn s) (frequenciesOf s) reading)
+    (none-holds (testsOf s (boardIn s) (frequenciesOf s) reading) (positive s reading) e)
 
 pub divider-good : (d : ℕ) → dividerBad d ≡ false → (1 ≤ d) × (d ≤ 4)
 unfolding dividerBad
 divider-good d e = in-range 1 4 d (not-false (inRange 1 4 d) e)
 
-pub whole-good : (w : ℕ) → wholeBad w ≡ false → (1 ≤ w) × (w ≤ 16777215)
+pub whole-good : (top w : ℕ) → wholeBad top w ≡ false → (1 ≤ w) × (w ≤ top)
 unfolding wholeBad
-whole-good w e = in-range 1 16777215 w (not-false (inRange 1 16777215 w) e)
+whole-good top w e = in-range 1 top w (not-false (inRange 1 top w) e)
 
 pub reference-good : (hz : ℕ) → referenceBad hz ≡ false → hz < 512000000
 unfolding referenceBad

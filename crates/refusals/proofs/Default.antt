@@ -1,4 +1,4 @@
--- The default plan is refused with 8 at every reading up to 15: its reference is 0 Hz.
+-- The default plan is refused with 8 at every reading that its chip may have: its reference is 0 Hz.
 -- Assumes nothing.
 use mathlib.Core.Path.{_≡_, refl}
 use mathlib.Core.Bool.{Bool, true, false}
@@ -6,6 +6,9 @@ use Prim.Native.Nat.{ℕ, _≤_}
 use lib.Dec.{eqb}
 use borrow.Author.Tests.{le-ltb}
 use Rattle.base.specs.Choice.{pick}
+use Rattle.chip.specs.declared.Chip.{Chip}
+use Rattle.chip.specs.declared.Chip.the-variants.{Rp2040, Rp235x}
+use Rattle.chip.specs.Chips.{factsOf}
 use Rattle.config.specs.Presets.{defaultPlan}
 use Rattle.settings.specs.declared.OptionCycles.{OptionCycles}
 use Rattle.settings.specs.declared.OptionCycles.the-variants.{None as noCycles}
@@ -14,15 +17,19 @@ use Rattle.settings.specs.Frequencies.{sourcesOf, refHz}
 use Rattle.refusals.specs.Refusals.{strengthsOver, ringDividerOver, settlingOver, startupOver, sysPllInvalid}
 use Rattle.refusals.specs.Refusals.{usbPllInvalid, dividerBad, referenceBad, refusalOf}
 
--- nothing settles: the voltage stays, or its settling time is 0
-calm : (reading : ℕ) → settlingOver (settingsOf defaultPlan reading .settling) ≡ false
-unfolding settlingOver settlingStep
-calm reading = go (eqb 11 reading)
-  where
-    go : (b : Bool) → settlingOver (pick {A = OptionCycles} b noCycles noCycles) ≡ false
-    go true = refl
-    go false = refl
+calmly : (b : Bool) → settlingOver (pick {A = OptionCycles} b noCycles noCycles) ≡ false
+unfolding settlingOver
+calmly true = refl
+calmly false = refl
 
-pub default-refused : (reading : ℕ) → reading ≤ 15 → refusalOf (settingsOf defaultPlan reading) reading ≡ 8
+-- nothing settles: the voltage stays, or its settling time is 0
+calm : (chip : Chip) (reading : ℕ) → settlingOver (settingsOf (defaultPlan chip) reading .settling) ≡ false
+unfolding settlingOver settlingStep
+calm Rp2040 reading = calmly (eqb 11 reading)
+calm Rp235x reading = calmly (eqb 11 reading)
+
+pub default-refused : (chip : Chip) (reading : ℕ) → reading ≤ factsOf chip .«top_reading»
+    → refusalOf (settingsOf (defaultPlan chip) reading) reading ≡ 8
 unfolding strengthsOver ringDividerOver startupOver sysPllInvalid usbPllInvalid dividerBad referenceBad refusalOf refHz sourcesOf
-default-refused reading h = rw (le-ltb 15 reading h, calm reading)
+default-refused Rp2040 reading h = rw (le-ltb 15 reading h, calm Rp2040 reading)
+default-refused Rp235x reading h = rw (le-ltb 31 reading h, calm Rp235x reading)

@@ -8,6 +8,7 @@ use native.Mathlib.Omega.{arith}
 use lib.Dec.{eqb}
 use borrow.Author.Tests.{eq-eqb}
 use Rattle.base.specs.Answer.{value}
+use Rattle.chip.specs.declared.Chip.{Chip}
 use Rattle.pll.specs.Setting.{validOf}
 use Rattle.pll.proofs.Inputs.{found-valid}
 use Rattle.pll.proofs.UsbRight.{usb-found, usb-output}
@@ -15,8 +16,9 @@ use Rattle.config.specs.declared.RoscRange.{RoscRange}
 use Rattle.config.specs.declared.ClockConfig.{ClockConfig}
 use Rattle.config.specs.Presets.{ringConfig, feedingBoth, fromPlls, systemVoltage, systemPlanFrom}
 use Rattle.config.proofs.Systems.{Found, system-from-found}
+use Rattle.settings.specs.declared.Settings.{Settings}
 use Rattle.settings.specs.Settings.{settingsOf}
-use Rattle.settings.specs.Frequencies.{pllHz, sourcesOf, frequenciesOf}
+use Rattle.settings.specs.Frequencies.{pllHz, sourcesOf, boardIn, frequenciesOf}
 use Rattle.refusals.specs.Refusals.{sysPllInvalid, usbPllInvalid, testsOf, first, refusalOf}
 
 -- a test of this number holds
@@ -33,24 +35,28 @@ first-holds n ((number, false) ∷ rest) l e = go (eqb n number) (first-holds n 
     go true e = e
     go false e = e
 
-module _ (from hz reading : ℕ) (p : ClockConfig) (planned : systemPlanFrom from hz ≡ value p) where
-  made : Found from hz p
-  made = system-from-found from hz p planned
+module _ (chip : Chip) (from hz reading : ℕ) (p : ClockConfig) (planned : systemPlanFrom chip from hz ≡ value p) where
+  made : Found chip from hz p
+  made = system-from-found chip from hz p planned
 
   abbrev plan : ClockConfig
-  plan = fromPlls (ringConfig 6500000 RoscRange.Medium 16) (feedingBoth from (made .sys) (made .usb)) (systemVoltage hz)
+  plan =
+      fromPlls chip (systemVoltage hz) (ringConfig 6500000 RoscRange.Medium 16)
+      (feedingBoth from (made .sys) (made .usb))
 
   usb-valid : validOf (made .usb) from ≡ true
   usb-valid = usb-found from (made .usb) (made .usb-found) .valid
 
-  never : (n : ℕ) → 1 ≤ n → holdsAt n (testsOf (settingsOf plan reading) (frequenciesOf (settingsOf plan reading)) reading) ≡ false
+  abbrev set : Settings
+  set = settingsOf plan reading
+
+  never : (n : ℕ) → 1 ≤ n → holdsAt n (testsOf set (boardIn set) (frequenciesOf set) reading) ≡ false
       → refusalOf (settingsOf p reading) reading ≡ n → ⊥
   unfolding refusalOf
   never n l none e =
-      let s = settingsOf plan reading in
       let here : refusalOf (settingsOf plan reading) reading ≡ n
       = subst (λ q. refusalOf (settingsOf q reading) reading ≡ n) (made .is) e in
-      let held = first-holds n (testsOf s (frequenciesOf s) reading) l here in
+      let held = first-holds n (testsOf set (boardIn set) (frequenciesOf set) reading) l here in
       let z : _≡_ {A = ℕ} 0 1 = cc (held, none) in
       omega arith
 

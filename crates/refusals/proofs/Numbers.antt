@@ -1,4 +1,4 @@
--- Which numbers a plan is refused with: 18 where the reading is over 15, else one of 0 to 14.
+-- Which numbers a plan is refused with: 18 where the reading is over the chip's greatest, else one of 0 to 14.
 -- Assumes nothing.
 use mathlib.Core.Path.{_≡_}
 use mathlib.Core.Bool.{Bool, true, false}
@@ -9,13 +9,16 @@ use native.Mathlib.Decide.{decLe}
 use lib.ListN.{drop}
 use borrow.Author.Tests.{lt-ltb, le-ltb}
 use Rattle.settings.specs.declared.Settings.{Settings}
-use Rattle.settings.specs.Frequencies.{frequenciesOf}
+use Rattle.settings.specs.Frequencies.{boardIn, factsIn, frequenciesOf}
 use Rattle.refusals.specs.Refusals.{testsOf, first, refusalOf}
 
+abbrev pub top : Settings → ℕ
+top s = factsIn s .«top_reading»
+
 pub record Numbered (s : Settings) (reading : ℕ) : Type 0 where
-  pub over : 15 < reading → refusalOf s reading ≡ 18
-  pub only-over : refusalOf s reading ≡ 18 → 15 < reading
-  pub others : reading ≤ 15 → refusalOf s reading ≤ 14
+  pub over : top s < reading → refusalOf s reading ≡ 18
+  pub only-over : refusalOf s reading ≡ 18 → top s < reading
+  pub others : reading ≤ top s → refusalOf s reading ≤ 14
 
 -- every number is up to 14
 abbrev Low : List (ℕ × Bool) → Type 0
@@ -31,15 +34,15 @@ pub refusal-numbers : (s : Settings) (reading : ℕ) → Numbered s reading
 unfolding refusalOf
 refusal-numbers s reading = record { over = over; only-over = only-over; others = others }
   where
-    over : 15 < reading → refusalOf s reading ≡ 18
-    over h = rw (lt-ltb 15 reading h)
+    over : top s < reading → refusalOf s reading ≡ 18
+    over h = rw (lt-ltb (top s) reading h)
 
-    others : reading ≤ 15 → refusalOf s reading ≤ 14
-    others h = rw (le-ltb 15 reading h) (first-low (drop 1 (testsOf s (frequenciesOf s) reading)) (omega arith))
+    others : reading ≤ top s → refusalOf s reading ≤ 14
+    others h = rw (le-ltb (top s) reading h) (first-low (drop 1 (testsOf s (boardIn s) (frequenciesOf s) reading)) (omega arith))
 
-    only-over : refusalOf s reading ≡ 18 → 15 < reading
-    only-over e = go (decLe reading 15)
+    only-over : refusalOf s reading ≡ 18 → top s < reading
+    only-over e = go (decLe reading (top s))
       where
-        go : Dec (reading ≤ 15) → 15 < reading
+        go : Dec (reading ≤ top s) → top s < reading
         go (yes h) = absurd (omega (arith, others h))
         go (no h) = omega arith

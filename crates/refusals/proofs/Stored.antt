@@ -8,12 +8,15 @@ use native.Mathlib.Omega.{arith}
 use lib.Dec.{eqb, ltb}
 use borrow.Author.Tests.{ltb-false}
 use Rattle.base.proofs.Bools.{both-false}
+use Rattle.chip.specs.declared.Chip.{Chip}
+use Rattle.chip.specs.declared.Chip.the-variants.{Rp2040, Rp235x}
 use Rattle.config.specs.declared.OptionRtc.{OptionRtc}
 use Rattle.config.specs.declared.OptionRtc.the-variants.{Some as rtc, None as noRtc}
 use Rattle.settings.specs.declared.Sources.{Sources}
 use Rattle.settings.specs.declared.Settings.{Settings}
 use Rattle.settings.specs.declared.Frequencies.{Frequencies}
-use Rattle.settings.specs.Frequencies.{auxSource, rtcHz, sourcesIn, refIn, sysIn, frequenciesOf, storedOf}
+use Rattle.settings.specs.Frequencies.{auxSource, rtcHz, boardIn, factsIn, sourcesIn, refIn, sysIn}
+use Rattle.settings.specs.Frequencies.{frequenciesOf, tenthOf, storedOf, tenOf}
 use Rattle.settings.specs.Typed.{Typed}
 use Rattle.settings.proofs.Small.{Hz, AllHz, sources-hz, ref-small, sys-small, peri-small, aux-small}
 use Rattle.refusals.specs.Refusals.{wholeBad, rtcBad, refusalOf}
@@ -25,7 +28,7 @@ unfolding rtcBad
 rtc-small f (rtc r) e =
     ltb-false 65535 (rtcHz f (rtc r))
     (both-false
-    (eqb (auxSource f (r .src)) 0 || wholeBad (r .«div_int») || ltb 3 (r .phase))
+    (eqb (auxSource f (r .src)) 0 || wholeBad 16777215 (r .«div_int») || ltb 3 (r .phase))
     (ltb 65535 (rtcHz f (rtc r))) e .1)
 rtc-small f noRtc e = omega arith
 
@@ -43,7 +46,8 @@ stored s reading t e =
     let a = accepted-by s reading e in
     let h = sources-hz s t in
     let r : Hz (refIn s) = ref-small (sourcesIn s) h (s .reference) in
-    let y : Hz (sysIn s) = sys-small (sourcesIn s) h (refIn s) (s .sys) r (whole-good (s .sys .«div_int») (a 9) .0) in
+    let whole = whole-good (factsIn s .«top_whole») (boardIn s .whole) (a 9) in
+    let y : Hz (sysIn s) = sys-small (sourcesIn s) h (boardIn s) (refIn s) (s .sys) r (whole .0) in
     record {
       sources = h;
       reference = r;
@@ -51,13 +55,25 @@ stored s reading t e =
       peri = peri-small (sourcesIn s) h (sysIn s) (s .peri) y;
       usb = aux-small (sourcesIn s) h (s .usb);
       adc = aux-small (sourcesIn s) h (s .adc);
-      rtc = rtc-small (sourcesIn s) (s .rtc) (a 14);
+      rtc = rtc-small (sourcesIn s) (boardIn s .rtc) (a 14);
     }
 
 abbrev pub EachHz : List ℕ → Type 0
 EachHz [] = Unit {0}
 EachHz (n ∷ ns) = Hz n × EachHz ns
 
+tenth-small : (chip : Chip) (hz : ℕ) → Hz hz → EachHz (tenthOf chip hz)
+tenth-small Rp2040 hz h = (h, tt)
+tenth-small Rp235x hz h = tt
+
 pub stored-small : (s : Settings) (reading : ℕ) → Typed s → refusalOf s reading ≡ 0 → EachHz (storedOf s)
 unfolding storedOf
-stored-small s reading t e = let h = stored s reading t e in let f = h .sources in omega arith
+stored-small s reading t e =
+    let h = stored s reading t e in
+    let f = h .sources in
+    let tenth = tenth-small (boardIn s .chip) (frequenciesOf s .rtc) (omega (arith, h .rtc)) in
+    (f .rosc, (f .xosc, (f .pll-sys, (f .pll-usb, (h .reference, (h .sys, (h .peri, (h .usb, (h .adc, tenth)))))))))
+
+pub ten-small : (s : Settings) (reading : ℕ) → Typed s → refusalOf s reading ≡ 0 → EachHz (tenOf s)
+unfolding tenOf
+ten-small s reading t e = let h = stored s reading t e in let f = h .sources in omega arith

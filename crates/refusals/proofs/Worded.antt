@@ -1,19 +1,21 @@
--- Refusals 3 and 4 of settings, in the words of docs/FORMAT.md (Refusals) for the plan.
+-- Refusals 2, 3, 4 and 9 of settings, in the words of docs/FORMAT.md (Refusals) for the plan.
 -- Assumes nothing.
 use mathlib.Core.Path.{_≡_, refl, sym}
 use mathlib.Core.Bool.{Bool, true, false, _||_, _&&_, not}
-use Prim.Native.Nat.{ℕ, _/_, _≤_, _<_}
+use Prim.Native.Nat.{ℕ, zero, suc, _+_, _-_, _/_, _≤_, _<_}
 use native.Mathlib.Omega.{arith}
 use native.Mathlib.Decide.{decLe}
 use lib.Dec.{ltb, eqb}
-use borrow.Author.Tests.{eqb-true, lt-ltb, le-ltb}
+use borrow.Author.Tests.{eqb-true, lt-ltb, le-ltb, le-leb, ne-eqb}
 use Rattle.base.specs.Choice.{pick}
+use Rattle.chip.specs.declared.Chip.the-variants.{Rp2040, Rp235x}
+use Rattle.chip.specs.Chips.{factsOf}
 use Rattle.divider.specs.Delay.{startupSum, delayOf, settlingCycles}
 use Rattle.config.specs.declared.XoscConfig.{XoscConfig}
 use Rattle.config.specs.declared.OptionXosc.the-variants.{Some as xosc}
 use Rattle.settings.specs.declared.OptionCycles.the-variants.{Some as cycles, None as noCycles}
 use Rattle.settings.specs.Settings.{crystalOf, settlingStep}
-use Rattle.refusals.specs.Refusals.{settlingOver, startupOver}
+use Rattle.refusals.specs.Refusals.{settlingOver, startupOver, wholeBad}
 
 -- settling cycles over 32 bits, where the voltage changes
 pub settling-worded : (reading code time hz : ℕ)
@@ -44,3 +46,23 @@ startup-worded x =
         let more : 16383 < sum / 256 = omega arith in
         let over : 4294967295 < sum = omega arith in
         rw (lt-ltb 16383 (sum / 256) more, lt-ltb 4294967295 sum over)
+
+over-with : (d pass : ℕ) → pass ≤ 65535 → ltb 65535 (d + pass) ≡ ltb (65535 - pass) d
+over-with d pass h = go (decLe d (65535 - pass))
+  where
+    go : Dec (d ≤ 65535 - pass) → ltb 65535 (d + pass) ≡ ltb (65535 - pass) d
+    go (yes few) = rw (le-ltb (65535 - pass) d few, le-ltb 65535 (d + pass) (omega arith))
+    go (no more) = rw (lt-ltb (65535 - pass) d (omega arith), lt-ltb 65535 (d + pass) (omega arith))
+
+-- ring divider over 62815, on the RP235x over 22015
+pub ring-worded : (d : ℕ)
+    → (ltb 65535 (d + factsOf Rp2040 .pass) ≡ ltb 62815 d) × (ltb 65535 (d + factsOf Rp235x .pass) ≡ ltb 22015 d)
+ring-worded d = (over-with d 0xAA0 (omega arith), over-with d 0xAA00 (omega arith))
+
+-- of the RP235x's whole parts, which have 16 bits, 9 is given for 0
+pub whole-worded : (w : ℕ) → w < 65536 → wholeBad (factsOf Rp235x .«top_whole») w ≡ eqb w 0
+unfolding wholeBad
+whole-worded zero h = refl
+whole-worded (suc n) h =
+    let some : suc n ≡ 0 → ⊥ = λ e. omega arith in
+    rw (le-leb 1 (suc n) (omega arith), le-leb (suc n) 65535 (omega arith), ne-eqb (suc n) 0 some)

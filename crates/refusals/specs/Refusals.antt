@@ -3,9 +3,10 @@
 use mathlib.Core.Path.{_≡_}
 use mathlib.Core.List.{List, [], _∷_}
 use mathlib.Core.Bool.{Bool, false, _||_, not}
-use Prim.Native.Nat.{ℕ}
+use Prim.Native.Nat.{ℕ, _+_}
 use lib.Dec.{ltb, leb, eqb}
 use Rattle.base.specs.Choice.{pick, inRange}
+use Rattle.chip.specs.Chips.{factsOf}
 use Rattle.pll.specs.Setting.{validOf}
 use Rattle.config.specs.declared.DriveStrength.{DriveStrength}
 use Rattle.config.specs.declared.OptionRosc.{OptionRosc}
@@ -14,13 +15,14 @@ use Rattle.config.specs.declared.OptionPeri.{OptionPeri}
 use Rattle.config.specs.declared.OptionAux.{OptionAux}
 use Rattle.config.specs.declared.OptionRtc.{OptionRtc}
 use Rattle.config.specs.declared.ClockConfig.{ClockConfig}
+use Rattle.config.specs.declared.Board.{Board}
 use Rattle.settings.specs.declared.OptionCrystal.{OptionCrystal}
 use Rattle.settings.specs.declared.OptionCycles.{OptionCycles}
 use Rattle.settings.specs.declared.Settings.{Settings}
 use Rattle.settings.specs.declared.Sources.{Sources}
 use Rattle.settings.specs.declared.Frequencies.{Frequencies}
 use Rattle.settings.specs.Settings.{settingsOf}
-use Rattle.settings.specs.Frequencies.{auxSource, frequenciesOf}
+use Rattle.settings.specs.Frequencies.{auxSource, boardIn, frequenciesWith}
 use Rattle.refusals.specs.declared.Examined.{Examined}
 
 abbrev pub strengthOver : DriveStrength → Bool
@@ -33,10 +35,10 @@ unfoldable pub strengthsOver : OptionRosc → Bool
 strengthsOver (OptionRosc.Some r) = strengthOver (r .«drive_strength»)
 strengthsOver OptionRosc.None = false
 
--- 2: ring divider over 62815
-unfoldable pub ringDividerOver : OptionRosc → Bool
-ringDividerOver (OptionRosc.Some r) = ltb 62815 (r .div)
-ringDividerOver OptionRosc.None = false
+-- 2: ring divider with the chip's pass value over 16 bits: over 62815 on the RP2040, over 22015 on the RP235x
+unfoldable pub ringDividerOver : ℕ → OptionRosc → Bool
+ringDividerOver pass (OptionRosc.Some r) = ltb 65535 (r .div + pass)
+ringDividerOver pass OptionRosc.None = false
 
 -- 3: settling cycles over 32 bits; with no settling step the voltage stays or the cycles are 0
 unfoldable pub settlingOver : OptionCycles → Bool
@@ -70,9 +72,9 @@ dividerBad div = not (inRange 1 4 div)
 unfoldable pub referenceBad : ℕ → Bool
 referenceBad hz = eqb hz 0 || leb 512000000 hz
 
--- 9: whole part not 1 to 16777215
-unfoldable pub wholeBad : ℕ → Bool
-wholeBad whole = not (inRange 1 16777215 whole)
+-- 9: whole part 0 or over the chip's greatest, 16777215 on the RP2040; no whole part of an RP235x's plan is over 65535
+unfoldable pub wholeBad : ℕ → ℕ → Bool
+wholeBad top whole = not (inRange 1 top whole)
 
 -- 11: peripheral source 0 Hz
 unfoldable pub periBad : ℕ → OptionPeri → Bool
@@ -84,30 +86,30 @@ unfoldable pub auxBad : Sources → OptionAux → Bool
 auxBad f (OptionAux.Some a) = eqb (auxSource f (a .src)) 0 || dividerBad (a .div) || ltb 3 (a .phase)
 auxBad f OptionAux.None = false
 
--- 14: source 0 Hz, whole part as in 9, phase over 3, or over 65535 Hz
+-- 14: source 0 Hz, whole part as in 9 on the RP2040, phase over 3, or over 65535 Hz
 unfoldable pub rtcBad : Sources → ℕ → OptionRtc → Bool
 rtcBad f hz (OptionRtc.Some r) =
-    eqb (auxSource f (r .src)) 0 || wholeBad (r .«div_int») || ltb 3 (r .phase) || ltb 65535 hz
+    eqb (auxSource f (r .src)) 0 || wholeBad 16777215 (r .«div_int») || ltb 3 (r .phase) || ltb 65535 hz
 rtcBad f hz OptionRtc.None = false
 
--- 18: reading over 15; then 1 to 14 rising
-abbrev pub testsOf : Settings → Frequencies → ℕ → List (ℕ × Bool)
-testsOf s f reading =
-    (18, ltb 15 reading)
+-- 18: reading over the chip's greatest, 15 or 31; then 1 to 14 rising
+abbrev pub testsOf : Settings → Board → Frequencies → ℕ → List (ℕ × Bool)
+testsOf s b f reading =
+    (18, ltb (factsOf (b .chip) .«top_reading») reading)
     ∷ (1, strengthsOver (s .rosc))
-    ∷ (2, ringDividerOver (s .rosc))
+    ∷ (2, ringDividerOver (factsOf (b .chip) .pass) (s .rosc))
     ∷ (3, settlingOver (s .settling))
     ∷ (4, startupOver (s .xosc))
     ∷ (5, sysPllInvalid (s .xosc))
     ∷ (6, usbPllInvalid (s .xosc))
     ∷ (7, dividerBad (s .reference .div))
     ∷ (8, referenceBad (f .reference))
-    ∷ (9, wholeBad (s .sys .«div_int»))
+    ∷ (9, wholeBad (factsOf (b .chip) .«top_whole») (b .whole))
     ∷ (10, eqb (f .sys) 0)
     ∷ (11, periBad (f .peri) (s .peri))
     ∷ (12, auxBad (f .sources) (s .usb))
     ∷ (13, auxBad (f .sources) (s .adc))
-    ∷ (14, rtcBad (f .sources) (f .rtc) (s .rtc))
+    ∷ (14, rtcBad (f .sources) (f .rtc) (b .rtc))
     ∷ []
 
 -- the number of the first test that holds; 0: none does
@@ -116,13 +118,16 @@ first [] = 0
 first ((number, test) ∷ rest) = pick test number (first rest)
 
 -- the refusal of settings at a reading; 0: accepted
+abbrev pub refusalWith : Settings → Board → ℕ → ℕ
+refusalWith s b reading = first (testsOf s b (frequenciesWith s b) reading)
+
 unfoldable pub refusalOf : Settings → ℕ → ℕ
-refusalOf s reading = first (testsOf s (frequenciesOf s) reading)
+refusalOf s reading = refusalWith s (boardIn s) reading
 
 -- a plan is accepted for a reading where it gets neither 18 nor any of 1 to 14
 abbrev pub Accepted : ClockConfig → ℕ → Type 0
 Accepted p reading = refusalOf (settingsOf p reading) reading ≡ 0
 
 -- what `examine` answers
-abbrev pub examinedOf : Settings → ℕ → Examined
-examinedOf s reading = record { number = refusalOf s reading; frequencies = frequenciesOf s }
+abbrev pub examinedOf : Settings → Board → ℕ → Examined
+examinedOf s b reading = record { number = refusalWith s b reading; frequencies = frequenciesWith s b }

@@ -1,4 +1,5 @@
 // The refusals of settings at a reading, in their order.
+use config::Board;
 use config::DriveStrength;
 use config::OptionAux;
 use config::OptionPeri;
@@ -13,12 +14,12 @@ use settings::Sources;
 ghost use mathlib.Core.Path.{_≡_};
 ghost use Prim.Native.Nat.{ℕ};
 ghost use Rattle.config.specs.declared.OptionRosc.{OptionRosc};
-ghost use Rattle.settings.specs.Frequencies.{pllHz, sourcesOf, frequenciesOf};
-ghost use Rattle.settings.specs.Typed.{Typed};
+ghost use Rattle.settings.specs.Frequencies.{pllHz, sourcesOf, frequenciesWith};
+ghost use Rattle.settings.specs.Typed.{BoardIs, Typed};
 ghost use Rattle.refusals.specs.Refusals.{strengthOver, strengthsOver, ringDividerOver, settlingOver};
 ghost use Rattle.refusals.specs.Refusals.{startupOver, pllInvalid, sysPllInvalid, usbPllInvalid};
 ghost use Rattle.refusals.specs.Refusals.{dividerBad, referenceBad, wholeBad, periBad, auxBad, rtcBad};
-ghost use Rattle.refusals.specs.Refusals.{refusalOf, examinedOf};
+ghost use Rattle.refusals.specs.Refusals.{refusalWith, examinedOf};
 
 fn strength_over(g: DriveStrength) -> bool
     ensures { λ r. ⌜ r ≡ strengthOver g ⌝ }
@@ -45,12 +46,12 @@ fn strengths_over(ring: OptionRosc) -> bool
     }
 }
 
-// 62815 and 0xAA0 make 65535: the register has 16 bits.
-fn ring_divider_over(ring: OptionRosc) -> bool
-    ensures { λ r. ⌜ r ≡ ringDividerOver ring ⌝ }
+// The register has 16 bits.
+fn ring_divider_over(pass: u16, ring: OptionRosc) -> bool
+    ensures { λ r. ⌜ r ≡ ringDividerOver pass ring ⌝ }
 {
     match ring {
-        OptionRosc::Some(on) => 62815 < on.div,
+        OptionRosc::Some(on) => 65535 < on.div as u32 + pass as u32,
         OptionRosc::None => false,
     }
 }
@@ -119,10 +120,10 @@ fn reference_bad(hz: u32) -> bool
     (hz == 0) | (512000000 <= hz)
 }
 
-fn whole_bad(whole: u32) -> bool
-    ensures { λ r. ⌜ r ≡ wholeBad whole ⌝ }
+fn whole_bad(top: u32, whole: u32) -> bool
+    ensures { λ r. ⌜ r ≡ wholeBad top whole ⌝ }
 {
-    !base::in_range(1, 16777215, whole as u64)
+    !base::in_range(1, top as u64, whole as u64)
 }
 
 fn peri_bad(hz: u64, peri: OptionPeri) -> bool
@@ -153,7 +154,7 @@ fn rtc_bad(f: Sources, hz: u64, rtc: OptionRtc) -> bool
         OptionRtc::Some(on) => {
             let src = on.src;
             (settings::aux_source(f, src) == 0)
-                | whole_bad(on.div_int)
+                | whole_bad(16777215, on.div_int)
                 | (3 < on.phase)
                 | (65535 < hz)
         }
@@ -162,28 +163,30 @@ fn rtc_bad(f: Sources, hz: u64, rtc: OptionRtc) -> bool
 }
 
 // 18, then 1 to 14 rising; 0: none of them.
-fn refusal_of(s: Settings, f: Frequencies, reading: u8) -> u8
-    ensures { λ r. ⌜ (f ≡ frequenciesOf s → r ≡ refusalOf s reading) ⌝ }
+fn refusal_of(s: Settings, b: Board, f: Frequencies, reading: u8) -> u8
+    ensures { λ r. ⌜ (f ≡ frequenciesWith s b → r ≡ refusalWith s b reading) ⌝ }
 {
+    let chip = b.chip;
+    let on = chip.facts();
     let ring = s.rosc;
     let crystal = s.xosc;
     let cycles = s.settling;
     let ref_clk = s.reference;
-    let sys_clk = s.sys;
     let peri_clk = s.peri;
     let usb_clk = s.usb;
     let adc_clk = s.adc;
-    let rtc_clk = s.rtc;
+    let rtc_clk = b.rtc;
     let sources = f.sources;
+    let over = on.top_reading < reading;
     let strengths = strengths_over(ring);
-    let ring_divider = ring_divider_over(ring);
+    let ring_divider = ring_divider_over(on.pass, ring);
     let settling = settling_over(cycles);
     let startup = startup_over(crystal);
     let sys_pll = sys_pll_invalid(crystal, sources);
     let usb_pll = usb_pll_invalid(crystal, sources);
     let divider = divider_bad(ref_clk.div);
     let reference = reference_bad(f.reference);
-    let whole = whole_bad(sys_clk.div_int);
+    let whole = whole_bad(on.top_whole, b.whole);
     let peri = peri_bad(f.peri, peri_clk);
     let usb = aux_bad(sources, usb_clk);
     let adc = aux_bad(sources, adc_clk);
@@ -203,7 +206,7 @@ fn refusal_of(s: Settings, f: Frequencies, reading: u8) -> u8
     let n = base::number_when(settling, 3, n);
     let n = base::number_when(ring_divider, 2, n);
     let n = base::number_when(strengths, 1, n);
-    base::number_when(15 < reading, 18, n)
+    base::number_when(over, 18, n)
 }
 
 // What is found of settings at a reading: the number of their refusal, 0 where they are accepted, and their frequencies.
@@ -212,13 +215,13 @@ pub struct Examined {
     pub frequencies: Frequencies,
 }
 
-// The numbers of the settings are of their types.
-pub fn examine(s: Settings, reading: u8) -> Examined
-    ensures { λ r. ⌜ (r ≡ examinedOf s reading) × Typed s ⌝ }
+// Looks at settings, with what their chip comes to. The numbers of the settings are of their types.
+pub fn examine(s: Settings, board: Board, reading: u8) -> Examined
+    ensures { λ r. ⌜ (r ≡ examinedOf s board reading) × (BoardIs s board → Typed s) ⌝ }
 {
-    let frequencies = settings::frequencies_of(s);
+    let frequencies = settings::frequencies_of(s, board);
     Examined {
-        number: refusal_of(s, frequencies, reading),
+        number: refusal_of(s, board, frequencies, reading),
         frequencies,
     }
 }

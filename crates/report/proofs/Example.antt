@@ -9,8 +9,9 @@ use lib.Count.{ones, ones-ones}
 use Rattle.text.specs.Ascii.{ascii}
 use Rattle.text.specs.Decimal.{decimalOf, valueOf, isNumber, numberOf}
 use Rattle.divider.specs.Clock.{dividedHz}
+use Rattle.chip.specs.declared.Chip.the-variants.{Rp2040}
 use Rattle.config.specs.Presets.{crystalPlan, systemPlan}
-use Rattle.settings.specs.Frequencies.{pllHz, sourcesOf, refHz, sysHz, storedOf}
+use Rattle.settings.specs.Frequencies.{pllHz, sourcesOf, refHz, sysHz, tenOf}
 use Rattle.sheet.specs.Writer.{refusalIn}
 use Rattle.sheet.specs.Steps.{releaseMask}
 use Rattle.sheet.proofs.Examples.{crystal-steps}
@@ -40,5 +41,5 @@ pub example : reportOf (texts ("125000000" ∷ []))
     ∷ "released 25"
     ∷ [])
 unfolding lineOf decimalOf reportOf numberOf isNumber valueOf systemPlan planReport
-    dividedHz pllHz sourcesOf refHz sysHz storedOf releaseMask
-example = rw (eq-eqb (refusalIn (crystalPlan 12000000) reading) 0 (crystal-steps .accepted), all-released)
+    dividedHz pllHz sourcesOf refHz sysHz tenOf releaseMask
+example = rw (eq-eqb (refusalIn (crystalPlan Rp2040 12000000) reading) 0 (crystal-steps .accepted), all-released)

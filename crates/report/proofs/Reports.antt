@@ -18,9 +18,10 @@ use Rattle.text.proofs.Decimals.{length-decimal}
 use Rattle.text.proofs.Lines.{line-start}
 use Rattle.config.specs.declared.ClockConfig.{ClockConfig}
 use Rattle.settings.specs.Settings.{settingsOf}
-use Rattle.settings.specs.Frequencies.{storedOf}
+use Rattle.settings.specs.Frequencies.{boardIn, tenOf}
 use Rattle.settings.proofs.Small.{Hz}
-use Rattle.refusals.proofs.Stored.{EachHz, stored-small}
+use Rattle.refusals.proofs.Stored.{EachHz, ten-small}
+use Rattle.sheet.proofs.Formed.{masks}
 use Rattle.sheet.specs.Steps.{releaseMask}
 use Rattle.report.specs.Lines.{lineOf, linesOf, reportNames, refusedLine}
 use Rattle.report.specs.Report.{reading, numbersOf, planReport, plannedReport, targetReport, reportOf}
@@ -90,8 +91,8 @@ report-most input = go (report-cases input)
     go (inl e) = rw e (omega (arith, line-most (ascii "refused") 24 (omega arith)))
     go (inr r) =
         let s = settingsOf (r .plan) reading in
-        let mask : ℕ = releaseMask (s .peri) (s .usb) (s .adc) (s .rtc) in
-        let few : ones mask ≤ 25 = ones-le 25 mask (omega arith) in
-        let each = each-append (storedOf s) (ones mask ∷ [])
-        (stored-small s reading (r .served .typed) (r .served .accepted)) (omega arith, tt) in
+        let mask : ℕ = releaseMask (boardIn s .chip) (s .peri) (s .usb) (s .adc) (boardIn s .rtc) in
+        let few : ones mask ≤ 25 = ones-le 25 mask (omega (arith, masks (boardIn s .chip) .2)) in
+        let each = each-append (tenOf s) (ones mask ∷ [])
+        (ten-small s reading (r .served .typed) (r .served .accepted)) (omega arith, tt) in
         rw (r .lines) (omega (arith, lines-most reportNames (numbersOf s) each))

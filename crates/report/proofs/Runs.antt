@@ -17,7 +17,7 @@ use Rattle.step.proofs.Sheets.{length-encoded}
 use Rattle.config.specs.declared.ClockConfig.{ClockConfig}
 use Rattle.settings.specs.declared.Settings.{Settings}
 use Rattle.settings.specs.Settings.{settingsOf}
-use Rattle.settings.specs.Frequencies.{storedOf}
+use Rattle.settings.specs.Frequencies.{boardIn, tenOf}
 use Rattle.settings.specs.Typed.{Typed}
 use Rattle.refusals.specs.Refusals.{Accepted}
 use Rattle.sheet.specs.Steps.{releaseMask, clocksPart, stepsWith, stepsOf}
@@ -58,7 +58,7 @@ releases-append [] ys mask = refl
 releases-append (x ∷ xs) ys mask = releases-append xs ys (releasedIn x mask)
 
 last-release : (reading : ℕ) (s : Settings) (mask : ℕ)
-    → releases (stepsOf reading s) mask ≡ releaseMask (s .peri) (s .usb) (s .adc) (s .rtc)
+    → releases (stepsOf reading s) mask ≡ releaseMask (boardIn s .chip) (s .peri) (s .usb) (s .adc) (boardIn s .rtc)
 unfolding stepsWith clocksPart releasedIn
 last-release reading s mask = simp releases-append
 
@@ -103,7 +103,7 @@ module _ (p : ClockConfig) (r : ℕ) (ok : Accepted p r) (t : Typed (settingsOf 
   calls = omega (arith, length-encoded (planSteps p r))
 
   pub run-numbers : reportNumbers (ranOf (sheetBytes p r) (length (sheetBytes p r) / 8)) ≡ numbersOf (settingsOf p r)
-  unfolding storedOf runs
+  unfolding tenOf runs
   run-numbers =
       rw (
         calls,

@@ -19,6 +19,7 @@ use Rattle.pll.proofs.Inputs.{found-valid, search-finds}
 use Rattle.pll.proofs.UsbRows.{usb-rows}
 use Rattle.config.specs.declared.RoscRange.the-variants.{Medium}
 use Rattle.config.specs.declared.ClockConfig.{ClockConfig}
+use Rattle.chip.specs.declared.Chip.the-variants.{Rp2040}
 use Rattle.config.specs.Presets.{ringConfig, feeding, fromPlls, crystalPlan, systemVoltage, systemPlanFrom, systemPlan}
 use Rattle.settings.specs.declared.Settings.{Settings}
 use Rattle.settings.specs.Settings.{settlingStep, settingsOf}
@@ -31,13 +32,13 @@ use Rattle.settings.specs.Typed.{Typed}
 use Rattle.report.specs.Report.{reading}
 
 -- undivided, a frequency stays as it is
-undivided : (hz : ℕ) → dividedHz hz 1 0 ≡ hz
+undivided : (hz : ℕ) → dividedHz 256 hz 1 0 ≡ hz
 unfolding dividedHz
 undivided hz = omega arith
 
 module _ (c : PllConfig) (v : CoreVoltage) where
   abbrev plan : ClockConfig
-  plan = fromPlls (ringConfig 6500000 Medium 16) (feeding 12000000 c) v
+  plan = fromPlls Rp2040 v (ringConfig 6500000 Medium 16) (feeding 12000000 c)
 
   abbrev set : Settings
   set = settingsOf plan reading
@@ -61,13 +62,13 @@ settles false c = refl
 
 -- a target's plan, accepted at the reading, with numbers of their types
 pub record Served (hz : ℕ) (p : ClockConfig) : Type 0 where
-  pub planned : systemPlan hz ≡ value p
+  pub planned : systemPlan Rp2040 hz ≡ value p
   pub accepted : Accepted p reading
   pub typed : Typed (settingsOf p reading)
 
 plan-typed : (c : PllConfig) (v : CoreVoltage) → Typed (set c v)
 unfolding sourcesOf
-plan-typed c v = record { rosc = omega arith; xosc = omega arith; sys = omega arith; rtc = omega arith }
+plan-typed c v = record { rosc = omega arith; xosc = omega arith; fraction = omega arith; rtc = omega arith }
 
 pub system-accepted : (hz : ℕ) → (p : ClockConfig) × Served hz p
 unfolding systemPlan systemPlanFrom
@@ -81,7 +82,7 @@ system-accepted hz = go (eqb hz 125000000) refl
 
     go : (b : Bool) → eqb hz 125000000 ≡ b → (p : ClockConfig) × Served hz p
     go true e = (
-      crystalPlan 12000000,
+      crystalPlan Rp2040 12000000,
       record {
         planned = rw e;
         accepted = plan-accepted (setting 125 6 2) V1_10 refl (settles false (setting 125 6 2));

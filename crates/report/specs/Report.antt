@@ -7,11 +7,12 @@ use lib.Dec.{eqb}
 use Rattle.base.specs.Answer.{Answer, value, refusal}
 use Rattle.base.specs.Choice.{pick}
 use Rattle.text.specs.Words.{lineNumberOf}
+use Rattle.chip.specs.declared.Chip.the-variants.{Rp2040}
 use Rattle.config.specs.declared.ClockConfig.{ClockConfig}
 use Rattle.config.specs.Presets.{systemPlan}
 use Rattle.settings.specs.declared.Settings.{Settings}
 use Rattle.settings.specs.Settings.{settingsOf}
-use Rattle.settings.specs.Frequencies.{storedOf}
+use Rattle.settings.specs.Frequencies.{boardIn, tenOf}
 use Rattle.sheet.specs.Steps.{releaseMask}
 use Rattle.sheet.specs.Writer.{refusalIn}
 use Rattle.report.specs.Lines.{linesOf, reportNames, refusedLine}
@@ -22,7 +23,7 @@ reading = 11
 
 -- the stored values of the sheet, then the count of ones in the last release mask
 abbrev pub numbersOf : Settings → List ℕ
-numbersOf s = storedOf s ++ (ones (releaseMask (s .peri) (s .usb) (s .adc) (s .rtc)) ∷ [])
+numbersOf s = tenOf s ++ (ones (releaseMask (boardIn s .chip) (s .peri) (s .usb) (s .adc) (boardIn s .rtc)) ∷ [])
 
 -- a plan that is refused at the reading has no sheet
 unfoldable pub planReport : ClockConfig → List ℕ
@@ -35,9 +36,9 @@ plannedReport (value p) = planReport p
 plannedReport (refusal n) = refusedLine n
 
 abbrev pub targetReport : Answer ℕ → List ℕ
-targetReport (value hz) = plannedReport (systemPlan hz)
+targetReport (value hz) = plannedReport (systemPlan Rp2040 hz)
 targetReport (refusal n) = refusedLine n
 
--- the number on the first line is the target of the `system_freq` plan
+-- the number on the first line is the target of the RP2040's `system_freq` plan
 unfoldable pub reportOf : List ℕ → List ℕ
 reportOf input = targetReport (lineNumberOf input)

@@ -1,15 +1,17 @@
 -- The codes of ranges and sources: each is read back, and each fits the bits of its field.
 -- Assumes nothing.
-use mathlib.Core.Path.{_≡_, refl, ap}
+use mathlib.Core.Path.{_≡_, refl}
 use mathlib.Core.Bool.{Bool, true, false}
 use Prim.Native.Nat.{ℕ, _%_, _≤_, _<_}
 use native.Mathlib.Omega.{arith}
 use lib.Dec.{eqb}
 use borrow.Author.Tests.{eqb-true, eqb-false}
 use Rattle.base.specs.Choice.{pick}
-use Rattle.voltage.specs.declared.CoreVoltage.{CoreVoltage}
-use Rattle.voltage.specs.Voltage.{codeOf}
-use Rattle.voltage.proofs.Codes.{core-voltage-code}
+use Rattle.voltage.proofs.Codes.{core-voltage-code, code-small, bod-small}
+use Rattle.voltage.proofs.Codes.{core-voltage-code-235, code-small-235, bod-small-235}
+use Rattle.config.specs.declared.ChipConfig.{ChipConfig}
+use Rattle.config.specs.declared.ChipConfig.the-variants.{Rp2040 as on2040, Rp235x as on235x}
+use Rattle.config.specs.Board.{boardOf}
 use Rattle.config.specs.declared.RoscRange.{RoscRange}
 use Rattle.config.specs.declared.RoscRange.the-variants.{Low, Medium, High, TooHigh}
 use Rattle.config.specs.declared.RefClkSrc.{RefClkSrc}
@@ -26,7 +28,7 @@ use Rattle.config.specs.declared.AuxClkSrc.the-variants.{Xosc as auxXosc}
 use Rattle.config.specs.declared.OptionAux.{OptionAux}
 use Rattle.config.specs.declared.OptionAux.the-variants.{Some as aux, None as noAux}
 use Rattle.settings.specs.Codes.{rangeCode, refCode, sysSelect, sysAux, periAux, auxCode}
-use Rattle.settings.specs.Codes.{rangeFrom, refFrom, periFrom, auxFrom, divFrom, voltageIn, voltageFrom}
+use Rattle.settings.specs.Codes.{rangeFrom, refFrom, periFrom, auxFrom, divFrom, chipFrom}
 
 pub range-code : (x : RoscRange) → (rangeFrom (rangeCode x) ≡ x) × (rangeCode x < 4)
 range-code Low = (refl, omega arith)
@@ -59,8 +61,15 @@ sys-code sysPllUsb = omega arith
 sys-code sysRosc = omega arith
 sys-code sysXosc = omega arith
 
-pub voltage-code : (v : CoreVoltage) → voltageFrom (codeOf v) ≡ v
-voltage-code v = ap voltageIn (core-voltage-code v)
+-- the chip's part of a plan is read back from its numbers
+pub chip-back : (c : ChipConfig)
+    → chipFrom (boardOf c .chip) (boardOf c .code) (boardOf c .whole) (boardOf c .fraction) (boardOf c .rtc) ≡ c
+chip-back (on2040 c) = rw (core-voltage-code (c .«core_voltage»))
+chip-back (on235x c) = rw (core-voltage-code-235 (c .«core_voltage»))
+
+pub board-small : (c : ChipConfig) → (boardOf c .code < 16) × (boardOf c .brownout < 16)
+board-small (on2040 c) = (code-small (c .«core_voltage»), bod-small (c .«core_voltage»))
+board-small (on235x c) = (code-small-235 (c .«core_voltage»), bod-small-235 (c .«core_voltage»))
 
 -- a divider from 1 to 4 is read back from its two bits
 abbrev pub Small : ℕ → Type 0

@@ -4,13 +4,19 @@ use Prim.Native.Nat.{ℕ}
 use lib.Dec.{eqb}
 use Rattle.base.specs.Choice.{pick}
 use Rattle.base.specs.Answer.{Answer, value, refusal}
+use Rattle.chip.specs.declared.Chip.{Chip}
+use Rattle.chip.specs.declared.Chip.the-variants.{Rp2040, Rp235x}
 use Rattle.voltage.specs.declared.CoreVoltage.{CoreVoltage}
+use Rattle.voltage.specs.declared.CoreVoltage235.{CoreVoltage235}
 use Rattle.voltage.specs.Voltage.{coreVoltageOf}
+use Rattle.voltage.specs.Voltage235.{coreVoltage235Of}
 use Rattle.config.specs.declared.RoscRange.{RoscRange}
 use Rattle.config.specs.declared.RefClkSrc.{RefClkSrc}
 use Rattle.config.specs.declared.SysClkSrc.{SysClkSrc}
 use Rattle.config.specs.declared.PeriClkSrc.{PeriClkSrc}
 use Rattle.config.specs.declared.AuxClkSrc.{AuxClkSrc}
+use Rattle.config.specs.declared.OptionRtc.{OptionRtc}
+use Rattle.config.specs.declared.ChipConfig.{ChipConfig}
 
 -- step 12
 abbrev pub rangeCode : RoscRange → ℕ
@@ -82,10 +88,25 @@ auxFrom n = choose4 n AuxClkSrc.PllUsb AuxClkSrc.PllSys AuxClkSrc.Rosc AuxClkSrc
 abbrev pub divFrom : ℕ → ℕ
 divFrom n = pick (eqb n 0) 4 n
 
-abbrev pub voltageIn : Answer CoreVoltage → CoreVoltage
-voltageIn (value v) = v
-voltageIn (refusal n) = CoreVoltage.V1_10
+-- a value, or the other where there is none
+abbrev pub valueOr : {A : Type 0} → A → Answer A → A
+valueOr other (value v) = v
+valueOr other (refusal n) = other
 
--- the voltage of a code; 1.10 V for a number that is none
-abbrev pub voltageFrom : ℕ → CoreVoltage
-voltageFrom code = voltageIn (coreVoltageOf code)
+-- the chip's part of a plan, by its voltage code, system divider and RTC; 1.10 V for a code that is none
+abbrev pub chipFrom : Chip → ℕ → ℕ → ℕ → OptionRtc → ChipConfig
+chipFrom Rp2040 code whole fraction clock =
+    ChipConfig.Rp2040
+    (record {
+      «core_voltage» = valueOr CoreVoltage.V1_10 (coreVoltageOf code);
+      «div_int» = whole;
+      «div_frac» = fraction;
+      «rtc_clk» = clock;
+    })
+chipFrom Rp235x code whole fraction clock =
+    ChipConfig.Rp235x
+    (record {
+      «core_voltage» = valueOr CoreVoltage235.V1_10 (coreVoltage235Of code);
+      «div_int» = whole;
+      «div_frac» = fraction;
+    })

@@ -1,8 +1,12 @@
 -- The frequency of each clock in Hz, 0 where it is absent: the ten values that a sheet stores.
 -- Assumes nothing.
 use Prim.Native.Nat.{ℕ, _/_}
-use mathlib.Core.List.{List, [], _∷_}
+use mathlib.Core.List.{List, [], _∷_, _++_}
 use Rattle.base.specs.Choice.{pick}
+use Rattle.chip.specs.declared.Chip.{Chip}
+use Rattle.chip.specs.declared.Chip.the-variants.{Rp2040, Rp235x}
+use Rattle.chip.specs.declared.Facts.{Facts}
+use Rattle.chip.specs.Chips.{factsOf}
 use Rattle.divider.specs.Clock.{dividedHz}
 use Rattle.pll.specs.Setting.{validOf, outputHz}
 use Rattle.config.specs.declared.OptionRosc.{OptionRosc}
@@ -11,7 +15,8 @@ use Rattle.config.specs.declared.RefClkSrc.{RefClkSrc}
 use Rattle.config.specs.declared.SysClkSrc.{SysClkSrc}
 use Rattle.config.specs.declared.PeriClkSrc.{PeriClkSrc}
 use Rattle.config.specs.declared.RefClkConfig.{RefClkConfig}
-use Rattle.config.specs.declared.SysClkConfig.{SysClkConfig}
+use Rattle.config.specs.declared.Board.{Board}
+use Rattle.config.specs.Board.{boardOf}
 use Rattle.config.specs.declared.OptionPeri.{OptionPeri}
 use Rattle.config.specs.declared.AuxClkSrc.{AuxClkSrc}
 use Rattle.config.specs.declared.OptionAux.{OptionAux}
@@ -53,8 +58,9 @@ sysSource f reference SysClkSrc.PllUsb = f .«pll_usb»
 sysSource f reference SysClkSrc.Rosc = f .rosc
 sysSource f reference SysClkSrc.Xosc = f .xosc
 
-unfoldable pub sysHz : Sources → ℕ → SysClkConfig → ℕ
-sysHz f reference c = dividedHz (sysSource f reference (c .src)) (c .«div_int») (c .«div_frac»)
+-- the divider is the board's, in the chip's scale
+unfoldable pub sysHz : Board → Sources → ℕ → SysClkSrc → ℕ
+sysHz b f reference src = dividedHz (factsOf (b .chip) .scale) (sysSource f reference src) (b .whole) (b .fraction)
 
 abbrev pub periSource : Sources → ℕ → PeriClkSrc → ℕ
 periSource f system PeriClkSrc.Sys = system
@@ -79,10 +85,16 @@ auxHz f (OptionAux.Some a) = auxSource f (a .src) / a .div
 auxHz f OptionAux.None = 0
 
 abbrev pub rtcHz : Sources → OptionRtc → ℕ
-rtcHz f (OptionRtc.Some r) = dividedHz (auxSource f (r .src)) (r .«div_int») (r .«div_frac»)
+rtcHz f (OptionRtc.Some r) = dividedHz 256 (auxSource f (r .src)) (r .«div_int») (r .«div_frac»)
 rtcHz f OptionRtc.None = 0
 
 -- of settings
+
+abbrev pub boardIn : Settings → Board
+boardIn s = boardOf (s .chip)
+
+abbrev pub factsIn : Settings → Facts
+factsIn s = factsOf (boardIn s .chip)
 
 abbrev pub sourcesIn : Settings → Sources
 sourcesIn s = sourcesOf (s .rosc) (s .xosc)
@@ -90,24 +102,30 @@ sourcesIn s = sourcesOf (s .rosc) (s .xosc)
 abbrev pub refIn : Settings → ℕ
 refIn s = refHz (sourcesIn s) (s .reference)
 
-abbrev pub sysIn : Settings → ℕ
-sysIn s = sysHz (sourcesIn s) (refIn s) (s .sys)
+abbrev pub sysWith : Settings → Board → ℕ
+sysWith s b = sysHz b (sourcesIn s) (refIn s) (s .sys)
 
-abbrev pub frequenciesOf : Settings → Frequencies
-frequenciesOf s =
+abbrev pub sysIn : Settings → ℕ
+sysIn s = sysWith s (boardIn s)
+
+abbrev pub frequenciesWith : Settings → Board → Frequencies
+frequenciesWith s b =
     record {
       sources = sourcesIn s;
       reference = refIn s;
-      sys = sysIn s;
-      peri = periHz (sourcesIn s) (sysIn s) (s .peri);
+      sys = sysWith s b;
+      peri = periHz (sourcesIn s) (sysWith s b) (s .peri);
       usb = auxHz (sourcesIn s) (s .usb);
       adc = auxHz (sourcesIn s) (s .adc);
-      rtc = rtcHz (sourcesIn s) (s .rtc);
+      rtc = rtcHz (sourcesIn s) (b .rtc);
     }
 
--- the ten, in the order of the clocks
-abbrev pub tenOf : Frequencies → List ℕ
-tenOf f =
+abbrev pub frequenciesOf : Settings → Frequencies
+frequenciesOf s = frequenciesWith s (boardIn s)
+
+-- the nine that a sheet of either chip stores, in the order of the clocks
+abbrev pub nineOf : Frequencies → List ℕ
+nineOf f =
     f .sources .rosc
     ∷ f .sources .xosc
     ∷ f .sources .«pll_sys»
@@ -117,8 +135,16 @@ tenOf f =
     ∷ f .peri
     ∷ f .usb
     ∷ f .adc
-    ∷ f .rtc
     ∷ []
 
+-- and the RTC's, which an RP235x's sheet leaves as it was
+abbrev pub tenthOf : Chip → ℕ → List ℕ
+tenthOf Rp2040 hz = hz ∷ []
+tenthOf Rp235x hz = []
+
 unfoldable pub storedOf : Settings → List ℕ
-storedOf s = tenOf (frequenciesOf s)
+storedOf s = nineOf (frequenciesOf s) ++ tenthOf (boardIn s .chip) (frequenciesOf s .rtc)
+
+-- what a fresh runner holds after the sheet: the RTC of an RP235x has 0 Hz
+unfoldable pub tenOf : Settings → List ℕ
+tenOf s = nineOf (frequenciesOf s) ++ (frequenciesOf s .rtc ∷ [])

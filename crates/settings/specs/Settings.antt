@@ -4,13 +4,13 @@
 use Prim.Native.Nat.{ℕ}
 use lib.Dec.{eqb}
 use Rattle.base.specs.Choice.{pick}
-use Rattle.voltage.specs.declared.CoreVoltage.{CoreVoltage}
-use Rattle.voltage.specs.Voltage.{codeOf, settlingOf}
 use Rattle.divider.specs.Delay.{delayOf, settlingCycles}
 use Rattle.config.specs.declared.OptionRosc.{OptionRosc}
 use Rattle.config.specs.declared.OptionXosc.{OptionXosc}
 use Rattle.config.specs.declared.OptionU32.{OptionU32}
 use Rattle.config.specs.declared.ClockConfig.{ClockConfig}
+use Rattle.config.specs.declared.Board.{Board}
+use Rattle.config.specs.Board.{boardOf}
 use Rattle.settings.specs.declared.OptionCrystal.{OptionCrystal}
 use Rattle.settings.specs.declared.OptionCycles.{OptionCycles}
 use Rattle.settings.specs.declared.Settings.{Settings}
@@ -28,29 +28,34 @@ ringHz (OptionRosc.Some r) = r .hz
 ringHz OptionRosc.None = 0
 
 -- the given settling time, else the voltage's
-abbrev pub settlingTime : OptionU32 → CoreVoltage → ℕ
-settlingTime (OptionU32.Some time) v = time
-settlingTime OptionU32.None v = settlingOf v
+abbrev pub settlingTime : OptionU32 → ℕ → ℕ
+settlingTime (OptionU32.Some time) default = time
+settlingTime OptionU32.None default = default
 
 -- none where the voltage code equals the reading or the settling time is 0, else its cycles
 unfoldable pub settlingStep : ℕ → ℕ → ℕ → ℕ → OptionCycles
 settlingStep reading code time hz =
     pick (eqb code reading) OptionCycles.None (pick (eqb time 0) OptionCycles.None (OptionCycles.Some (settlingCycles time hz)))
 
-abbrev pub settingsOf : ClockConfig → ℕ → Settings
-settingsOf p reading =
+-- the settling step of a plan for this board
+abbrev pub settlingIn : ClockConfig → ℕ → Board → OptionCycles
+settlingIn p reading b =
+    settlingStep reading (b .code) (settlingTime (p .«voltage_stabilization_delay_us») (b .«settling_us»)) (ringHz (p .rosc))
+
+-- a plan's settings, with what its chip comes to
+abbrev pub settingsWith : ClockConfig → Board → ℕ → Settings
+settingsWith p b reading =
     record {
+      chip = p .chip;
       rosc = p .rosc;
       xosc = crystalOf (p .xosc);
-      voltage = p .«core_voltage»;
-      settling =
-          settlingStep reading (codeOf (p .«core_voltage»))
-          (settlingTime (p .«voltage_stabilization_delay_us») (p .«core_voltage»))
-          (ringHz (p .rosc));
+      settling = settlingIn p reading b;
       reference = p .«ref_clk»;
-      sys = p .«sys_clk»;
+      sys = p .«sys_clk_src»;
       peri = p .«peri_clk_src»;
       usb = p .«usb_clk»;
       adc = p .«adc_clk»;
-      rtc = p .«rtc_clk»;
     }
+
+abbrev pub settingsOf : ClockConfig → ℕ → Settings
+settingsOf p reading = settingsWith p (boardOf (p .chip)) reading

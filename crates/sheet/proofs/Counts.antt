@@ -1,20 +1,22 @@
 -- What a sheet holds at most: for any weight of the kinds no sheet weighs more than one with every part. So it has at most
 -- 65 steps.
 -- Assumes nothing.
-use Prim.Native.Nat.{ℕ, _+_, _≤_}
+use Prim.Native.Nat.{ℕ, _+_, _/_, _≤_}
 use mathlib.Core.Bool.{Bool, true, false}
 use mathlib.Core.List.{List, [], _∷_, _++_}
-use mathlib.Core.Path.{_≡_}
+use mathlib.Core.Path.{_≡_, refl}
 use lib.Dec.{eqb}
 use lib.ListN.{length}
 use native.Mathlib.Omega.{arith}
 use Rattle.base.specs.Choice.{pick}
-use Rattle.voltage.specs.declared.CoreVoltage.{CoreVoltage}
-use Rattle.voltage.specs.Voltage.{codeOf, bodOf}
+use Rattle.chip.specs.declared.Chip.{Chip}
+use Rattle.chip.specs.declared.Chip.the-variants.{Rp2040, Rp235x}
+use Rattle.chip.specs.Chips.{factsOf}
 use Rattle.step.specs.declared.Step.{Step}
 use Rattle.step.specs.Sheet.{maxSteps}
 use Rattle.step.specs.Kinds as kind
-use Rattle.config.specs.declared.SysClkConfig.{SysClkConfig}
+use Rattle.config.specs.declared.Board.{Board}
+use Rattle.config.specs.declared.SysClkSrc.{SysClkSrc}
 use Rattle.config.specs.declared.OptionRosc.{OptionRosc}
 use Rattle.config.specs.declared.OptionRosc.the-variants.{Some as ring, None as noRing}
 use Rattle.config.specs.declared.OptionPll.{OptionPll}
@@ -32,9 +34,10 @@ use Rattle.settings.specs.declared.OptionCycles.the-variants.{Some as cycles, N
 use Rattle.settings.specs.declared.Settings.{Settings}
 use Rattle.settings.specs.declared.Frequencies.{Frequencies}
 use Rattle.settings.specs.Codes.{sysSelect}
-use Rattle.sheet.specs.Steps.{step1, step2, headPart, ringPart, settlingSteps, voltagePart, pllSteps}
-use Rattle.sheet.specs.Steps.{crystalPart, switchSteps, sysPart, periPart, auxPart, rtcPart, clocksPart}
-use Rattle.sheet.specs.Steps.{stepsWith, stepsOf}
+use Rattle.settings.specs.Frequencies.{boardIn}
+use Rattle.sheet.specs.Steps.{step1, step2, markSteps, headPart, ringPart, settlingSteps, voltagePart, pllSteps}
+use Rattle.sheet.specs.Steps.{crystalPart, tickSteps, switchSteps, sysPart, periPart, auxPart, rtcPart, clocksPart}
+use Rattle.sheet.specs.Steps.{stepsWith, stepsOf, mostSteps}
 
 -- the sum of a weight over kinds, and over the kinds of steps
 abbrev pub weight : (ℕ → ℕ) → List ℕ → ℕ
@@ -49,6 +52,10 @@ weigh-append : (w : ℕ → ℕ) (xs ys : List Step) → weigh w (xs ++ ys) ≡ 
 weigh-append w [] ys = omega arith
 weigh-append w (x ∷ xs) ys = omega (arith, weigh-append w xs ys)
 
+weight-append : (w : ℕ → ℕ) (xs ys : List ℕ) → weight w (xs ++ ys) ≡ weight w xs + weight w ys
+weight-append w [] ys = omega arith
+weight-append w (x ∷ xs) ys = omega (arith, weight-append w xs ys)
+
 -- the kinds of each part where nothing is absent (docs/FORMAT.md, Order of a sheet)
 abbrev headKinds : List ℕ
 headKinds = 1 ∷ 4 ∷ 5 ∷ 6 ∷ 7 ∷ 8 ∷ 1 ∷ 2 ∷ 3 ∷ []
@@ -56,8 +63,8 @@ headKinds = 1 ∷ 4 ∷ 5 ∷ 6 ∷ 7 ∷ 8 ∷ 1 ∷ 2 ∷ 3 ∷ []
 abbrev ringKinds : List ℕ
 ringKinds = 9 ∷ 10 ∷ 11 ∷ 12 ∷ 37 ∷ []
 
-abbrev voltageKinds : List ℕ
-voltageKinds = 13 ∷ 14 ∷ 15 ∷ []
+abbrev voltageKinds : Chip → List ℕ
+voltageKinds chip = factsOf chip .voltage ∷ 14 ∷ factsOf chip .brownout ∷ []
 
 abbrev pllKinds : List ℕ
 pllKinds = 19 ∷ 14 ∷ 20 ∷ 21 ∷ 19 ∷ 22 ∷ 23 ∷ 24 ∷ 14 ∷ []
@@ -65,31 +72,53 @@ pllKinds = 19 ∷ 14 ∷ 20 ∷ 21 ∷ 19 ∷ 22 ∷ 23 ∷ 24 ∷ 14 ∷ []
 abbrev crystalKinds : List ℕ
 crystalKinds = 16 ∷ 17 ∷ 18 ∷ (pllKinds ++ pllKinds)
 
-abbrev sysKinds : List ℕ
-sysKinds = 37 ∷ 28 ∷ 6 ∷ 28 ∷ 6 ∷ 29 ∷ []
+abbrev sysKinds : Chip → List ℕ
+sysKinds chip = 37 ∷ 28 ∷ 6 ∷ 28 ∷ 6 ∷ factsOf chip .divider ∷ []
 
-abbrev clocksKinds : List ℕ
-clocksKinds =
-    37 ∷ 37 ∷ 37 ∷ 37 ∷ 25 ∷ 8 ∷ 26 ∷ 27
-    ∷ (sysKinds ++ (30 ∷ 37 ∷ 31 ∷ 32 ∷ 37 ∷ 33 ∷ 34 ∷ 37 ∷ 35 ∷ 36 ∷ 37 ∷ 2 ∷ 3 ∷ []))
+-- what the chips have apart
+abbrev markKinds : Chip → List ℕ
+markKinds Rp2040 = []
+markKinds Rp235x = 38 ∷ []
 
-unfoldable pub sheetKinds : List ℕ
-sheetKinds = headKinds ++ (ringKinds ++ (voltageKinds ++ (crystalKinds ++ clocksKinds)))
+abbrev tickKinds : Chip → List ℕ
+tickKinds Rp2040 = 27 ∷ []
+tickKinds Rp235x = 39 ∷ 40 ∷ 41 ∷ 42 ∷ []
+
+abbrev rtcKinds : Chip → List ℕ
+rtcKinds Rp2040 = 35 ∷ 36 ∷ 37 ∷ []
+rtcKinds Rp235x = []
+
+unfoldable pub clocksKinds : Chip → List ℕ
+clocksKinds chip =
+    37 ∷ 37 ∷ 37 ∷ 37 ∷ 25 ∷ 8 ∷ 26
+    ∷ (tickKinds chip
+    ++ (sysKinds chip ++ (30 ∷ 37 ∷ 31 ∷ 32 ∷ 37 ∷ 33 ∷ 34 ∷ 37 ∷ (rtcKinds chip ++ (2 ∷ 3 ∷ [])))))
+
+unfoldable pub sheetKinds : Chip → List ℕ
+sheetKinds chip =
+    markKinds chip ++ (headKinds ++ (ringKinds ++ (voltageKinds chip ++ (crystalKinds ++ clocksKinds chip))))
 
 module _ (w : ℕ → ℕ) where
-  ring-most : (o : OptionRosc) → weigh w (ringPart o) ≤ weight w ringKinds
-  unfolding ringPart
-  ring-most (ring r) = omega arith
-  ring-most noRing = omega arith
+  mark-most : (chip : Chip) → weigh w (markSteps chip) ≤ weight w (markKinds chip)
+  mark-most Rp2040 = omega arith
+  mark-most Rp235x = omega arith
 
-  voltage-most : (reading : ℕ) (v : CoreVoltage) (o : OptionCycles)
-      → weigh w (voltagePart reading v o) ≤ weight w voltageKinds
+  ring-most : (pass : ℕ) (o : OptionRosc) → weigh w (ringPart pass o) ≤ weight w ringKinds
+  unfolding ringPart
+  ring-most pass (ring r) = omega arith
+  ring-most pass noRing = omega arith
+
+  voltage-most : (reading : ℕ) (b : Board) (o : OptionCycles)
+      → weigh w (voltagePart reading b o) ≤ weight w (voltageKinds (b .chip))
   unfolding voltagePart
-  voltage-most reading v o = go (eqb (codeOf v) reading) o
+  voltage-most reading b o = go (eqb (b .code) reading) o
     where
-      go : (b : Bool) (o : OptionCycles)
-          → weigh w (pick b [] (step1 kind.voltage (codeOf v) ∷ (settlingSteps o ++ (step1 kind.brownout (bodOf v) ∷ []))))
-          ≤ weight w voltageKinds
+      changing : OptionCycles → List Step
+      changing o =
+          step1 (factsOf (b .chip) .voltage) (b .code)
+          ∷ (settlingSteps o ++ (step1 (factsOf (b .chip) .brownout) (b .brownout) ∷ []))
+
+      go : (same : Bool) (o : OptionCycles) → weigh w (pick same [] (changing o)) ≤ weight w (voltageKinds (b .chip))
       go true o = omega arith
       go false noCycles = omega arith
       go false (cycles n) = omega arith
@@ -112,9 +141,13 @@ module _ (w : ℕ → ℕ) where
       go true = omega arith
       go false = omega arith
 
-  sys-most : (hz : ℕ) (c : SysClkConfig) → weigh w (sysPart hz c) ≤ weight w sysKinds
+  tick-most : (chip : Chip) (mhz : ℕ) → weigh w (tickSteps chip mhz) ≤ weight w (tickKinds chip)
+  tick-most Rp2040 mhz = omega arith
+  tick-most Rp235x mhz = omega arith
+
+  sys-most : (b : Board) (hz : ℕ) (src : SysClkSrc) → weigh w (sysPart b hz src) ≤ weight w (sysKinds (b .chip))
   unfolding sysPart
-  sys-most hz c = simp (weigh-append w) (omega (arith, switch-most (sysSelect (c .src))))
+  sys-most b hz src = simp (weigh-append w) (omega (arith, switch-most (sysSelect src)))
 
   peri-most : (hz : ℕ) (o : OptionPeri) → weigh w (periPart hz o) ≤ weight w (30 ∷ 37 ∷ [])
   unfolding periPart
@@ -127,43 +160,56 @@ module _ (w : ℕ → ℕ) where
   aux-most divider control clock hz (aux a) = omega arith
   aux-most divider control clock hz noAux = omega arith
 
-  rtc-most : (hz : ℕ) (o : OptionRtc) → weigh w (rtcPart hz o) ≤ weight w (35 ∷ 36 ∷ 37 ∷ [])
+  rtc-most : (chip : Chip) (hz : ℕ) (o : OptionRtc) → weigh w (rtcPart chip hz o) ≤ weight w (rtcKinds chip)
   unfolding rtcPart
-  rtc-most hz (rtc r) = omega arith
-  rtc-most hz noRtc = omega arith
+  rtc-most Rp2040 hz (rtc r) = omega arith
+  rtc-most Rp2040 hz noRtc = omega arith
+  rtc-most Rp235x hz o = omega arith
 
-  clocks-most : (s : Settings) (f : Frequencies) → weigh w (clocksPart s f) ≤ weight w clocksKinds
-  unfolding clocksPart
-  clocks-most s f =
-      simp (weigh-append w)
+  clocks-most : (s : Settings) (b : Board) (f : Frequencies) → weigh w (clocksPart s b f) ≤ weight w (clocksKinds (b .chip))
+  unfolding clocksPart clocksKinds
+  clocks-most s b f =
+      simp (weigh-append w, weight-append w)
       (omega (
         arith,
-        sys-most (f .sys) (s .sys),
+        tick-most (b .chip) (f .reference / 1000000),
+        sys-most b (f .sys) (s .sys),
         peri-most (f .peri) (s .peri),
         aux-most kind.usb-divider kind.usb-control 7 (f .usb) (s .usb),
         aux-most kind.adc-divider kind.adc-control 8 (f .adc) (s .adc),
-        rtc-most (f .rtc) (s .rtc),
+        rtc-most (b .chip) (f .rtc) (b .rtc),
       ))
 
-  with-most : (reading : ℕ) (s : Settings) (f : Frequencies) → weigh w (stepsWith reading s f) ≤ weight w sheetKinds
+  with-most : (reading : ℕ) (s : Settings) (b : Board) (f : Frequencies)
+      → weigh w (stepsWith reading s b f) ≤ weight w (sheetKinds (b .chip))
   unfolding stepsWith headPart sheetKinds
-  with-most reading s f =
-      simp (weigh-append w)
+  with-most reading s b f =
+      simp (weigh-append w, weight-append w)
       (omega (
         arith,
-        ring-most (s .rosc),
-        voltage-most reading (s .voltage) (s .settling),
+        mark-most (b .chip),
+        ring-most (factsOf (b .chip) .pass) (s .rosc),
+        voltage-most reading b (s .settling),
         crystal-most (s .xosc),
-        clocks-most s f,
+        clocks-most s b f,
       ))
 
-  pub steps-most : (reading : ℕ) (s : Settings) → weigh w (stepsOf reading s) ≤ weight w sheetKinds
-  steps-most reading s = with-most reading s _
+  pub steps-most : (reading : ℕ) (s : Settings) → weigh w (stepsOf reading s) ≤ weight w (sheetKinds (boardIn s .chip))
+  steps-most reading s = with-most reading s _ _
 
 counted : (xs : List Step) → weigh (λ k. 1) xs ≡ length xs
 counted [] = omega arith
 counted (x ∷ xs) = omega (arith, counted xs)
 
+chip-count : (chip : Chip) → (weight (λ k. 1) (sheetKinds chip) ≡ mostSteps chip) × (mostSteps chip ≤ maxSteps)
+unfolding sheetKinds clocksKinds
+chip-count Rp2040 = (refl, omega arith)
+chip-count Rp235x = (refl, omega arith)
+
+-- a sheet has at most its chip's steps: 65 of the RP2040
+pub chip-few : (reading : ℕ) (s : Settings) → length (stepsOf reading s) ≤ mostSteps (boardIn s .chip)
+chip-few reading s =
+    omega (arith, steps-most (λ k. 1) reading s, counted (stepsOf reading s), chip-count (boardIn s .chip) .0)
+
 pub steps-few : (reading : ℕ) (s : Settings) → length (stepsOf reading s) ≤ maxSteps
-unfolding sheetKinds
-steps-few reading s = omega (arith, steps-most (λ k. 1) reading s, counted (stepsOf reading s))
+steps-few reading s = omega (arith, chip-few reading s, chip-count (boardIn s .chip) .1)

@@ -16,6 +16,7 @@ use Rattle.base.specs.declared.Length.the-variants.{Refused}
 use Rattle.step.specs.Sheet.{encoded}
 use Rattle.step.proofs.Sheets.{encoded-injective}
 use Rattle.config.specs.declared.ClockConfig.{ClockConfig}
+use Rattle.config.specs.Board.{boardOf}
 use Rattle.settings.specs.declared.Settings.{Settings}
 use Rattle.settings.specs.Settings.{settingsOf}
 use Rattle.settings.specs.Typed.{Typed}
@@ -41,6 +42,13 @@ same-sheets p q reading tp tq ep eq = (
       ∙ settings-back q reading eq),
   λ e. ap (λ (s : Settings). encoded (stepsOf reading s)) e,
 )
+
+-- so a sheet tells its chip
+pub one-chip : (p q : ClockConfig) (reading : ℕ) → Typed (settingsOf p reading) → Typed (settingsOf q reading)
+    → refusalIn p reading ≡ 0 → refusalIn q reading ≡ 0
+    → sheetBytes p reading ≡ sheetBytes q reading → boardOf (p .chip) .chip ≡ boardOf (q .chip) .chip
+one-chip p q reading tp tq ep eq e =
+    ap (λ (s : Settings). boardOf (s .chip) .chip) (same-sheets p q reading tp tq ep eq .0 e)
 
 -- ---- of the writer
 

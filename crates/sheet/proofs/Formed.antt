@@ -2,16 +2,16 @@
 -- Assumes nothing.
 use mathlib.Core.Path.{_≡_, refl}
 use mathlib.Core.Bool.{Bool, true, false, _||_}
-use Prim.Native.Nat.{ℕ, _/_, _≤_, _<_, _^_}
+use Prim.Native.Nat.{ℕ, _+_, _/_, _≤_, _<_, _^_}
 use native.Mathlib.Omega.{arith}
 use mathlib.Core.List.{List, [], _∷_, _++_}
 use lib.Dec.{T, eqb, ltb, le→leb}
 use borrow.Author.Tests.{ltb-false, not-false}
 use Rattle.base.specs.Choice.{pick}
 use Rattle.base.proofs.Bools.{both-false}
-use Rattle.voltage.specs.declared.CoreVoltage.{CoreVoltage}
-use Rattle.voltage.specs.Voltage.{codeOf, bodOf}
-use Rattle.voltage.proofs.Codes.{code-small, bod-small}
+use Rattle.chip.specs.declared.Chip.{Chip}
+use Rattle.chip.specs.declared.Chip.the-variants.{Rp2040, Rp235x}
+use Rattle.chip.specs.Chips.{factsOf}
 use Rattle.pll.specs.Setting.{validOf}
 use Rattle.pll.proofs.Valid.{valid}
 use Rattle.step.specs.declared.Step.{Step}
@@ -21,7 +21,8 @@ use Rattle.step.specs.Layout.{rows, width, widths}
 use Rattle.step.specs.Steps.{values, known, storable}
 use Rattle.step.specs.Sheet.{AllFormed}
 use Rattle.config.specs.declared.RefClkConfig.{RefClkConfig}
-use Rattle.config.specs.declared.SysClkConfig.{SysClkConfig}
+use Rattle.config.specs.declared.SysClkSrc.{SysClkSrc}
+use Rattle.config.specs.declared.Board.{Board}
 use Rattle.config.specs.declared.OptionRosc.{OptionRosc}
 use Rattle.config.specs.declared.OptionRosc.the-variants.{Some as ring, None as noRing}
 use Rattle.config.specs.declared.OptionPll.{OptionPll}
@@ -45,9 +46,9 @@ use Rattle.settings.proofs.Small.{Hz, AllHz}
 use Rattle.refusals.specs.Refusals.{strengthsOver, ringDividerOver, settlingOver, startupOver, pllInvalid}
 use Rattle.refusals.specs.Refusals.{sysPllInvalid, usbPllInvalid, wholeBad, rtcBad}
 use Rattle.refusals.proofs.Accepted.{whole-good}
-use Rattle.sheet.specs.Steps.{step1, step2, storeStep, headPart, ringPart, settlingSteps, voltagePart, pllSteps}
-use Rattle.sheet.specs.Steps.{crystalPart, sourcePart, refPart, switchSteps, sysPart, periPart, auxPart}
-use Rattle.sheet.specs.Steps.{rtcPart, releaseMask, lastPart}
+use Rattle.sheet.specs.Steps.{step1, step2, storeStep, markSteps, headPart, ringPart, settlingSteps, voltagePart}
+use Rattle.sheet.specs.Steps.{pllSteps, crystalPart, sourcePart, tickSteps, refPart, switchSteps, sysPart, periPart}
+use Rattle.sheet.specs.Steps.{auxPart, rtcPart, releaseMask, lastPart}
 use Rattle.settings.proofs.Decoded.{range-code, ref-code, sys-code, peri-code, aux-code}
 use Rattle.sheet.proofs.Facts.{none-more, AuxFits}
 
@@ -78,17 +79,51 @@ all-formed (x ∷ xs) g = (record { is-known = g .0 .0; fill = g .0 .1; stores =
 pub formed : {xs : List Step} → GoodSteps xs → AllFormed xs
 formed {xs} g = all-formed xs (g .each)
 
-pub head-good : GoodSteps headPart
+-- what differs between the chips fits too
+
+-- masks of 25 bits
+pub masks : (chip : Chip) → (factsOf chip .first < 2 ^ 25) × (factsOf chip .plls < 2 ^ 25) × (factsOf chip .last < 2 ^ 25)
+masks Rp2040 = omega arith
+masks Rp235x = omega arith
+
+voltage-step : (chip : Chip) (n : ℕ) → n < 16 → Good (step1 (factsOf chip .voltage) n)
+unfolding known widths width rows storable
+voltage-step Rp2040 n h = omega arith
+voltage-step Rp235x n h = omega arith
+
+brownout-step : (chip : Chip) (n : ℕ) → n < 16 → Good (step1 (factsOf chip .brownout) n)
+unfolding known widths width rows storable
+brownout-step Rp2040 n h = omega arith
+brownout-step Rp235x n h = omega arith
+
+divider-step : (chip : Chip) (w f : ℕ) → w ≤ factsOf chip .«top_whole» → f < factsOf chip .scale
+    → Good (step2 (factsOf chip .divider) w f)
+unfolding known widths width rows storable
+divider-step Rp2040 w f h g = omega arith
+divider-step Rp235x w f h g = omega arith
+
+tick-good : (chip : Chip) (n : ℕ) → n < 512 → AllGood (tickSteps chip n)
+unfolding known widths width rows storable
+tick-good Rp2040 n h = omega arith
+tick-good Rp235x n h = (omega arith, (omega arith, omega arith))
+
+pub mark-good : (chip : Chip) → GoodSteps (markSteps chip)
+unfolding known widths width rows storable
+mark-good Rp2040 = record { each = tt }
+mark-good Rp235x = record { each = omega arith }
+
+pub head-good : (chip : Chip) → GoodSteps (headPart chip)
 unfolding headPart known widths width rows storable
-head-good =
+head-good chip =
+    let m = masks chip in
     record {
-      each = (omega arith, (omega arith, (omega arith, (omega arith, (omega arith, (omega arith, omega arith))))));
+      each = (omega (arith, m .0), (omega arith, (omega arith, (omega arith, (omega arith, (omega arith, omega (arith, m .1)))))));
     }
 
-pub ring-good : (o : OptionRosc) → Hz (ringHz o) → strengthsOver o ≡ false → ringDividerOver o ≡ false
-    → GoodSteps (ringPart o)
+pub ring-good : (pass : ℕ) (o : OptionRosc) → Hz (ringHz o) → strengthsOver o ≡ false → ringDividerOver pass o ≡ false
+    → GoodSteps (ringPart pass o)
 unfolding ringPart strengthsOver ringDividerOver known widths width rows storable
-ring-good (ring r) t s d =
+ring-good pass (ring r) t s d =
     let g = r .«drive_strength» in
     let h7 = none-more _ 7 (g .s7) s in
     let h6 = none-more _ 7 (g .s6) (h7 .0) in
@@ -98,25 +133,28 @@ ring-good (ring r) t s d =
     let h2 = none-more _ 7 (g .s2) (h3 .0) in
     let h1 = none-more _ 7 (g .s1) (h2 .0) in
     let h0 = ltb-false 7 (g .s0) (h1 .0) in
-    let d′ = ltb-false 62815 (r .div) d in
+    let d′ = ltb-false 65535 (r .div + pass) d in
     record { each = (omega arith, (omega arith, omega (arith, range-code (r .range) .1))) }
-ring-good noRing t s d = record { each = omega arith }
+ring-good pass noRing t s d = record { each = omega arith }
 
 settling-good : (o : OptionCycles) → settlingOver o ≡ false → AllGood (settlingSteps o)
 unfolding settlingOver known widths width rows storable
 settling-good noCycles e = tt
 settling-good (cycles n) e = omega (arith, ltb-false 4294967295 n e)
 
-pub voltage-good : (reading : ℕ) (v : CoreVoltage) (o : OptionCycles) → settlingOver o ≡ false
-    → GoodSteps (voltagePart reading v o)
-unfolding voltagePart known widths width rows storable
-voltage-good reading v o h = record { each = go (eqb (codeOf v) reading) }
+pub voltage-good : (reading : ℕ) (b : Board) (o : OptionCycles) → (b .code < 16) × (b .brownout < 16)
+    → settlingOver o ≡ false → GoodSteps (voltagePart reading b o)
+unfolding voltagePart
+voltage-good reading b o small h = record { each = go (eqb (b .code) reading) }
   where
-    go : (b : Bool) → AllGood (pick b [] (step1 kind.voltage (codeOf v) ∷ (settlingSteps o ++ (step1 kind.brownout (bodOf v) ∷ []))))
+    end : List Step
+    end = step1 (factsOf (b .chip) .brownout) (b .brownout) ∷ []
+
+    go : (same : Bool) → AllGood (pick same [] (step1 (factsOf (b .chip) .voltage) (b .code) ∷ (settlingSteps o ++ end)))
     go true = tt
     go false = (
-      omega (arith, code-small v),
-      good-append (settlingSteps o) (step1 kind.brownout (bodOf v) ∷ []) (settling-good o h) (omega (arith, bod-small v)),
+      voltage-step (b .chip) (b .code) (small .0),
+      good-append (settlingSteps o) end (settling-good o h) (brownout-step (b .chip) (b .brownout) (small .1), tt),
     )
 
 pll-good : (which hz : ℕ) → which < 2 → (o : OptionPll) → pllInvalid hz o ≡ false → AllGood (pllSteps which o)
@@ -141,9 +179,11 @@ pub source-good : (f : Sources) → AllHz f → GoodSteps (sourcePart f)
 unfolding known widths width rows storable
 source-good f h = record { each = omega arith }
 
-pub ref-good : (hz : ℕ) (c : RefClkConfig) → hz < 512000000 → GoodSteps (refPart hz c)
+pub ref-good : (chip : Chip) (hz : ℕ) (c : RefClkConfig) → hz < 512000000 → GoodSteps (refPart chip hz c)
 unfolding known widths width rows storable
-ref-good hz c h = let s = ref-code (c .src) .1 in record { each = (omega arith, (omega arith, omega arith)) }
+ref-good chip hz c h =
+    let s = ref-code (c .src) .1 in
+    record { each = (omega arith, (omega arith, (omega arith, (omega arith, tick-good chip (hz / 1000000) (omega arith))))) }
 
 switch-good : (select : ℕ) → AllGood (switchSteps select)
 unfolding switchSteps known widths width rows storable
@@ -153,12 +193,19 @@ switch-good select = go (eqb select 0)
     go true = tt
     go false = omega arith
 
-pub sys-good : (hz : ℕ) (c : SysClkConfig) → Hz hz → c .«div_int» ≤ 16777215 → c .«div_frac» < 2 ^ 8
-    → GoodSteps (sysPart hz c)
+pub sys-good : (b : Board) (hz : ℕ) (src : SysClkSrc) → Hz hz → b .whole ≤ factsOf (b .chip) .«top_whole»
+    → b .fraction < factsOf (b .chip) .scale → GoodSteps (sysPart b hz src)
 unfolding sysPart known widths width rows storable
-sys-good hz c h w f =
-    let select : ℕ = sysSelect (c .src) in
-    record { each = (omega arith, good-append (switchSteps select) _ (switch-good select) (omega (arith, sys-code (c .src)))) }
+sys-good b hz src h w f =
+    let select : ℕ = sysSelect src in
+    let codes = sys-code src in
+    record {
+      each = (
+        omega arith,
+        good-append (switchSteps select) _ (switch-good select)
+            (omega arith, (omega arith, (divider-step (b .chip) (b .whole) (b .fraction) w f, tt))),
+      );
+    }
 
 pub peri-good : (hz : ℕ) → Hz hz → (o : OptionPeri) → GoodSteps (periPart hz o)
 unfolding periPart known widths width rows storable
@@ -175,19 +222,21 @@ aux-good false hz h (aux a) d = record { each = omega (arith, aux-code (a .src) 
 aux-good true hz h noAux d = record { each = omega arith }
 aux-good false hz h noAux d = record { each = omega arith }
 
-pub rtc-good : (f : Sources) (hz : ℕ) → hz ≤ 65535 → (o : OptionRtc) → RtcTyped o → rtcBad f hz o ≡ false
-    → GoodSteps (rtcPart hz o)
+pub rtc-good : (chip : Chip) (f : Sources) (hz : ℕ) → hz ≤ 65535 → (o : OptionRtc) → RtcTyped o → rtcBad f hz o ≡ false
+    → GoodSteps (rtcPart chip hz o)
 unfolding rtcPart rtcBad known widths width rows storable
-rtc-good f hz few (rtc r) t e =
+rtc-good Rp2040 f hz few (rtc r) t e =
     let still : Bool = eqb (auxSource f (r .src)) 0 in
-    let h3 = none-more (still || wholeBad (r .«div_int») || ltb 3 (r .phase)) 65535 hz e in
-    let h2 = none-more (still || wholeBad (r .«div_int»)) 3 (r .phase) (h3 .0) in
-    let w = whole-good (r .«div_int») (both-false still (wholeBad (r .«div_int»)) (h2 .0) .1) in
+    let h3 = none-more (still || wholeBad 16777215 (r .«div_int») || ltb 3 (r .phase)) 65535 hz e in
+    let h2 = none-more (still || wholeBad 16777215 (r .«div_int»)) 3 (r .phase) (h3 .0) in
+    let w = whole-good 16777215 (r .«div_int») (both-false still (wholeBad 16777215 (r .«div_int»)) (h2 .0) .1) in
     let turn : r .phase ≤ 3 = h2 .1 in
     let held : Good (storeStep 9 hz) = (tt, omega (arith, few), le→leb hz 65535 few) in
     record { each = (omega (arith, w), (omega (arith, aux-code (r .src) .1), (held, tt))) }
-rtc-good f hz few noRtc t e = record { each = ((tt, omega (arith, few), le→leb hz 65535 few), tt) }
+rtc-good Rp2040 f hz few noRtc t e = record { each = ((tt, omega (arith, few), le→leb hz 65535 few), tt) }
+rtc-good Rp235x f hz few o t e = record { each = tt }
 
-pub last-good : (p : OptionPeri) (u a : OptionAux) (r : OptionRtc) → GoodSteps (lastPart (releaseMask p u a r))
+pub last-good : (chip : Chip) (p : OptionPeri) (u a : OptionAux) (r : OptionRtc)
+    → GoodSteps (lastPart (releaseMask chip p u a r))
 unfolding releaseMask known widths width rows storable
-last-good p u a r = record { each = omega arith }
+last-good chip p u a r = record { each = omega (arith, masks chip .2) }

@@ -8,14 +8,18 @@ use mathlib.Core.List.{List, [], _∷_, _++_}
 use lib.Dec.{eqb}
 use borrow.Author.Tests.{eqb-true, eq-eqb}
 use Rattle.base.specs.Choice.{pick}
-use Rattle.voltage.specs.declared.CoreVoltage.{CoreVoltage}
-use Rattle.voltage.specs.Voltage.{codeOf, bodOf}
 use Rattle.step.specs.declared.Step.{Step}
 use Rattle.step.specs.Kinds as kind
 use Rattle.config.specs.declared.SysClkSrc.{SysClkSrc}
 use Rattle.config.specs.declared.SysClkSrc.the-variants.{Ref as sysRef, PllSys as sysPllSys, PllUsb as sysPllUsb}
 use Rattle.config.specs.declared.SysClkSrc.the-variants.{Rosc as sysRosc, Xosc as sysXosc}
-use Rattle.config.specs.declared.SysClkConfig.{SysClkConfig}
+use Rattle.chip.specs.declared.Chip.{Chip}
+use Rattle.chip.specs.declared.Chip.the-variants.{Rp2040, Rp235x}
+use Rattle.chip.specs.Chips.{factsOf}
+use Rattle.config.specs.declared.Board.{Board}
+use Rattle.config.specs.declared.ChipConfig.{ChipConfig}
+use Rattle.config.specs.declared.ChipConfig.the-variants.{Rp2040 as on2040, Rp235x as on235x}
+use Rattle.config.specs.Board.{boardOf}
 use Rattle.config.specs.declared.OptionRosc.{OptionRosc}
 use Rattle.config.specs.declared.OptionRosc.the-variants.{Some as ring, None as noRing}
 use Rattle.config.specs.declared.OptionPll.{OptionPll}
@@ -31,53 +35,70 @@ use Rattle.settings.specs.declared.OptionCrystal.the-variants.{Some as crystal,
 use Rattle.settings.specs.declared.OptionCycles.{OptionCycles}
 use Rattle.settings.specs.declared.OptionCycles.the-variants.{Some as cycles, None as noCycles}
 use Rattle.settings.specs.declared.Settings.{Settings}
-use Rattle.settings.specs.Frequencies.{sourcesOf}
-use Rattle.sheet.specs.Steps.{step1, storeStep, ringPass, headPart, ringPart, settlingSteps, voltagePart}
-use Rattle.sheet.specs.Steps.{pllSteps, crystalPart, switchSteps, sysPart, periPart, auxPart, rtcPart}
-use Rattle.sheet.specs.Steps.{clocksPart, stepsWith, stepsOf}
-use Rattle.sheet.specs.Read.{part, readRing, readVoltage, readPll, readCrystal, readSys, readPeri, readAux}
-use Rattle.sheet.specs.Read.{readRtc, settingsFrom}
-use Rattle.settings.proofs.Decoded.{range-code, ref-code, peri-code, aux-code, voltage-code, Small, AuxSmall, div-back}
+use Rattle.settings.specs.Frequencies.{sourcesOf, boardIn}
+use Rattle.settings.proofs.Decoded.{range-code, ref-code, peri-code, aux-code, chip-back, Small, AuxSmall, div-back}
+use Rattle.sheet.specs.Steps.{step1, storeStep, markSteps, headPart, ringPart, settlingSteps, voltagePart}
+use Rattle.sheet.specs.Steps.{pllSteps, crystalPart, tickSteps, switchSteps, sysPart, periPart, auxPart, rtcPart}
+use Rattle.sheet.specs.Steps.{lastPart, clocksPart, stepsWith, stepsOf}
+use Rattle.sheet.specs.Read.{part, Voltage, Sys, readChip, readRing, readVoltage, pastTick, readPll, readCrystal}
+use Rattle.sheet.specs.Read.{readSys, readPeri, readAux, readRtc, settingsFrom}
 
-cut : (n : ℕ) → n + ringPass - ringPass ≡ n
-cut n = omega arith
+mark-back : (chip : Chip) (ys : List Step)
+    → readChip (markSteps chip ++ (headPart chip ++ ys)) ≡ part chip (headPart chip ++ ys)
+unfolding headPart
+mark-back Rp2040 ys = refl
+mark-back Rp235x ys = refl
 
-ring-back : (o : OptionRosc) (ys : List Step) → readRing (ringPart o ++ ys) ≡ part o ys
+cut : (n pass : ℕ) → n + pass - pass ≡ n
+cut n pass = omega arith
+
+ring-back : (pass : ℕ) (o : OptionRosc) (ys : List Step) → readRing pass (ringPart pass o ++ ys) ≡ part o ys
 unfolding ringPart
-ring-back (ring r) ys = rw (range-code (r .range) .0, cut (r .div))
-ring-back noRing ys = refl
+ring-back pass (ring r) ys = rw (range-code (r .range) .0, cut (r .div) pass)
+ring-back pass noRing ys = refl
 
-module _ (reading : ℕ) (v : CoreVoltage) (x : OptionCrystal) (hz : ℕ) (ys : List Step) where
+module _ (reading : ℕ) (b : Board) (x : OptionCrystal) (hz : ℕ) (ys : List Step) where
   abbrev rest : List Step
   rest = crystalPart x ++ (storeStep 1 hz ∷ ys)
 
-  abbrev changing : OptionCycles → List Step
-  changing o = step1 kind.voltage (codeOf v) ∷ (settlingSteps o ++ (step1 kind.brownout (bodOf v) ∷ []))
+  abbrev changing : Chip → OptionCycles → List Step
+  changing chip o =
+      step1 (factsOf chip .voltage) (b .code)
+      ∷ (settlingSteps o ++ (step1 (factsOf chip .brownout) (b .brownout) ∷ []))
 
-  changed : (o : OptionCycles) → readVoltage reading (changing o ++ rest) ≡ part (record { voltage = v; settling = o }) rest
-  changed noCycles = rw (voltage-code v)
-  changed (cycles n) = rw (voltage-code v)
+  abbrev found : OptionCycles → Voltage
+  found o = record { code = b .code; settling = o }
 
-  kept : codeOf v ≡ reading → readVoltage reading rest ≡ part (record { voltage = v; settling = noCycles }) rest
+  changed : (chip : Chip) (o : OptionCycles)
+      → readVoltage (factsOf chip .voltage) reading (changing chip o ++ rest) ≡ part (found o) rest
+  changed Rp2040 noCycles = refl
+  changed Rp2040 (cycles n) = refl
+  changed Rp235x noCycles = refl
+  changed Rp235x (cycles n) = refl
+
+  kept : (chip : Chip) → b .code ≡ reading → readVoltage (factsOf chip .voltage) reading rest ≡ part (found noCycles) rest
   unfolding crystalPart
-  kept e = rw (← e) (go x)
+  kept chip e = rw e (go chip x)
     where
-      go : (x : OptionCrystal)
-          → readVoltage (codeOf v) (crystalPart x ++ (storeStep 1 hz ∷ ys))
-          ≡ part (record { voltage = v; settling = noCycles }) (crystalPart x ++ (storeStep 1 hz ∷ ys))
-      go (crystal x) = rw (voltage-code v)
-      go noCrystal = rw (voltage-code v)
+      go : (chip : Chip) (x : OptionCrystal)
+          → readVoltage (factsOf chip .voltage) reading (crystalPart x ++ (storeStep 1 hz ∷ ys))
+          ≡ part (record { code = reading; settling = noCycles }) (crystalPart x ++ (storeStep 1 hz ∷ ys))
+      go Rp2040 (crystal x) = refl
+      go Rp2040 noCrystal = refl
+      go Rp235x (crystal x) = refl
+      go Rp235x noCrystal = refl
 
   -- where the voltage stays there is no settling step
-  voltage-back : (o : OptionCycles) → (codeOf v ≡ reading → o ≡ noCycles)
-      → readVoltage reading (voltagePart reading v o ++ rest) ≡ part (record { voltage = v; settling = o }) rest
+  voltage-back : (o : OptionCycles) → (b .code ≡ reading → o ≡ noCycles)
+      → readVoltage (factsOf (b .chip) .voltage) reading (voltagePart reading b o ++ rest) ≡ part (found o) rest
   unfolding voltagePart
-  voltage-back o h = go (eqb (codeOf v) reading) refl
+  voltage-back o h = go (eqb (b .code) reading) refl
     where
-      go : (b : Bool) → eqb (codeOf v) reading ≡ b
-          → readVoltage reading (pick b [] (changing o) ++ rest) ≡ part (record { voltage = v; settling = o }) rest
-      go true e = let same = eqb-true (codeOf v) reading e in rw (h same) (kept same)
-      go false e = changed o
+      go : (same : Bool) → eqb (b .code) reading ≡ same
+          → readVoltage (factsOf (b .chip) .voltage) reading (pick same [] (changing (b .chip) o) ++ rest)
+          ≡ part (found o) rest
+      go true e = let same = eqb-true (b .code) reading e in rw (h same) (kept (b .chip) same)
+      go false e = changed (b .chip) o
 
 sys-pll-back : (o u : OptionPll) (hz : ℕ) (ys : List Step)
     → readPll 0 ((pllSteps 0 o ++ pllSteps 1 u) ++ (storeStep 1 hz ∷ ys)) ≡ part o (pllSteps 1 u ++ (storeStep 1 hz ∷ ys))
@@ -96,18 +117,23 @@ unfolding crystalPart sourcesOf
 crystal-back r (crystal x) ys = rw (sys-pll-back (x .sys) (x .usb) (x .hz) ys, usb-pll-back (x .usb) (x .hz) ys)
 crystal-back r noCrystal ys = refl
 
-sys-back : (hz : ℕ) (c : SysClkConfig) (ys : List Step) → readSys (sysPart hz c ++ ys) ≡ part c ys
+tick-past : (chip : Chip) (mhz : ℕ) (ys : List Step) → pastTick chip (tickSteps chip mhz ++ ys) ≡ ys
+tick-past Rp2040 mhz ys = refl
+tick-past Rp235x mhz ys = refl
+
+-- what stands behind 6 is no 28 where the source is Ref
+no-control : (chip : Chip) → eqb (factsOf chip .divider) kind.sys-control ≡ false
+no-control Rp2040 = refl
+no-control Rp235x = refl
+
+sys-back : (b : Board) (hz : ℕ) (src : SysClkSrc) (ys : List Step)
+    → readSys (sysPart b hz src ++ ys) ≡ part (record { src = src; whole = b .whole; fraction = b .fraction }) ys
 unfolding sysPart switchSteps
-sys-back hz c ys = go (c .src)
-  where
-    go : (src : SysClkSrc)
-        → readSys (sysPart hz (record { src = src; «div_int» = c .«div_int»; «div_frac» = c .«div_frac» }) ++ ys)
-        ≡ part (record { src = src; «div_int» = c .«div_int»; «div_frac» = c .«div_frac» }) ys
-    go sysRef = refl
-    go sysPllSys = refl
-    go sysPllUsb = refl
-    go sysRosc = refl
-    go sysXosc = refl
+sys-back b hz sysRef ys = rw (no-control (b .chip))
+sys-back b hz sysPllSys ys = refl
+sys-back b hz sysPllUsb ys = refl
+sys-back b hz sysRosc ys = refl
+sys-back b hz sysXosc ys = refl
 
 peri-back : (hz : ℕ) (o : OptionPeri) (ys : List Step) → readPeri (periPart hz o ++ ys) ≡ part o ys
 unfolding periPart
@@ -121,14 +147,19 @@ aux-back divider control clock hz (aux a) ys other h =
     rw (eq-eqb divider divider refl, aux-code (a .src) .0, div-back (a .div) h)
 aux-back divider control clock hz noAux ys other h = rw other
 
-rtc-back : (hz : ℕ) (o : OptionRtc) (ys : List Step) → readRtc (rtcPart hz o ++ ys) ≡ o
+rtc-back : (c : ChipConfig) (hz mask : ℕ)
+    → readRtc (rtcPart (boardOf c .chip) hz (boardOf c .rtc) ++ lastPart mask) ≡ boardOf c .rtc
 unfolding rtcPart
-rtc-back hz (rtc r) ys = rw (aux-code (r .src) .0)
-rtc-back hz noRtc ys = refl
+rtc-back (on2040 c) hz mask = go (c .«rtc_clk»)
+  where
+    go : (o : OptionRtc) → readRtc (rtcPart Rp2040 hz o ++ lastPart mask) ≡ o
+    go (rtc r) = rw (aux-code (r .src) .0)
+    go noRtc = refl
+rtc-back (on235x c) hz mask = refl
 
 -- settings that are read back: those of every accepted plan are
 pub record Readable (reading : ℕ) (s : Settings) : Type 0 where
-  pub still : codeOf (s .voltage) ≡ reading → s .settling ≡ noCycles
+  pub still : boardIn s .code ≡ reading → s .settling ≡ noCycles
   pub reference : Small (s .reference .div)
   pub usb : AuxSmall (s .usb)
   pub adc : AuxSmall (s .adc)
@@ -136,15 +167,19 @@ pub record Readable (reading : ℕ) (s : Settings) : Type 0 where
 pub readable-back : (reading : ℕ) (s : Settings) → Readable reading s → settingsFrom reading (stepsOf reading s) ≡ s
 unfolding settingsFrom stepsWith headPart clocksPart
 readable-back reading s h =
+    let b = boardIn s in
     rw (
-      ring-back (s .rosc),
-      voltage-back reading (s .voltage) (s .xosc) _ _ (s .settling) (h .still),
+      mark-back (b .chip),
+      ring-back _ (s .rosc),
+      voltage-back reading b (s .xosc) _ _ (s .settling) (h .still),
       crystal-back (s .rosc) (s .xosc),
       ref-code (s .reference .src) .0,
       div-back (s .reference .div) (h .reference),
-      sys-back _ (s .sys),
+      tick-past (b .chip),
+      sys-back b _ (s .sys),
       peri-back _ (s .peri),
       aux-back kind.usb-divider kind.usb-control 7 _ (s .usb) _ refl (h .usb),
       aux-back kind.adc-divider kind.adc-control 8 _ (s .adc) _ refl (h .adc),
-      rtc-back _ (s .rtc),
+      rtc-back (s .chip),
+      chip-back (s .chip),
     )

@@ -1,4 +1,4 @@
--- The stores of a sheet are ten, one for each clock in order, with the frequencies of the settings.
+-- The stores of a sheet are one for each clock in order, with the frequencies of the settings: ten, nine of the RP235x.
 -- Assumes nothing.
 use mathlib.Core.Path.{_≡_, refl, ap}
 use mathlib.Core.Bool.{Bool, true, false}
@@ -6,11 +6,14 @@ use Prim.Native.Nat.{ℕ}
 use mathlib.Core.List.{List, [], _∷_, _++_}
 use lib.Dec.{eqb}
 use Rattle.base.specs.Choice.{pick}
-use Rattle.voltage.specs.declared.CoreVoltage.{CoreVoltage}
-use Rattle.voltage.specs.Voltage.{codeOf, bodOf}
+use Rattle.chip.specs.declared.Chip.{Chip}
+use Rattle.chip.specs.declared.Chip.the-variants.{Rp2040, Rp235x}
+use Rattle.chip.specs.Chips.{factsOf}
+use Rattle.config.specs.declared.Board.{Board}
+use Rattle.config.specs.declared.SysClkSrc.{SysClkSrc}
 use Rattle.step.specs.declared.Step.{Step}
 use Rattle.step.specs.Kinds as kind
-use Rattle.config.specs.declared.SysClkConfig.{SysClkConfig}
+use Rattle.config.specs.declared.RefClkConfig.{RefClkConfig}
 use Rattle.config.specs.declared.OptionRosc.{OptionRosc}
 use Rattle.config.specs.declared.OptionRosc.the-variants.{Some as ring, None as noRing}
 use Rattle.config.specs.declared.OptionPll.{OptionPll}
@@ -28,29 +31,38 @@ use Rattle.settings.specs.declared.OptionCycles.the-variants.{Some as cycles, N
 use Rattle.settings.specs.declared.Settings.{Settings}
 use Rattle.settings.specs.Codes.{sysSelect, sysAux}
 use Rattle.settings.specs.Settings.{ringHz}
-use Rattle.settings.specs.Frequencies.{sourcesOf, storedOf}
-use Rattle.sheet.specs.Steps.{step1, step2, storeStep, headPart, ringPart, settlingSteps, voltagePart, pllSteps}
-use Rattle.sheet.specs.Steps.{crystalPart, switchSteps, sysPart, periPart, auxPart, rtcPart, clocksPart}
-use Rattle.sheet.specs.Steps.{stepsWith, stepsOf}
+use Rattle.settings.specs.Frequencies.{sourcesOf, tenthOf, boardIn, storedOf}
+use Rattle.sheet.specs.Steps.{step1, step2, storeStep, markSteps, headPart, ringPart, settlingSteps, voltagePart}
+use Rattle.sheet.specs.Steps.{pllSteps, crystalPart, refPart, switchSteps, sysPart, periPart, auxPart, rtcPart}
+use Rattle.sheet.specs.Steps.{lastPart, clocksPart, stepsWith, stepsOf}
 use Rattle.sheet.specs.Stores.{storesIn, storesFrom}
 
-ring-stores : (o : OptionRosc) (ys : List Step) → storesIn (ringPart o ++ ys) ≡ storeStep 0 (ringHz o) ∷ storesIn ys
-unfolding ringPart
-ring-stores (ring r) ys = refl
-ring-stores noRing ys = refl
+mark-stores : (chip : Chip) (ys : List Step) → storesIn (markSteps chip ++ ys) ≡ storesIn ys
+mark-stores Rp2040 ys = refl
+mark-stores Rp235x ys = refl
 
-voltage-stores : (reading : ℕ) (v : CoreVoltage) (o : OptionCycles) (ys : List Step)
-    → storesIn (voltagePart reading v o ++ ys) ≡ storesIn ys
+ring-stores : (pass : ℕ) (o : OptionRosc) (ys : List Step)
+    → storesIn (ringPart pass o ++ ys) ≡ storeStep 0 (ringHz o) ∷ storesIn ys
+unfolding ringPart
+ring-stores pass (ring r) ys = refl
+ring-stores pass noRing ys = refl
+
+voltage-stores : (reading : ℕ) (b : Board) (o : OptionCycles) (ys : List Step)
+    → storesIn (voltagePart reading b o ++ ys) ≡ storesIn ys
 unfolding voltagePart
-voltage-stores reading v o ys = go (eqb (codeOf v) reading) o
+voltage-stores reading b o ys = go (b .chip) (eqb (b .code) reading) o
   where
-    go : (b : Bool) (o : OptionCycles)
-        → storesIn
-        (pick b [] (step1 kind.voltage (codeOf v) ∷ (settlingSteps o ++ (step1 kind.brownout (bodOf v) ∷ []))) ++ ys)
-        ≡ storesIn ys
-    go true o = refl
-    go false noCycles = refl
-    go false (cycles n) = refl
+    changing : Chip → OptionCycles → List Step
+    changing chip o =
+        step1 (factsOf chip .voltage) (b .code)
+        ∷ (settlingSteps o ++ (step1 (factsOf chip .brownout) (b .brownout) ∷ []))
+
+    go : (chip : Chip) (same : Bool) (o : OptionCycles) → storesIn (pick same [] (changing chip o) ++ ys) ≡ storesIn ys
+    go chip true o = refl
+    go Rp2040 false noCycles = refl
+    go Rp2040 false (cycles n) = refl
+    go Rp235x false noCycles = refl
+    go Rp235x false (cycles n) = refl
 
 crystal-stores : (o : OptionCrystal) (ys : List Step) → storesIn (crystalPart o ++ ys) ≡ storesIn ys
 unfolding crystalPart
@@ -63,20 +75,29 @@ crystal-stores (crystal x) ys = go (x .sys) (x .usb)
     go noPll (pll q) = refl
     go noPll noPll = refl
 
-sys-stores : (hz : ℕ) (c : SysClkConfig) (ys : List Step) → storesIn (sysPart hz c ++ ys) ≡ storeStep 5 hz ∷ storesIn ys
+ref-stores : (chip : Chip) (hz : ℕ) (c : RefClkConfig) (ys : List Step)
+    → storesIn (refPart chip hz c ++ ys) ≡ storeStep 4 hz ∷ storesIn ys
+ref-stores Rp2040 hz c ys = refl
+ref-stores Rp235x hz c ys = refl
+
+sys-stores : (b : Board) (hz : ℕ) (src : SysClkSrc) (ys : List Step)
+    → storesIn (sysPart b hz src ++ ys) ≡ storeStep 5 hz ∷ storesIn ys
 unfolding sysPart switchSteps
-sys-stores hz c ys = ap (λ (l : List Step). storeStep 5 hz ∷ l) (go (eqb (sysSelect (c .src)) 0))
+sys-stores b hz src ys = ap (λ (l : List Step). storeStep 5 hz ∷ l) (go (b .chip) (eqb (sysSelect src) 0))
   where
-    end : List Step
-    end =
-        step2 kind.sys-control (sysAux (c .src)) (sysSelect (c .src))
-        ∷ step1 kind.wait-sys (sysSelect (c .src))
-        ∷ step2 kind.sys-divider (c .«div_int») (c .«div_frac»)
+    end : Chip → List Step
+    end chip =
+        step2 kind.sys-control (sysAux src) (sysSelect src)
+        ∷ step1 kind.wait-sys (sysSelect src)
+        ∷ step2 (factsOf chip .divider) (b .whole) (b .fraction)
         ∷ []
 
-    go : (b : Bool) → storesIn ((pick b [] (step2 kind.sys-control 0 0 ∷ step1 kind.wait-sys 0 ∷ []) ++ end) ++ ys) ≡ storesIn ys
-    go true = refl
-    go false = refl
+    go : (chip : Chip) (same : Bool)
+        → storesIn ((pick same [] (step2 kind.sys-control 0 0 ∷ step1 kind.wait-sys 0 ∷ []) ++ end chip) ++ ys) ≡ storesIn ys
+    go Rp2040 true = refl
+    go Rp2040 false = refl
+    go Rp235x true = refl
+    go Rp235x false = refl
 
 peri-stores : (hz : ℕ) (o : OptionPeri) (ys : List Step) → storesIn (periPart hz o ++ ys) ≡ storeStep 6 hz ∷ storesIn ys
 unfolding periPart
@@ -90,10 +111,12 @@ unfolding auxPart
 aux-stores divider control clock hz (aux a) ys d c = rw (d, c)
 aux-stores divider control clock hz noAux ys d c = refl
 
-rtc-stores : (hz : ℕ) (o : OptionRtc) (ys : List Step) → storesIn (rtcPart hz o ++ ys) ≡ storeStep 9 hz ∷ storesIn ys
+rtc-stores : (chip : Chip) (hz : ℕ) (o : OptionRtc) (mask : ℕ)
+    → storesIn (rtcPart chip hz o ++ lastPart mask) ≡ storesFrom 9 (tenthOf chip hz)
 unfolding rtcPart
-rtc-stores hz (rtc r) ys = refl
-rtc-stores hz noRtc ys = refl
+rtc-stores Rp2040 hz (rtc r) mask = refl
+rtc-stores Rp2040 hz noRtc mask = refl
+rtc-stores Rp235x hz o mask = refl
 
 pub ring-source : (r : OptionRosc) (o : OptionCrystal) → sourcesOf r o .rosc ≡ ringHz r
 unfolding sourcesOf
@@ -103,14 +126,17 @@ ring-source r noCrystal = refl
 pub sheet-stores : (reading : ℕ) (s : Settings) → storesIn (stepsOf reading s) ≡ storesFrom 0 (storedOf s)
 unfolding stepsWith headPart clocksPart storedOf
 sheet-stores reading s =
+    let b = boardIn s in
     rw (
-      ring-stores (s .rosc),
-      voltage-stores reading (s .voltage) (s .settling),
+      mark-stores (b .chip),
+      ring-stores _ (s .rosc),
+      voltage-stores reading b (s .settling),
       crystal-stores (s .xosc),
-      sys-stores _ (s .sys),
+      ref-stores (b .chip) _ (s .reference),
+      sys-stores b _ (s .sys),
       peri-stores _ (s .peri),
       aux-stores kind.usb-divider kind.usb-control 7 _ (s .usb) _ refl refl,
       aux-stores kind.adc-divider kind.adc-control 8 _ (s .adc) _ refl refl,
-      rtc-stores _ (s .rtc),
+      rtc-stores (b .chip) _ (b .rtc),
       ring-source (s .rosc) (s .xosc),
     )

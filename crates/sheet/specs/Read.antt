@@ -7,12 +7,13 @@ use mathlib.Core.List.{List}
 use lib.ListN.{getD, drop}
 use lib.Dec.{eqb}
 use Rattle.base.specs.Choice.{pick}
-use Rattle.voltage.specs.declared.CoreVoltage.{CoreVoltage}
+use Rattle.chip.specs.declared.Chip.{Chip}
+use Rattle.chip.specs.declared.Chip.the-variants.{Rp2040, Rp235x}
+use Rattle.chip.specs.Chips.{factsOf}
 use Rattle.step.specs.declared.Step.{Step}
 use Rattle.step.specs.Kinds as kind
 use Rattle.config.specs.declared.RefClkConfig.{RefClkConfig}
 use Rattle.config.specs.declared.SysClkSrc.{SysClkSrc}
-use Rattle.config.specs.declared.SysClkConfig.{SysClkConfig}
 use Rattle.config.specs.declared.OptionRosc.{OptionRosc}
 use Rattle.config.specs.declared.OptionPll.{OptionPll}
 use Rattle.config.specs.declared.OptionPeri.{OptionPeri}
@@ -21,8 +22,8 @@ use Rattle.config.specs.declared.OptionRtc.{OptionRtc}
 use Rattle.settings.specs.declared.OptionCrystal.{OptionCrystal}
 use Rattle.settings.specs.declared.OptionCycles.{OptionCycles}
 use Rattle.settings.specs.declared.Settings.{Settings}
-use Rattle.settings.specs.Codes.{rangeFrom, refFrom, sysFrom, periFrom, auxFrom, divFrom, voltageFrom}
-use Rattle.sheet.specs.Steps.{step0, ringPass}
+use Rattle.settings.specs.Codes.{rangeFrom, refFrom, sysFrom, periFrom, auxFrom, divFrom, chipFrom}
+use Rattle.sheet.specs.Steps.{step0}
 
 -- what a part of a sheet sets, and the steps after it
 pub data Part (A : Type 0) : Type 0 where
@@ -37,9 +38,13 @@ part a rest then f = f a rest
 abbrev pub stepAt : List Step → ℕ → Step
 stepAt xs i = getD xs i (step0 0)
 
--- 9 to 12 and the store where there is a ring, else the store
-abbrev pub readRing : List Step → Part OptionRosc
-readRing xs =
+-- 38 is there on the RP235x
+abbrev pub readChip : List Step → Part Chip
+readChip xs = pick (eqb (stepAt xs 0 .kind) kind.chip-mark) (part Rp235x (drop 1 xs)) (part Rp2040 xs)
+
+-- 9 to 12 and the store where there is a ring, else the store; the pass value is the chip's
+abbrev pub readRing : ℕ → List Step → Part OptionRosc
+readRing pass xs =
     pick (eqb (stepAt xs 0 .kind) kind.strengths-0-3)
     (part
     (OptionRosc.Some
@@ -57,24 +62,24 @@ readRing xs =
             s6 = stepAt xs 1 .f2;
             s7 = stepAt xs 1 .f3;
           };
-      div = stepAt xs 2 .f0 - ringPass;
+      div = stepAt xs 2 .f0 - pass;
     }))
     (drop 5 xs))
     (part OptionRosc.None (drop 1 xs))
 
--- the voltage, and with it the settling step
+-- the voltage code, and with it the settling step
 pub record Voltage : Type 0 where
-  pub voltage : CoreVoltage
+  pub code : ℕ
   pub settling : OptionCycles
 
--- 13, 14 if there, and 15; with no 13 the voltage is the reading's
-abbrev pub readVoltage : ℕ → List Step → Part Voltage
-readVoltage reading xs =
-    pick (eqb (stepAt xs 0 .kind) kind.voltage)
+-- 13, 14 if there, and 15; with no 13 the code is the reading; the kind in the place of 13 is the chip's
+abbrev pub readVoltage : ℕ → ℕ → List Step → Part Voltage
+readVoltage voltage reading xs =
+    pick (eqb (stepAt xs 0 .kind) voltage)
     (pick (eqb (stepAt xs 1 .kind) kind.delay)
-    (part (record { voltage = voltageFrom (stepAt xs 0 .f0); settling = OptionCycles.Some (stepAt xs 1 .f0) }) (drop 3 xs))
-    (part (record { voltage = voltageFrom (stepAt xs 0 .f0); settling = OptionCycles.None }) (drop 2 xs)))
-    (part (record { voltage = voltageFrom reading; settling = OptionCycles.None }) xs)
+    (part (record { code = stepAt xs 0 .f0; settling = OptionCycles.Some (stepAt xs 1 .f0) }) (drop 3 xs))
+    (part (record { code = stepAt xs 0 .f0; settling = OptionCycles.None }) (drop 2 xs)))
+    (part (record { code = reading; settling = OptionCycles.None }) xs)
 
 -- nine steps from 19 on where the PLL is there; which: 0 system, 1 USB
 abbrev pub readPll : ℕ → List Step → Part OptionPll
@@ -100,16 +105,27 @@ readCrystal xs =
     part (OptionCrystal.Some (record { hz = stepAt zs 0 .f1; delay = stepAt xs 0 .f0; sys = sys; usb = usb })) zs)
     (part OptionCrystal.None xs)
 
--- store, 25, 8, 26, 27
+-- store, 25, 8 and 26
 abbrev pub readRef : List Step → Part RefClkConfig
-readRef xs = part (record { src = refFrom (stepAt xs 1 .f0); div = divFrom (stepAt xs 3 .f0) }) (drop 5 xs)
+readRef xs = part (record { src = refFrom (stepAt xs 1 .f0); div = divFrom (stepAt xs 3 .f0) }) (drop 4 xs)
 
--- store, 28, 6, a second 28 and 6 unless the source is Ref, 29
-abbrev pub readSys : List Step → Part SysClkConfig
+-- past 27, or 39 to 42
+abbrev pub pastTick : Chip → List Step → List Step
+pastTick Rp2040 xs = drop 1 xs
+pastTick Rp235x xs = drop 4 xs
+
+-- the system clock's source and divider
+pub record Sys : Type 0 where
+  pub src : SysClkSrc
+  pub whole : ℕ
+  pub fraction : ℕ
+
+-- store, 28, 6, a second 28 and 6 unless the source is Ref, the divider
+abbrev pub readSys : List Step → Part Sys
 readSys xs =
     pick (eqb (stepAt xs 3 .kind) kind.sys-control)
-    (part (record { src = sysFrom (stepAt xs 3 .f0); «div_int» = stepAt xs 5 .f0; «div_frac» = stepAt xs 5 .f1 }) (drop 6 xs))
-    (part (record { src = SysClkSrc.Ref; «div_int» = stepAt xs 3 .f0; «div_frac» = stepAt xs 3 .f1 }) (drop 4 xs))
+    (part (record { src = sysFrom (stepAt xs 3 .f0); whole = stepAt xs 5 .f0; fraction = stepAt xs 5 .f1 }) (drop 6 xs))
+    (part (record { src = SysClkSrc.Ref; whole = stepAt xs 3 .f0; fraction = stepAt xs 3 .f1 }) (drop 4 xs))
 
 -- 30 and the store, else the store
 abbrev pub readPeri : List Step → Part OptionPeri
@@ -143,23 +159,23 @@ readRtc xs =
 -- past the nine steps of the head, and later past the stores of xosc, pll_sys and pll_usb
 unfoldable pub settingsFrom : ℕ → List Step → Settings
 settingsFrom reading xs =
-    readRing (drop 9 xs) then λ rosc xs.
-    readVoltage reading xs then λ v xs.
+    readChip xs then λ chip xs.
+    readRing (factsOf chip .pass) (drop 9 xs) then λ rosc xs.
+    readVoltage (factsOf chip .voltage) reading xs then λ v xs.
     readCrystal xs then λ xosc xs.
     readRef (drop 3 xs) then λ reference xs.
-    readSys xs then λ sys xs.
+    readSys (pastTick chip xs) then λ sys xs.
     readPeri xs then λ peri xs.
     readAux kind.usb-divider xs then λ usb xs.
     readAux kind.adc-divider xs then λ adc xs.
     record {
+      chip = chipFrom chip (v .code) (sys .whole) (sys .fraction) (readRtc xs);
       rosc = rosc;
       xosc = xosc;
-      voltage = v .voltage;
       settling = v .settling;
       reference = reference;
-      sys = sys;
+      sys = sys .src;
       peri = peri;
       usb = usb;
       adc = adc;
-      rtc = readRtc xs;
     }

@@ -4,16 +4,18 @@ use Prim.Native.Nat.{ℕ, _+_, _-_, _/_, _%_}
 use mathlib.Core.List.{List, [], _∷_, _++_}
 use lib.Dec.{eqb}
 use Rattle.base.specs.Choice.{pick}
-use Rattle.voltage.specs.declared.CoreVoltage.{CoreVoltage}
-use Rattle.voltage.specs.Voltage.{codeOf, bodOf}
+use Rattle.chip.specs.declared.Chip.{Chip}
+use Rattle.chip.specs.declared.Chip.the-variants.{Rp2040, Rp235x}
+use Rattle.chip.specs.Chips.{factsOf}
 use Rattle.step.specs.declared.Step.{Step}
 use Rattle.step.specs.Steps.{stepOf}
 use Rattle.step.specs.Kinds as kind
-use Rattle.sheet.specs.Resets as block
+use Rattle.step.specs.Sheet.{maxSteps}
 use Rattle.config.specs.declared.OptionRosc.{OptionRosc}
 use Rattle.config.specs.declared.OptionPll.{OptionPll}
 use Rattle.config.specs.declared.RefClkConfig.{RefClkConfig}
-use Rattle.config.specs.declared.SysClkConfig.{SysClkConfig}
+use Rattle.config.specs.declared.SysClkSrc.{SysClkSrc}
+use Rattle.config.specs.declared.Board.{Board}
 use Rattle.config.specs.declared.OptionPeri.{OptionPeri}
 use Rattle.config.specs.declared.OptionAux.{OptionAux}
 use Rattle.config.specs.declared.OptionRtc.{OptionRtc}
@@ -24,7 +26,7 @@ use Rattle.settings.specs.declared.Sources.{Sources}
 use Rattle.settings.specs.declared.Frequencies.{Frequencies}
 use Rattle.settings.specs.Codes.{rangeCode, refCode, sysSelect, sysAux, periAux, auxCode}
 use Rattle.settings.specs.Settings.{ringHz}
-use Rattle.settings.specs.Frequencies.{frequenciesOf}
+use Rattle.settings.specs.Frequencies.{boardIn, frequenciesOf}
 
 -- steps of a kind with fewer than five fields
 abbrev pub step4 : ℕ → ℕ → ℕ → ℕ → ℕ → Step
@@ -46,49 +48,52 @@ step0 k = stepOf k 0 0 0 0 0
 abbrev pub storeStep : ℕ → ℕ → Step
 storeStep clock hz = step2 kind.store clock hz
 
--- 1(0x0FBCDBF), 4, 5(0), 6(0), 7(0), 8(0), 1(0x3000), 2(0x3000), 3(0x3000)
-unfoldable pub headPart : List Step
-headPart =
-    step1 kind.reset block.first
+-- 38 first in a sheet of the RP235x
+abbrev pub markSteps : Chip → List Step
+markSteps Rp2040 = []
+markSteps Rp235x = step0 kind.chip-mark ∷ []
+
+-- 1, 4, 5(0), 6(0), 7(0), 8(0), 1, 2, 3: all that is reset first, then the PLLs
+unfoldable pub headPart : Chip → List Step
+headPart chip =
+    step1 kind.reset (factsOf chip .first)
     ∷ step0 kind.resus-off
     ∷ step1 kind.sys-source 0
     ∷ step1 kind.wait-sys 0
     ∷ step1 kind.ref-source 0
     ∷ step1 kind.wait-ref 0
-    ∷ step1 kind.reset block.plls
-    ∷ step1 kind.release block.plls
-    ∷ step1 kind.wait-released block.plls
+    ∷ step1 kind.reset (factsOf chip .plls)
+    ∷ step1 kind.release (factsOf chip .plls)
+    ∷ step1 kind.wait-released (factsOf chip .plls)
     ∷ []
 
--- what the ring's divider is written with: its pass value
-abbrev pub ringPass : ℕ
-ringPass = 0xAA0
-
 -- with a ring 9 to 12: strengths, divider and pass value, range
-abbrev pub ringSteps : OptionRosc → List Step
-ringSteps (OptionRosc.Some r) =
+abbrev pub ringSteps : ℕ → OptionRosc → List Step
+ringSteps pass (OptionRosc.Some r) =
     step4 kind.strengths-0-3 (r .«drive_strength» .s0) (r .«drive_strength» .s1)
     (r .«drive_strength» .s2) (r .«drive_strength» .s3)
     ∷ step4 kind.strengths-4-7 (r .«drive_strength» .s4) (r .«drive_strength» .s5)
     (r .«drive_strength» .s6) (r .«drive_strength» .s7)
-    ∷ step1 kind.ring-divider (r .div + ringPass)
+    ∷ step1 kind.ring-divider (r .div + pass)
     ∷ step1 kind.ring-on (rangeCode (r .range))
     ∷ []
-ringSteps OptionRosc.None = []
+ringSteps pass OptionRosc.None = []
 
 -- store rosc
-unfoldable pub ringPart : OptionRosc → List Step
-ringPart r = ringSteps r ++ (storeStep 0 (ringHz r) ∷ [])
+unfoldable pub ringPart : ℕ → OptionRosc → List Step
+ringPart pass r = ringSteps pass r ++ (storeStep 0 (ringHz r) ∷ [])
 
 abbrev pub settlingSteps : OptionCycles → List Step
 settlingSteps (OptionCycles.Some n) = step1 kind.delay n ∷ []
 settlingSteps OptionCycles.None = []
 
--- if the voltage code differs from the reading 13, then 14 unless the settling time is 0, then 15
-unfoldable pub voltagePart : ℕ → CoreVoltage → OptionCycles → List Step
-voltagePart reading v settling =
-    pick (eqb (codeOf v) reading) []
-    (step1 kind.voltage (codeOf v) ∷ (settlingSteps settling ++ (step1 kind.brownout (bodOf v) ∷ [])))
+-- if the voltage code differs from the reading 13, then 14 unless the settling time is 0, then 15; on the RP235x
+-- 43 and 44 for 13 and 15
+unfoldable pub voltagePart : ℕ → Board → OptionCycles → List Step
+voltagePart reading b settling =
+    pick (eqb (b .code) reading) []
+    (step1 (factsOf (b .chip) .voltage) (b .code)
+    ∷ (settlingSteps settling ++ (step1 (factsOf (b .chip) .brownout) (b .brownout) ∷ [])))
 
 -- for a PLL present 19(1111), 14(10), 20, 21, 19(0011), 22, 23, 24, 14(100); which: 0 system, 1 USB
 abbrev pub pllSteps : ℕ → OptionPll → List Step
@@ -118,28 +123,37 @@ crystalPart OptionCrystal.None = []
 abbrev pub sourcePart : Sources → List Step
 sourcePart f = storeStep 1 (f .xosc) ∷ storeStep 2 (f .«pll_sys») ∷ storeStep 3 (f .«pll_usb») ∷ []
 
--- store ref, 25, 8, 26, 27; a divider of two bits holds 4 as 0; the tick is the reference's MHz rounded down
-abbrev pub refPart : ℕ → RefClkConfig → List Step
-refPart hz c =
+-- 27, or of the RP235x 39 to 42
+abbrev pub tickSteps : Chip → ℕ → List Step
+tickSteps Rp2040 mhz = step1 kind.tick mhz ∷ []
+tickSteps Rp235x mhz =
+    step1 kind.timer-cycles mhz
+    ∷ step0 kind.timer-on
+    ∷ step1 kind.watchdog-cycles mhz
+    ∷ step0 kind.watchdog-on
+    ∷ []
+
+-- store ref, 25, 8, 26, the tick; a divider of two bits holds 4 as 0; the tick is the reference's MHz rounded down
+abbrev pub refPart : Chip → ℕ → RefClkConfig → List Step
+refPart chip hz c =
     storeStep 4 hz
     ∷ step1 kind.ref-control (refCode (c .src))
     ∷ step1 kind.wait-ref (refCode (c .src))
     ∷ step1 kind.ref-divider (c .div % 4)
-    ∷ step1 kind.tick (hz / 1000000)
-    ∷ []
+    ∷ tickSteps chip (hz / 1000000)
 
 -- unless the source is Ref 28(0,0), 6(0)
 unfoldable pub switchSteps : ℕ → List Step
 switchSteps select = pick (eqb select 0) [] (step2 kind.sys-control 0 0 ∷ step1 kind.wait-sys 0 ∷ [])
 
--- store sys; the switch; then 28, 6, 29
-unfoldable pub sysPart : ℕ → SysClkConfig → List Step
-sysPart hz c =
+-- store sys; the switch; then 28, 6, 29; on the RP235x 45 for 29
+unfoldable pub sysPart : Board → ℕ → SysClkSrc → List Step
+sysPart b hz src =
     storeStep 5 hz
-    ∷ (switchSteps (sysSelect (c .src))
-    ++ (step2 kind.sys-control (sysAux (c .src)) (sysSelect (c .src))
-    ∷ step1 kind.wait-sys (sysSelect (c .src))
-    ∷ step2 kind.sys-divider (c .«div_int») (c .«div_frac»)
+    ∷ (switchSteps (sysSelect src)
+    ++ (step2 kind.sys-control (sysAux src) (sysSelect src)
+    ∷ step1 kind.wait-sys (sysSelect src)
+    ∷ step2 (factsOf (b .chip) .divider) (b .whole) (b .fraction)
     ∷ []))
 
 abbrev pub periSteps : OptionPeri → List Step
@@ -166,53 +180,60 @@ rtcSteps (OptionRtc.Some r) =
     ∷ []
 rtcSteps OptionRtc.None = []
 
--- 35, 36, store
-unfoldable pub rtcPart : ℕ → OptionRtc → List Step
-rtcPart hz o = rtcSteps o ++ (storeStep 9 hz ∷ [])
+-- 35, 36, store; nothing of the RP235x
+unfoldable pub rtcPart : Chip → ℕ → OptionRtc → List Step
+rtcPart Rp2040 hz o = rtcSteps o ++ (storeStep 9 hz ∷ [])
+rtcPart Rp235x hz o = []
 
--- what stays in reset where a clock is absent: of the peripherals SPI and UART
-abbrev pub periBits : OptionPeri → ℕ
-periBits (OptionPeri.Some src) = 0
-periBits OptionPeri.None = block.spi0 + block.spi1 + block.uart0 + block.uart1
+-- the bits that stay in reset where a clock is absent
+abbrev pub periBits : ℕ → OptionPeri → ℕ
+periBits bits (OptionPeri.Some src) = 0
+periBits bits OptionPeri.None = bits
 
--- of USB and ADC their own block
 abbrev pub auxBits : ℕ → OptionAux → ℕ
 auxBits bits (OptionAux.Some a) = 0
 auxBits bits OptionAux.None = bits
 
--- and of the RTC
-abbrev pub rtcBits : OptionRtc → ℕ
-rtcBits (OptionRtc.Some r) = 0
-rtcBits OptionRtc.None = block.rtc
+abbrev pub rtcBits : ℕ → OptionRtc → ℕ
+rtcBits bits (OptionRtc.Some r) = 0
+rtcBits bits OptionRtc.None = bits
 
--- every block less those of absent clocks
-unfoldable pub releaseMask : OptionPeri → OptionAux → OptionAux → OptionRtc → ℕ
-releaseMask p u a r = block.all - (periBits p + auxBits block.usb u + auxBits block.adc a + rtcBits r)
+-- what is released last, less the bits of absent clocks
+unfoldable pub releaseMask : Chip → OptionPeri → OptionAux → OptionAux → OptionRtc → ℕ
+releaseMask chip p u a r =
+    let k = factsOf chip in
+    k .last - (periBits (k .peri) p + auxBits (k .usb) u + auxBits (k .adc) a + rtcBits (k .rtc) r)
 
 -- last 2 and 3 with the mask
 abbrev pub lastPart : ℕ → List Step
 lastPart mask = step1 kind.release mask ∷ step1 kind.wait-released mask ∷ []
 
 -- from the sources on
-unfoldable pub clocksPart : Settings → Frequencies → List Step
-clocksPart s f =
+unfoldable pub clocksPart : Settings → Board → Frequencies → List Step
+clocksPart s b f =
     sourcePart (f .sources)
-    ++ (refPart (f .reference) (s .reference)
-    ++ (sysPart (f .sys) (s .sys)
+    ++ (refPart (b .chip) (f .reference) (s .reference)
+    ++ (sysPart b (f .sys) (s .sys)
     ++ (periPart (f .peri) (s .peri)
     ++ (auxPart kind.usb-divider kind.usb-control 7 (f .usb) (s .usb)
     ++ (auxPart kind.adc-divider kind.adc-control 8 (f .adc) (s .adc)
-    ++ (rtcPart (f .rtc) (s .rtc)
-    ++ lastPart (releaseMask (s .peri) (s .usb) (s .adc) (s .rtc))))))))
+    ++ (rtcPart (b .chip) (f .rtc) (b .rtc)
+    ++ lastPart (releaseMask (b .chip) (s .peri) (s .usb) (s .adc) (b .rtc))))))))
 
--- the whole sheet, of settings and their frequencies
-unfoldable pub stepsWith : ℕ → Settings → Frequencies → List Step
-stepsWith reading s f =
-    headPart
-    ++ (ringPart (s .rosc)
-    ++ (voltagePart reading (s .voltage) (s .settling)
+-- the whole sheet, of settings, what their chip comes to, and their frequencies
+unfoldable pub stepsWith : ℕ → Settings → Board → Frequencies → List Step
+stepsWith reading s b f =
+    markSteps (b .chip)
+    ++ (headPart (b .chip)
+    ++ (ringPart (factsOf (b .chip) .pass) (s .rosc)
+    ++ (voltagePart reading b (s .settling)
     ++ (crystalPart (s .xosc)
-    ++ clocksPart s f)))
+    ++ clocksPart s b f))))
 
 abbrev pub stepsOf : ℕ → Settings → List Step
-stepsOf reading s = stepsWith reading s (frequenciesOf s)
+stepsOf reading s = stepsWith reading s (boardIn s) (frequenciesOf s)
+
+-- the greatest number of steps of a chip's sheet
+abbrev pub mostSteps : Chip → ℕ
+mostSteps Rp2040 = 65
+mostSteps Rp235x = maxSteps

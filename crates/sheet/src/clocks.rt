@@ -1,23 +1,25 @@
 // The parts of a sheet from the stores of the sources on: a clock each, and the last release.
-use crate::resets;
 use crate::words::Words;
+use crate::words::add0;
 use crate::words::add1;
 use crate::words::add2;
+use chip::Chip;
+use config::Board;
 use config::OptionAux;
 use config::OptionPeri;
 use config::OptionRtc;
 use config::RefClkConfig;
-use config::SysClkConfig;
+use config::SysClkSrc;
 use settings::Frequencies;
 use settings::Settings;
 use settings::Sources;
 use step::kind;
 ghost use mathlib.Core.Path.{_≡_};
-ghost use Prim.Native.Nat.{_+_, _≤_};
-ghost use Rattle.sheet.specs.Steps.{sourcePart, refPart, switchSteps, sysPart, periPart, auxPart, rtcPart};
+ghost use Rattle.chip.specs.declared.Chip.the-variants.{Rp2040};
+ghost use Rattle.chip.specs.Chips.{factsOf};
+ghost use Rattle.sheet.specs.Steps.{step2, sourcePart, tickSteps, refPart, switchSteps, sysPart, periPart, auxPart, rtcPart};
 ghost use Rattle.sheet.specs.Steps.{periBits, auxBits, rtcBits, releaseMask, clocksPart};
-ghost use Rattle.sheet.specs.Resets as block;
-ghost use Rattle.sheet.specs.Gather.{held, pushes};
+ghost use Rattle.sheet.specs.Gather.{held, pushed, pushes};
 
 fn put_sources(words: &mut Words, at: usize, f: Sources) -> usize
     ensures { λ r. ⌜ held (now (words .exit)) r ≡ pushes (held (now (words .entry)) at) (sourcePart f) ⌝ }
@@ -27,8 +29,22 @@ fn put_sources(words: &mut Words, at: usize, f: Sources) -> usize
     add2(words, at, kind::STORE, 3, f.pll_usb as u64)
 }
 
-fn put_ref(words: &mut Words, at: usize, hz: u32, clock: RefClkConfig) -> usize
-    ensures { λ r. ⌜ held (now (words .exit)) r ≡ pushes (held (now (words .entry)) at) (refPart hz clock) ⌝ }
+fn put_tick(words: &mut Words, at: usize, chip: Chip, mhz: u64) -> usize
+    ensures { λ r. ⌜ held (now (words .exit)) r ≡ pushes (held (now (words .entry)) at) (tickSteps chip mhz) ⌝ }
+{
+    match chip {
+        Chip::Rp2040 => add1(words, at, kind::TICK, mhz),
+        Chip::Rp235x => {
+            let at = add1(words, at, kind::TIMER_CYCLES, mhz);
+            let at = add0(words, at, kind::TIMER_ON);
+            let at = add1(words, at, kind::WATCHDOG_CYCLES, mhz);
+            add0(words, at, kind::WATCHDOG_ON)
+        }
+    }
+}
+
+fn put_ref(words: &mut Words, at: usize, chip: Chip, hz: u32, clock: RefClkConfig) -> usize
+    ensures { λ r. ⌜ held (now (words .exit)) r ≡ pushes (held (now (words .entry)) at) (refPart chip hz clock) ⌝ }
 {
     let src = clock.src;
     let code = settings::ref_code(src) as u64;
@@ -36,7 +52,7 @@ fn put_ref(words: &mut Words, at: usize, hz: u32, clock: RefClkConfig) -> usize
     let at = add1(words, at, kind::REF_CONTROL, code);
     let at = add1(words, at, kind::WAIT_REF, code);
     let at = add1(words, at, kind::REF_DIVIDER, clock.div as u64 % 4);
-    add1(words, at, kind::TICK, (hz / 1000000) as u64)
+    put_tick(words, at, chip, (hz / 1000000) as u64)
 }
 
 // Away from the auxiliary source before it changes, unless the source is the reference clock.
@@ -50,23 +66,26 @@ fn put_switch(words: &mut Words, at: usize, select: u64) -> usize
     add1(words, at, kind::WAIT_SYS, 0)
 }
 
-fn put_sys(words: &mut Words, at: usize, hz: u64, clock: SysClkConfig) -> usize
-    ensures { λ r. ⌜ held (now (words .exit)) r ≡ pushes (held (now (words .entry)) at) (sysPart hz clock) ⌝ }
+fn put_divider(words: &mut Words, at: usize, chip: Chip, whole: u64, fraction: u64) -> usize
+    ensures { λ r. ⌜ held (now (words .exit)) r ≡ pushed (held (now (words .entry)) at) (step2 (factsOf chip .divider) whole fraction) ⌝ }
 {
-    let src = clock.src;
+    match chip {
+        Chip::Rp2040 => add2(words, at, kind::SYS_DIVIDER, whole, fraction),
+        Chip::Rp235x => add2(words, at, kind::SYS_DIVIDER_235, whole, fraction),
+    }
+}
+
+fn put_sys(words: &mut Words, at: usize, b: Board, hz: u64, src: SysClkSrc) -> usize
+    ensures { λ r. ⌜ held (now (words .exit)) r ≡ pushes (held (now (words .entry)) at) (sysPart b hz src) ⌝ }
+{
     let aux = settings::sys_aux(src) as u64;
     let select = settings::sys_select(src) as u64;
     let at = add2(words, at, kind::STORE, 5, hz);
     let at = put_switch(words, at, select);
     let at = add2(words, at, kind::SYS_CONTROL, aux, select);
     let at = add1(words, at, kind::WAIT_SYS, select);
-    add2(
-        words,
-        at,
-        kind::SYS_DIVIDER,
-        clock.div_int as u64,
-        clock.div_frac as u64,
-    )
+    let chip = b.chip;
+    put_divider(words, at, chip, b.whole as u64, b.fraction as u64)
 }
 
 fn put_peri(words: &mut Words, at: usize, hz: u64, peri: OptionPeri) -> usize
@@ -106,8 +125,9 @@ fn put_aux(
     }
 }
 
-fn put_rtc(words: &mut Words, at: usize, hz: u64, rtc: OptionRtc) -> usize
-    ensures { λ r. ⌜ held (now (words .exit)) r ≡ pushes (held (now (words .entry)) at) (rtcPart hz rtc) ⌝ }
+// Of the RP2040.
+fn put_rtc_2040(words: &mut Words, at: usize, hz: u64, rtc: OptionRtc) -> usize
+    ensures { λ r. ⌜ held (now (words .exit)) r ≡ pushes (held (now (words .entry)) at) (rtcPart Rp2040 hz rtc) ⌝ }
 {
     match rtc {
         OptionRtc::Some(on) => {
@@ -122,18 +142,27 @@ fn put_rtc(words: &mut Words, at: usize, hz: u64, rtc: OptionRtc) -> usize
     }
 }
 
-// What stays in reset where a clock is absent.
-fn peri_bits(peri: OptionPeri) -> u64
-    ensures { λ r. ⌜ (r ≡ periBits peri) × (r ≤ block.spi0 + block.spi1 + block.uart0 + block.uart1) ⌝ }
+fn put_rtc(words: &mut Words, at: usize, chip: Chip, hz: u64, rtc: OptionRtc) -> usize
+    ensures { λ r. ⌜ held (now (words .exit)) r ≡ pushes (held (now (words .entry)) at) (rtcPart chip hz rtc) ⌝ }
 {
-    match peri {
-        OptionPeri::Some(_) => 0,
-        OptionPeri::None => resets::SPI0 + resets::SPI1 + resets::UART0 + resets::UART1,
+    match chip {
+        Chip::Rp2040 => put_rtc_2040(words, at, hz, rtc),
+        Chip::Rp235x => at,
     }
 }
 
-fn aux_bits(bits: u64, aux: OptionAux) -> u64
-    ensures { λ r. ⌜ (r ≡ auxBits bits aux) × (r ≤ bits) ⌝ }
+// The bits that stay in reset where a clock is absent.
+fn peri_bits(bits: u32, peri: OptionPeri) -> u32
+    ensures { λ r. ⌜ r ≡ periBits bits peri ⌝ }
+{
+    match peri {
+        OptionPeri::Some(_) => 0,
+        OptionPeri::None => bits,
+    }
+}
+
+fn aux_bits(bits: u32, aux: OptionAux) -> u32
+    ensures { λ r. ⌜ r ≡ auxBits bits aux ⌝ }
 {
     match aux {
         OptionAux::Some(_) => 0,
@@ -141,39 +170,47 @@ fn aux_bits(bits: u64, aux: OptionAux) -> u64
     }
 }
 
-fn rtc_bits(rtc: OptionRtc) -> u64
-    ensures { λ r. ⌜ (r ≡ rtcBits rtc) × (r ≤ block.rtc) ⌝ }
+fn rtc_bits(bits: u32, rtc: OptionRtc) -> u32
+    ensures { λ r. ⌜ r ≡ rtcBits bits rtc ⌝ }
 {
     match rtc {
         OptionRtc::Some(_) => 0,
-        OptionRtc::None => resets::RTC,
+        OptionRtc::None => bits,
     }
 }
 
-fn release_mask(peri: OptionPeri, usb: OptionAux, adc: OptionAux, rtc: OptionRtc) -> u64
-    ensures { λ r. ⌜ r ≡ releaseMask peri usb adc rtc ⌝ }
+fn release_mask(chip: Chip, peri: OptionPeri, usb: OptionAux, adc: OptionAux, rtc: OptionRtc) -> u64
+    ensures { λ r. ⌜ r ≡ releaseMask chip peri usb adc rtc ⌝ }
 {
-    let absent = peri_bits(peri)
-        + aux_bits(resets::USB, usb)
-        + aux_bits(resets::ADC, adc)
-        + rtc_bits(rtc);
-    resets::ALL - absent
+    let k = chip.facts();
+    let kept = peri_bits(k.peri, peri) as usize
+        + aux_bits(k.usb, usb) as usize
+        + aux_bits(k.adc, adc) as usize
+        + rtc_bits(k.rtc, rtc) as usize;
+    base::less(k.last as usize, kept) as u64
 }
 
-pub(crate) fn put_clocks(words: &mut Words, at: usize, s: Settings, f: Frequencies) -> usize
-    ensures { λ r. ⌜ held (now (words .exit)) r ≡ pushes (held (now (words .entry)) at) (clocksPart s f) ⌝ }
+pub(crate) fn put_clocks(
+    words: &mut Words,
+    at: usize,
+    s: Settings,
+    b: Board,
+    f: Frequencies,
+) -> usize
+    ensures { λ r. ⌜ held (now (words .exit)) r ≡ pushes (held (now (words .entry)) at) (clocksPart s b f) ⌝ }
 {
+    let chip = b.chip;
+    let rtc = b.rtc;
     let sources = f.sources;
     let reference = s.reference;
-    let sys = s.sys;
+    let src = s.sys;
     let peri = s.peri;
     let usb = s.usb;
     let adc = s.adc;
-    let rtc = s.rtc;
-    let mask = release_mask(peri, usb, adc, rtc);
+    let mask = release_mask(chip, peri, usb, adc, rtc);
     let at = put_sources(words, at, sources);
-    let at = put_ref(words, at, f.reference, reference);
-    let at = put_sys(words, at, f.sys, sys);
+    let at = put_ref(words, at, chip, f.reference, reference);
+    let at = put_sys(words, at, b, f.sys, src);
     let at = put_peri(words, at, f.peri, peri);
     let at = put_aux(
         words,
@@ -193,7 +230,7 @@ pub(crate) fn put_clocks(words: &mut Words, at: usize, s: Settings, f: Frequenci
         f.adc as u64,
         adc,
     );
-    let at = put_rtc(words, at, f.rtc, rtc);
+    let at = put_rtc(words, at, chip, f.rtc, rtc);
     let at = add1(words, at, kind::RELEASE, mask);
     add1(words, at, kind::WAIT_RELEASED, mask)
 }

@@ -1,40 +1,53 @@
 // The first parts of a sheet: the head, the ring, the voltage, the crystal and its PLLs.
-use crate::resets;
 use crate::words::Words;
 use crate::words::add0;
 use crate::words::add1;
 use crate::words::add2;
 use crate::words::add4;
 use crate::words::add5;
+use chip::Chip;
+use config::Board;
 use config::OptionPll;
 use config::OptionRosc;
 use settings::OptionCrystal;
 use settings::OptionCycles;
 use step::kind;
-use voltage::CoreVoltage;
 ghost use mathlib.Core.Path.{_≡_};
-ghost use Rattle.sheet.specs.Steps.{headPart, ringPart, settlingSteps, voltagePart, pllSteps, crystalPart};
-ghost use Rattle.sheet.specs.Gather.{held, pushes};
+ghost use mathlib.Core.List.{_++_};
+ghost use Rattle.chip.specs.Chips.{factsOf};
+ghost use Rattle.sheet.specs.Steps.{step1, markSteps, headPart, ringPart, settlingSteps, voltagePart, pllSteps, crystalPart};
+ghost use Rattle.sheet.specs.Gather.{held, pushed, pushes};
 
-// What the ring's divider is written with.
-const RING_PASS: u64 = 0xAA0;
-
-pub(crate) fn put_head(words: &mut Words, at: usize) -> usize
-    ensures { λ r. ⌜ held (now (words .exit)) r ≡ pushes (held (now (words .entry)) at) headPart ⌝ }
+fn put_head(words: &mut Words, at: usize, chip: Chip) -> usize
+    ensures { λ r. ⌜ held (now (words .exit)) r ≡ pushes (held (now (words .entry)) at) (headPart chip) ⌝ }
 {
-    let at = add1(words, at, kind::RESET, resets::FIRST);
+    let k = chip.facts();
+    let at = add1(words, at, kind::RESET, k.first as u64);
     let at = add0(words, at, kind::RESUS_OFF);
     let at = add1(words, at, kind::SYS_SOURCE, 0);
     let at = add1(words, at, kind::WAIT_SYS, 0);
     let at = add1(words, at, kind::REF_SOURCE, 0);
     let at = add1(words, at, kind::WAIT_REF, 0);
-    let at = add1(words, at, kind::RESET, resets::PLLS);
-    let at = add1(words, at, kind::RELEASE, resets::PLLS);
-    add1(words, at, kind::WAIT_RELEASED, resets::PLLS)
+    let at = add1(words, at, kind::RESET, k.plls as u64);
+    let at = add1(words, at, kind::RELEASE, k.plls as u64);
+    add1(words, at, kind::WAIT_RELEASED, k.plls as u64)
 }
 
-pub(crate) fn put_ring(words: &mut Words, at: usize, ring: OptionRosc) -> usize
-    ensures { λ r. ⌜ held (now (words .exit)) r ≡ pushes (held (now (words .entry)) at) (ringPart ring) ⌝ }
+// The mark and the head, from the first word on. Of a constant chip they are constant words, so each chip has its arm.
+pub(crate) fn put_start(words: &mut Words, chip: Chip) -> usize
+    ensures { λ r. ⌜ held (now (words .exit)) r ≡ pushes (held (now (words .entry)) 0) (markSteps chip ++ headPart chip) ⌝ }
+{
+    match chip {
+        Chip::Rp2040 => put_head(words, 0, Chip::Rp2040),
+        Chip::Rp235x => {
+            let at = add0(words, 0, kind::CHIP_MARK);
+            put_head(words, at, Chip::Rp235x)
+        }
+    }
+}
+
+pub(crate) fn put_ring(words: &mut Words, at: usize, pass: u16, ring: OptionRosc) -> usize
+    ensures { λ r. ⌜ held (now (words .exit)) r ≡ pushes (held (now (words .entry)) at) (ringPart pass ring) ⌝ }
 {
     let hz = settings::ring_hz(ring) as u64;
     match ring {
@@ -44,7 +57,7 @@ pub(crate) fn put_ring(words: &mut Words, at: usize, ring: OptionRosc) -> usize
             let code = settings::range_code(range) as u64;
             let at = add4(words, at, kind::STRENGTHS_0_3, g.s0, g.s1, g.s2, g.s3);
             let at = add4(words, at, kind::STRENGTHS_4_7, g.s4, g.s5, g.s6, g.s7);
-            let at = add1(words, at, kind::RING_DIVIDER, on.div as u64 + RING_PASS);
+            let at = add1(words, at, kind::RING_DIVIDER, on.div as u64 + pass as u64);
             let at = add1(words, at, kind::RING_ON, code);
             add2(words, at, kind::STORE, 0, hz)
         }
@@ -61,24 +74,42 @@ fn put_settling(words: &mut Words, at: usize, settling: OptionCycles) -> usize
     }
 }
 
+// The voltage's step. A constant kind compiles to a few shifts, so each chip has its arm.
+fn put_code(words: &mut Words, at: usize, chip: Chip, code: u64) -> usize
+    ensures { λ r. ⌜ held (now (words .exit)) r ≡ pushed (held (now (words .entry)) at) (step1 (factsOf chip .voltage) code) ⌝ }
+{
+    match chip {
+        Chip::Rp2040 => add1(words, at, kind::VOLTAGE, code),
+        Chip::Rp235x => add1(words, at, kind::VOLTAGE_235, code),
+    }
+}
+
+fn put_brownout(words: &mut Words, at: usize, chip: Chip, level: u64) -> usize
+    ensures { λ r. ⌜ held (now (words .exit)) r ≡ pushed (held (now (words .entry)) at) (step1 (factsOf chip .brownout) level) ⌝ }
+{
+    match chip {
+        Chip::Rp2040 => add1(words, at, kind::BROWNOUT, level),
+        Chip::Rp235x => add1(words, at, kind::BROWNOUT_235, level),
+    }
+}
+
 // Nothing where the voltage is as it was read.
 pub(crate) fn put_voltage(
     words: &mut Words,
     at: usize,
     reading: u8,
-    v: CoreVoltage,
+    b: Board,
     settling: OptionCycles,
 ) -> usize
-    ensures { λ r. ⌜ held (now (words .exit)) r ≡ pushes (held (now (words .entry)) at) (voltagePart reading v settling) ⌝ }
+    ensures { λ r. ⌜ held (now (words .exit)) r ≡ pushes (held (now (words .entry)) at) (voltagePart reading b settling) ⌝ }
 {
-    let code = v.code();
-    let bod = v.recommended_bod() as u64;
-    if code == reading {
+    if b.code == reading {
         return at;
     }
-    let at = add1(words, at, kind::VOLTAGE, code as u64);
+    let chip = b.chip;
+    let at = put_code(words, at, chip, b.code as u64);
     let at = put_settling(words, at, settling);
-    add1(words, at, kind::BROWNOUT, bod)
+    put_brownout(words, at, chip, b.brownout as u64)
 }
 
 // Which PLL: 0 system, 1 USB.

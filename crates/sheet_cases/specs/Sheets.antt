@@ -5,6 +5,8 @@ use mathlib.Core.Option.{Option, none, some}
 use Prim.Native.Nat.{ℕ}
 use lib.ListN.{take, drop, replicate}
 use Rattle.base.specs.Answer.{Answer, value, refusal}
+use Rattle.chip.specs.declared.Chip.{Chip}
+use Rattle.chip.specs.declared.Chip.the-variants.{Rp2040, Rp235x}
 use Rattle.voltage.specs.declared.CoreVoltage.{CoreVoltage}
 use Rattle.voltage.specs.Voltage.{coreVoltageOf}
 use Rattle.config.specs.declared.ClockConfig.{ClockConfig}
@@ -26,22 +28,22 @@ abbrev pub plannedText : List ℕ → Answer ClockConfig → List ℕ
 plannedText n planned = answerText (sheetText n) planned
 
 -- HZ
-abbrev pub crystalText : List ℕ → List ℕ
-crystalText n = sheetText n (crystalPlan (nth n 2))
+abbrev pub crystalText : Chip → List ℕ → List ℕ
+crystalText chip n = sheetText n (crystalPlan chip (nth n 2))
 
-abbrev pub roscText : List ℕ → List ℕ
-roscText n = sheetText n roscPlan
+abbrev pub roscText : Chip → List ℕ → List ℕ
+roscText chip n = sheetText n (roscPlan chip)
 
-abbrev pub defaultText : List ℕ → List ℕ
-defaultText n = sheetText n defaultPlan
+abbrev pub defaultText : Chip → List ℕ → List ℕ
+defaultText chip n = sheetText n (defaultPlan chip)
 
 -- HZ
-abbrev pub systemText : List ℕ → List ℕ
-systemText n = plannedText n (systemPlan (nth n 2))
+abbrev pub systemText : Chip → List ℕ → List ℕ
+systemText chip n = plannedText n (systemPlan chip (nth n 2))
 
 -- CRYSTAL HZ
-abbrev pub systemFromText : List ℕ → List ℕ
-systemFromText n = plannedText n (systemPlanFrom (nth n 2) (nth n 3))
+abbrev pub systemFromText : Chip → List ℕ → List ℕ
+systemFromText chip n = plannedText n (systemPlanFrom chip (nth n 2) (nth n 3))
 
 abbrev pub manualWith : List ℕ → Answer CoreVoltage → List ℕ
 manualWith n (value v) = plannedText n (manualPlan (nth n 2) (pllAt n 3) v)
@@ -55,6 +57,11 @@ abbrev pub planText : List ℕ → Option ClockConfig → List ℕ
 planText n (some plan) = sheetText n plan
 planText n none = badCase
 
+-- how many numbers a plan has
+abbrev pub planCount : Chip → ℕ
+planCount Rp2040 = 48
+planCount Rp235x = 43
+
 -- PLAN
-abbrev pub planSheetText : List ℕ → List ℕ
-planSheetText n = planText n (planOf (take 48 (drop 2 n)))
+abbrev pub planSheetText : Chip → List ℕ → List ℕ
+planSheetText chip n = planText n (planOf chip (take (planCount chip) (drop 2 n)))

@@ -1,16 +1,20 @@
 // The cases that write a sheet. Each takes the numbers n of the case: the reading, the room, then those of the plan.
 use base::Length;
+use chip::Chip;
 use config::ClockConfig;
 use config::Planned;
 use plan_numbers::PlanRead;
 use voltage::VoltageRead;
+ghost use mathlib.Core.Path.{_≡_};
+ghost use lib.ListN.{take, drop};
 ghost use Rattle.base.specs.Answer.{lengthIs};
 ghost use Rattle.base.specs.Placed.{Placed};
 ghost use Rattle.config.specs.Presets.{plannedIs};
+ghost use Rattle.plan_numbers.specs.Plan.{planReadIs, planOf};
 ghost use Rattle.replies.specs.Reply.{answerText, writtenText};
 ghost use Rattle.sheet_cases.specs.Sheets.{writeText, sheetText, plannedText};
 ghost use Rattle.sheet_cases.specs.Sheets.{crystalText, roscText, defaultText, systemText, systemFromText};
-ghost use Rattle.sheet_cases.specs.Sheets.{manualText, planSheetText};
+ghost use Rattle.sheet_cases.specs.Sheets.{manualText, planCount, planSheetText};
 
 fn put_written(out: &mut [u8], buf: &[u8], written: Length) -> usize
     ensures { λ r. ⌜ Placed (now (out .entry)) 0 (answerText (writtenText (now (buf .entry))) (lengthIs written)) r (now (out .exit)) ⌝ }
@@ -37,22 +41,22 @@ fn put_sheet(n: &[u32; 64], plan: ClockConfig, out: &mut [u8]) -> usize
     put_write(out, plan, reading, &mut buf[..room])
 }
 
-pub fn put_crystal(n: &[u32; 64], out: &mut [u8]) -> usize
-    ensures { λ r. ⌜ Placed (now (out .entry)) 0 (crystalText (now (n .entry))) r (now (out .exit)) ⌝ }
+pub fn put_crystal(chip: Chip, n: &[u32; 64], out: &mut [u8]) -> usize
+    ensures { λ r. ⌜ Placed (now (out .entry)) 0 (crystalText chip (now (n .entry))) r (now (out .exit)) ⌝ }
 {
-    put_sheet(n, ClockConfig::crystal(fields::number_at(n, 2)), out)
+    put_sheet(n, ClockConfig::crystal(chip, fields::number_at(n, 2)), out)
 }
 
-pub fn put_rosc(n: &[u32; 64], out: &mut [u8]) -> usize
-    ensures { λ r. ⌜ Placed (now (out .entry)) 0 (roscText (now (n .entry))) r (now (out .exit)) ⌝ }
+pub fn put_rosc(chip: Chip, n: &[u32; 64], out: &mut [u8]) -> usize
+    ensures { λ r. ⌜ Placed (now (out .entry)) 0 (roscText chip (now (n .entry))) r (now (out .exit)) ⌝ }
 {
-    put_sheet(n, ClockConfig::rosc(), out)
+    put_sheet(n, ClockConfig::rosc(chip), out)
 }
 
-pub fn put_default(n: &[u32; 64], out: &mut [u8]) -> usize
-    ensures { λ r. ⌜ Placed (now (out .entry)) 0 (defaultText (now (n .entry))) r (now (out .exit)) ⌝ }
+pub fn put_default(chip: Chip, n: &[u32; 64], out: &mut [u8]) -> usize
+    ensures { λ r. ⌜ Placed (now (out .entry)) 0 (defaultText chip (now (n .entry))) r (now (out .exit)) ⌝ }
 {
-    put_sheet(n, ClockConfig::default(), out)
+    put_sheet(n, ClockConfig::default(chip), out)
 }
 
 fn put_planned(n: &[u32; 64], planned: Planned, out: &mut [u8]) -> usize
@@ -64,18 +68,22 @@ fn put_planned(n: &[u32; 64], planned: Planned, out: &mut [u8]) -> usize
     }
 }
 
-pub fn put_system(n: &[u32; 64], out: &mut [u8]) -> usize
-    ensures { λ r. ⌜ Placed (now (out .entry)) 0 (systemText (now (n .entry))) r (now (out .exit)) ⌝ }
+pub fn put_system(chip: Chip, n: &[u32; 64], out: &mut [u8]) -> usize
+    ensures { λ r. ⌜ Placed (now (out .entry)) 0 (systemText chip (now (n .entry))) r (now (out .exit)) ⌝ }
 {
-    put_planned(n, ClockConfig::system_freq(fields::number_at(n, 2)), out)
+    put_planned(
+        n,
+        ClockConfig::system_freq(chip, fields::number_at(n, 2)),
+        out,
+    )
 }
 
-pub fn put_system_from(n: &[u32; 64], out: &mut [u8]) -> usize
-    ensures { λ r. ⌜ Placed (now (out .entry)) 0 (systemFromText (now (n .entry))) r (now (out .exit)) ⌝ }
+pub fn put_system_from(chip: Chip, n: &[u32; 64], out: &mut [u8]) -> usize
+    ensures { λ r. ⌜ Placed (now (out .entry)) 0 (systemFromText chip (now (n .entry))) r (now (out .exit)) ⌝ }
 {
     let crystal_hz = fields::number_at(n, 2);
     let hz = fields::number_at(n, 3);
-    put_planned(n, ClockConfig::system_freq_from(crystal_hz, hz), out)
+    put_planned(n, ClockConfig::system_freq_from(chip, crystal_hz, hz), out)
 }
 
 pub fn put_manual(n: &[u32; 64], out: &mut [u8]) -> usize
@@ -89,11 +97,20 @@ pub fn put_manual(n: &[u32; 64], out: &mut [u8]) -> usize
     }
 }
 
-pub fn put_plan_sheet(n: &[u32; 64], out: &mut [u8]) -> usize
-    ensures { λ r. ⌜ Placed (now (out .entry)) 0 (planSheetText (now (n .entry))) r (now (out .exit)) ⌝ }
+fn plan_of(chip: Chip, n: &[u32; 64]) -> PlanRead
+    ensures { λ r. ⌜ planReadIs r ≡ planOf chip (take (planCount chip) (drop 2 (now (n .entry)))) ⌝ }
 {
     let all = &n[..];
-    match plan_numbers::plan(&all[2..50]) {
+    match chip {
+        Chip::Rp2040 => plan_numbers::plan(chip, &all[2..50]),
+        Chip::Rp235x => plan_numbers::plan(chip, &all[2..45]),
+    }
+}
+
+pub fn put_plan_sheet(chip: Chip, n: &[u32; 64], out: &mut [u8]) -> usize
+    ensures { λ r. ⌜ Placed (now (out .entry)) 0 (planSheetText chip (now (n .entry))) r (now (out .exit)) ⌝ }
+{
+    match plan_of(chip, n) {
         PlanRead::Plan(plan) => put_sheet(n, plan, out),
         PlanRead::Bad => replies::put_bad(out),
     }

@@ -10,7 +10,7 @@ pub use access::word;
 pub use packing::pack;
 
 // The greatest number of steps of a sheet, and its bytes.
-pub const MAX_STEPS: usize = 65;
+pub const MAX_STEPS: usize = 66;
 
 pub const MAX_BYTES: usize = 8 * MAX_STEPS;
 

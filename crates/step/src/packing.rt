@@ -55,6 +55,14 @@ fn layout(kind: u8) -> Widths
         kind::RTC_DIVIDER => Widths(24, 8, 0, 0, 0), // RTC divider
         kind::RTC_CONTROL => Widths(2, 2, 0, 0, 0), // RTC phase, aux
         kind::STORE => Widths(4, 32, 0, 0, 0), // store: clock, Hz
+        kind::CHIP_MARK => Widths(0, 0, 0, 0, 0), // chip mark: RP235x
+        kind::TIMER_CYCLES => Widths(9, 0, 0, 0, 0), // timer cycles
+        kind::TIMER_ON => Widths(0, 0, 0, 0, 0), // timer on
+        kind::WATCHDOG_CYCLES => Widths(9, 0, 0, 0, 0), // watchdog cycles
+        kind::WATCHDOG_ON => Widths(0, 0, 0, 0, 0), // watchdog on
+        kind::VOLTAGE_235 => Widths(5, 0, 0, 0, 0), // voltage code of the RP235x
+        kind::BROWNOUT_235 => Widths(5, 0, 0, 0, 0), // brownout of the RP235x
+        kind::SYS_DIVIDER_235 => Widths(16, 16, 0, 0, 0), // system divider of the RP235x
         _ => Widths(0, 0, 0, 0, 0),
     }
 }
@@ -199,6 +207,14 @@ pub(crate) fn unpack(word: u64) -> Unpacked
         kind::RTC_DIVIDER => unpack_as(kind::RTC_DIVIDER, word),
         kind::RTC_CONTROL => unpack_as(kind::RTC_CONTROL, word),
         kind::STORE => unpack_as(kind::STORE, word),
+        kind::CHIP_MARK => unpack_as(kind::CHIP_MARK, word),
+        kind::TIMER_CYCLES => unpack_as(kind::TIMER_CYCLES, word),
+        kind::TIMER_ON => unpack_as(kind::TIMER_ON, word),
+        kind::WATCHDOG_CYCLES => unpack_as(kind::WATCHDOG_CYCLES, word),
+        kind::WATCHDOG_ON => unpack_as(kind::WATCHDOG_ON, word),
+        kind::VOLTAGE_235 => unpack_as(kind::VOLTAGE_235, word),
+        kind::BROWNOUT_235 => unpack_as(kind::BROWNOUT_235, word),
+        kind::SYS_DIVIDER_235 => unpack_as(kind::SYS_DIVIDER_235, word),
         _ => Unpacked::Refused(20),
     }
 }

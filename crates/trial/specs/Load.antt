@@ -12,6 +12,7 @@ use Rattle.text.specs.Words.{upTo}
 use Rattle.replies.specs.Reply.{refusedText, answerText, rowText}
 use Rattle.pll.specs.declared.PllConfig.{PllConfig}
 use Rattle.pll.specs.Search.{searchOf}
+use Rattle.chip.specs.declared.Chip.the-variants.{Rp2040}
 use Rattle.config.specs.Presets.{crystalPlan}
 use Rattle.sheet.specs.Writer.{sheetBytes}
 use Rattle.runner.specs.declared.Runner.{Runner}
@@ -39,7 +40,7 @@ targetLines seed (suc n) = targetLines seed n ++ targetLine (drawn seed (suc n))
 
 -- runner trial: over the crystal preset's 12 MHz sheet at reading 11 each call hears the top bit of a draw
 abbrev pub trialSheet : List ℕ
-trialSheet = sheetBytes (crystalPlan 12000000) 11
+trialSheet = sheetBytes (crystalPlan Rp2040 12000000) 11
 
 abbrev pub flags : ℕ → ℕ → Bool
 flags seed i = topBit (drawn seed (suc i))

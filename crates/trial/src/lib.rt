@@ -1,6 +1,7 @@
 // The whole output of the program `load` for its input: the same two trials on each machine.
 use base::Length;
 use base::Number;
+use chip::Chip;
 use config::ClockConfig;
 use pll::Found;
 use runner::Runner;
@@ -98,7 +99,11 @@ fn trial_runner(seed: u32, count: u32) -> Runner
     ensures { λ r. ⌜ r ≡ trialRunner seed count ⌝ }
 {
     let mut bytes = [0u8; MAX_BYTES];
-    let Length::Bytes(n) = sheet::init(ClockConfig::crystal(CRYSTAL_HZ), READING, &mut bytes) else {
+    let Length::Bytes(n) = sheet::init(
+        ClockConfig::crystal(Chip::Rp2040, CRYSTAL_HZ),
+        READING,
+        &mut bytes,
+    ) else {
         return Runner::new();
     };
     run(&bytes[..n], seed, count)

@@ -9,19 +9,21 @@ use mathlib.Core.List.{List}
 use mathlib.Core.Path.{_≡_, refl}
 use lib.ListN.{length}
 use Rattle.step.specs.Sheet.{maxSteps, encoded}
+use Rattle.chip.specs.declared.Chip.{Chip}
+use Rattle.chip.specs.declared.Chip.the-variants.{Rp2040, Rp235x}
 use Rattle.divider.specs.Delay.{cyclesPerUs, settlingCycles}
 use Rattle.divider.specs.Clock.{dividedHz}
 use Rattle.config.specs.declared.ClockConfig.{ClockConfig}
 use Rattle.settings.specs.Settings.{settlingStep, settingsOf}
-use Rattle.settings.specs.Frequencies.{pllHz, sourcesOf, refHz, sysHz, storedOf}
+use Rattle.settings.specs.Frequencies.{pllHz, sourcesOf, refHz, sysHz, tenOf}
 use Rattle.settings.specs.Typed.{Typed}
 use Rattle.refusals.specs.Refusals.{Accepted}
 use Rattle.sheet.specs.Steps.{headPart, ringPart, voltagePart, crystalPart, switchSteps, sysPart, periPart, auxPart}
-use Rattle.sheet.specs.Steps.{rtcPart, clocksPart, stepsWith}
+use Rattle.sheet.specs.Steps.{rtcPart, clocksPart, stepsWith, mostSteps}
 use Rattle.sheet.specs.Writer.{sheetBytes}
-use Rattle.sheet.proofs.Counts.{steps-few}
+use Rattle.sheet.proofs.Counts.{chip-few, steps-few}
 use Rattle.sheet.proofs.Sheets.{steps-formed}
-use Rattle.sheet.proofs.Examples.{longestPlan, longest-steps}
+use Rattle.sheet.proofs.Examples.{Gives, longestPlan, longest-steps, longest235, longest-steps-235}
 use Rattle.up.specs.Up.{planSteps}
 use Rattle.up.specs.Wait.{HearsAtMost, waitsIn, UpAfter, UpWithin}
 use Rattle.up.specs.Slow.{slowest}
@@ -41,7 +43,7 @@ module _ (p : ClockConfig) (reading : ℕ) (ok : Accepted p reading) (t : Typed 
       let polls : k * waitsIn steps ≤ k * maxWaits = mul-le-mul-left k (waits-ten reading s) in
       record {
         calls = up .calls;
-        few = omega (arith, up .few, polls, steps-few reading s);
+        few = omega (arith, up .few, polls, chip-few reading s);
         up = rw (steps-store reading s) at (up .up);
       }
 
@@ -52,21 +54,30 @@ module _ (p : ClockConfig) (reading : ℕ) (ok : Accepted p reading) (t : Typed 
       rw (steps-store reading s) at
       (steps-come-up-ready (planSteps p reading) (steps-formed s reading ok t) (steps-few reading s) ready hears)
 
--- the bound is reached: the longest plan at reading 11, kept waiting by the slowest stream
-longest-waits : waitsIn (planSteps longestPlan 11) ≡ maxWaits
-unfolding longestPlan cyclesPerUs settlingCycles dividedHz settlingStep pllHz sourcesOf refHz sysHz headPart ringPart
-    voltagePart crystalPart switchSteps sysPart periPart auxPart rtcPart clocksPart stepsWith
-longest-waits = refl
+-- the bound is reached: the longest plan of each chip at reading 11, kept waiting by the slowest stream
+abbrev pub longest : Chip → ClockConfig
+longest Rp2040 = longestPlan
+longest Rp235x = longest235
 
-pub bound-reached : (k : ℕ) → k < 1000000 → let sheet = sheetBytes longestPlan 11 in
+longest-gives : (chip : Chip) → Gives (longest chip) 11 (mostSteps chip)
+longest-gives Rp2040 = longest-steps
+longest-gives Rp235x = longest-steps-235
+
+longest-waits : (chip : Chip) → waitsIn (planSteps (longest chip) 11) ≡ maxWaits
+unfolding longestPlan longest235 cyclesPerUs settlingCycles dividedHz settlingStep pllHz sourcesOf refHz sysHz headPart ringPart
+    voltagePart crystalPart switchSteps sysPart periPart auxPart rtcPart clocksPart stepsWith
+longest-waits Rp2040 = refl
+longest-waits Rp235x = refl
+
+pub bound-reached : (chip : Chip) (k : ℕ) → k < 1000000 → let sheet = sheetBytes (longest chip) 11 in
     HearsAtMost k sheet (slowest k sheet)
-    × UpAfter (mostCalls k) sheet (slowest k sheet) (storedOf (settingsOf longestPlan 11))
+    × UpAfter (mostCalls chip k) sheet (slowest k sheet) (tenOf (settingsOf (longest chip) 11))
 unfolding sheetBytes
-bound-reached k small =
-    let g = longest-steps in
-    let s = settingsOf longestPlan 11 in
-    let xs = planSteps longestPlan 11 in
-    let calls : length xs + k * waitsIn xs ≡ mostCalls k = rw (g .count, longest-waits) (omega arith) in (
+bound-reached chip k small =
+    let g = longest-gives chip in
+    let s = settingsOf (longest chip) 11 in
+    let xs = planSteps (longest chip) 11 in
+    let calls : length xs + k * waitsIn xs ≡ mostCalls chip k = rw (g .count, longest-waits chip) (omega arith) in (
       slow-few k (encoded xs),
       rw (calls, steps-store 11 s) at
           (steps-come-up-slowest xs (steps-formed s 11 (g .accepted) (g .typed)) (steps-few 11 s) k small),
@@ -80,7 +91,7 @@ least n m sheet ready held freqs a u =
     early : u .calls < n → ⊥
     early h = rw (u .up .ends (u .calls) (omega arith)) at (a .before (u .calls) h)
 
--- so no lower number bounds the calls of every accepted plan
-pub none-lower : (k : ℕ) → k < 1000000 → (m : ℕ) (freqs : List ℕ)
-    → (let sheet = sheetBytes longestPlan 11 in UpWithin m sheet (slowest k sheet) freqs) → mostCalls k ≤ m
-none-lower k small m freqs u = least (mostCalls k) m _ _ _ freqs (bound-reached k small .1) u
+-- so no lower number bounds the calls of every accepted plan of the chip
+pub none-lower : (chip : Chip) (k : ℕ) → k < 1000000 → (m : ℕ) (freqs : List ℕ)
+    → (let sheet = sheetBytes (longest chip) 11 in UpWithin m sheet (slowest k sheet) freqs) → mostCalls chip k ≤ m
+none-lower chip k small m freqs u = least (mostCalls chip k) m _ _ _ freqs (bound-reached chip k small .1) u

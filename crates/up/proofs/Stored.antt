@@ -9,10 +9,14 @@ use lib.ListN.{replicate}
 use Rattle.base.specs.Choice.{pick}
 use Rattle.step.specs.declared.Step.{Step}
 use Rattle.step.specs.Kinds as kind
+use Rattle.config.specs.declared.ChipConfig.{ChipConfig}
+use Rattle.config.specs.declared.ChipConfig.the-variants.{Rp2040 as on2040, Rp235x as on235x}
+use Rattle.config.specs.Board.{boardOf}
 use Rattle.settings.specs.declared.Settings.{Settings}
-use Rattle.settings.specs.Frequencies.{storedOf}
+use Rattle.settings.specs.declared.Sources.{Sources}
+use Rattle.settings.specs.Frequencies.{rtcHz, tenthOf, storedOf, tenOf}
 use Rattle.sheet.specs.Steps.{stepsOf}
-use Rattle.sheet.specs.Stores.{storesIn}
+use Rattle.sheet.specs.Stores.{storesIn, storesFrom}
 use Rattle.sheet.proofs.Stores.{sheet-stores}
 use Rattle.runner.specs.Run.{storedBy}
 use Rattle.runner.specs.Calls.{storesOf}
@@ -31,8 +35,18 @@ stores-alone (x ∷ xs) freqs = go (eqb (x .kind) kind.store) refl (stores-alone
     go true k rest = rest
     go false k rest = rest ∙ ap (storesOf (storesIn xs)) (no-store x freqs k)
 
-pub steps-store : (reading : ℕ) (s : Settings) → storesOf (stepsOf reading s) (replicate 10 0) ≡ storedOf s
-unfolding storedOf storedBy
+-- where nothing is stored for the RTC it has 0 Hz
+tenth : (c : ChipConfig) (f : Sources) (a₀ a₁ a₂ a₃ a₄ a₅ a₆ a₇ a₈ : ℕ)
+    → storesOf (storesFrom 9 (tenthOf (boardOf c .chip) (rtcHz f (boardOf c .rtc))))
+    (a₀ ∷ a₁ ∷ a₂ ∷ a₃ ∷ a₄ ∷ a₅ ∷ a₆ ∷ a₇ ∷ a₈ ∷ 0 ∷ [])
+    ≡ a₀ ∷ a₁ ∷ a₂ ∷ a₃ ∷ a₄ ∷ a₅ ∷ a₆ ∷ a₇ ∷ a₈ ∷ rtcHz f (boardOf c .rtc) ∷ []
+unfolding storedBy
+tenth (on2040 c) f a₀ a₁ a₂ a₃ a₄ a₅ a₆ a₇ a₈ = refl
+tenth (on235x c) f a₀ a₁ a₂ a₃ a₄ a₅ a₆ a₇ a₈ = refl
+
+pub steps-store : (reading : ℕ) (s : Settings) → storesOf (stepsOf reading s) (replicate 10 0) ≡ tenOf s
+unfolding storedOf tenOf storedBy
 steps-store reading s =
     stores-alone (stepsOf reading s) (replicate 10 0)
     ∙ ap (λ (xs : List Step). storesOf xs (replicate 10 0)) (sheet-stores reading s)
+    ∙ tenth (s .chip) _ _ _ _ _ _ _ _ _ _

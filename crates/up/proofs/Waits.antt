@@ -3,12 +3,15 @@
 use Prim.Native.Nat.{ℕ, _≤_}
 use native.Mathlib.Omega.{arith}
 use mathlib.Core.List.{List, [], _∷_}
-use mathlib.Core.Path.{_≡_}
+use mathlib.Core.Path.{_≡_, refl}
 use Rattle.base.specs.Choice.{bit}
 use Rattle.step.specs.declared.Step.{Step}
+use Rattle.chip.specs.declared.Chip.{Chip}
+use Rattle.chip.specs.declared.Chip.the-variants.{Rp2040, Rp235x}
 use Rattle.settings.specs.declared.Settings.{Settings}
+use Rattle.settings.specs.Frequencies.{boardIn}
 use Rattle.sheet.specs.Steps.{stepsOf}
-use Rattle.sheet.proofs.Counts.{weigh, sheetKinds, steps-most}
+use Rattle.sheet.proofs.Counts.{weight, weigh, clocksKinds, sheetKinds, steps-most}
 use Rattle.runner.specs.Run.{isWait}
 use Rattle.up.specs.Wait.{waitsIn}
 use Rattle.up.specs.ComesUp.{maxWaits}
@@ -17,6 +20,12 @@ weighed : (xs : List Step) → weigh (λ k. bit (isWait k)) xs ≡ waitsIn xs
 weighed [] = omega arith
 weighed (x ∷ xs) = omega (arith, weighed xs)
 
+chip-waits : (chip : Chip) → weight (λ k. bit (isWait k)) (sheetKinds chip) ≡ maxWaits
+unfolding sheetKinds clocksKinds
+chip-waits Rp2040 = refl
+chip-waits Rp235x = refl
+
 pub waits-ten : (reading : ℕ) (s : Settings) → waitsIn (stepsOf reading s) ≤ maxWaits
-unfolding sheetKinds
-waits-ten reading s = omega (arith, steps-most (λ k. bit (isWait k)) reading s, weighed (stepsOf reading s))
+waits-ten reading s =
+    let count = chip-waits (boardIn s .chip) in
+    omega (arith, steps-most (λ k. bit (isWait k)) reading s, weighed (stepsOf reading s), count)

@@ -9,7 +9,7 @@ use Rattle.base.specs.Answer.{value}
 use Rattle.step.specs.declared.Step.{Step}
 use Rattle.config.specs.declared.ClockConfig.{ClockConfig}
 use Rattle.settings.specs.Settings.{settingsOf}
-use Rattle.settings.specs.Frequencies.{storedOf}
+use Rattle.settings.specs.Frequencies.{tenOf}
 use Rattle.sheet.specs.Steps.{stepsOf}
 use Rattle.sheet.specs.Writer.{sheetBytes}
 use Rattle.runner.specs.Run.{done, fresh}
@@ -25,8 +25,8 @@ AnswersAll p reading =
     answers fresh (sheetBytes p reading) (replicate (length (planSteps p reading) + 1) true)
     ≡ map readyAnswer (planSteps p reading) ++ (value done ∷ [])
 
--- after as many calls as there are steps the runner holds the stored values
+-- after as many calls as there are steps the runner holds the stored values, and 0 Hz for the RTC of an RP235x
 abbrev pub LeavesStored : ClockConfig → ℕ → Type 0
 LeavesStored p reading =
     after fresh (sheetBytes p reading) (replicate (length (planSteps p reading)) true)
-    ≡ readyAt (length (planSteps p reading)) (storedOf (settingsOf p reading))
+    ≡ readyAt (length (planSteps p reading)) (tenOf (settingsOf p reading))

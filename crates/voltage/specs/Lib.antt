@@ -1,2 +1,3 @@
 pub mod Voltage
+pub mod Voltage235
 pub mod Answers

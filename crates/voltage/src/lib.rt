@@ -1,8 +1,13 @@
 // The core voltage: its register codes, brownout levels and default settling times.
 ghost use mathlib.Core.Path.{_≡_};
-ghost use Rattle.voltage.specs.Voltage.{codeOf, bodOf, settlingOf, coreVoltageOf};
-ghost use Rattle.voltage.specs.Answers.{voltageReadIs};
+ghost use Rattle.voltage.specs.Voltage.{voltsOf, codeOf, bodOf, settlingOf, coreVoltageOf};
+ghost use Rattle.voltage.specs.Voltage235.{volts235Of, code235Of, bod235Of, settling235Of, coreVoltage235Of};
+ghost use Rattle.voltage.specs.Answers.{voltageReadIs, voltageRead235Is};
 
+// A voltage's register code, brownout level and default settling time in µs.
+struct Volts(u8, u8, u32);
+
+// Of the RP2040.
 pub enum CoreVoltage {
     V0_80,
     V0_85,
@@ -24,61 +29,43 @@ pub enum VoltageRead {
 }
 
 impl CoreVoltage {
+    fn volts(self) -> Volts
+        ensures { λ r. ⌜ r ≡ voltsOf self ⌝ }
+    {
+        match self {
+            CoreVoltage::V0_80 => Volts(0, 4, 0),
+            CoreVoltage::V0_85 => Volts(6, 5, 0),
+            CoreVoltage::V0_90 => Volts(7, 6, 0),
+            CoreVoltage::V0_95 => Volts(8, 7, 0),
+            CoreVoltage::V1_00 => Volts(9, 8, 0),
+            CoreVoltage::V1_05 => Volts(10, 8, 0),
+            CoreVoltage::V1_10 => Volts(11, 9, 0),
+            CoreVoltage::V1_15 => Volts(12, 10, 1000),
+            CoreVoltage::V1_20 => Volts(13, 11, 2000),
+            CoreVoltage::V1_25 => Volts(14, 12, 2000),
+            CoreVoltage::V1_30 => Volts(15, 13, 2000),
+        }
+    }
+
     // The register code, the Rust's `as u8`.
     pub fn code(self) -> u8
         ensures { λ r. ⌜ r ≡ codeOf self ⌝ }
     {
-        match self {
-            CoreVoltage::V0_80 => 0,
-            CoreVoltage::V0_85 => 6,
-            CoreVoltage::V0_90 => 7,
-            CoreVoltage::V0_95 => 8,
-            CoreVoltage::V1_00 => 9,
-            CoreVoltage::V1_05 => 10,
-            CoreVoltage::V1_10 => 11,
-            CoreVoltage::V1_15 => 12,
-            CoreVoltage::V1_20 => 13,
-            CoreVoltage::V1_25 => 14,
-            CoreVoltage::V1_30 => 15,
-        }
+        self.volts().0
     }
 
-    // The brownout detector's level, about 80 % of the voltage.
+    // The brownout detector's level.
     pub fn recommended_bod(self) -> u8
         ensures { λ r. ⌜ r ≡ bodOf self ⌝ }
     {
-        match self {
-            CoreVoltage::V0_80 => 4,
-            CoreVoltage::V0_85 => 5,
-            CoreVoltage::V0_90 => 6,
-            CoreVoltage::V0_95 => 7,
-            CoreVoltage::V1_00 => 8,
-            CoreVoltage::V1_05 => 8,
-            CoreVoltage::V1_10 => 9,
-            CoreVoltage::V1_15 => 10,
-            CoreVoltage::V1_20 => 11,
-            CoreVoltage::V1_25 => 12,
-            CoreVoltage::V1_30 => 13,
-        }
+        self.volts().1
     }
 
     // Microseconds to wait after a change to this voltage, where a plan gives no time.
     pub fn default_settling_us(self) -> u32
         ensures { λ r. ⌜ r ≡ settlingOf self ⌝ }
     {
-        match self {
-            CoreVoltage::V0_80 => 0,
-            CoreVoltage::V0_85 => 0,
-            CoreVoltage::V0_90 => 0,
-            CoreVoltage::V0_95 => 0,
-            CoreVoltage::V1_00 => 0,
-            CoreVoltage::V1_05 => 0,
-            CoreVoltage::V1_10 => 0,
-            CoreVoltage::V1_15 => 1000,
-            CoreVoltage::V1_20 => 2000,
-            CoreVoltage::V1_25 => 2000,
-            CoreVoltage::V1_30 => 2000,
-        }
+        self.volts().2
     }
 }
 
@@ -99,5 +86,100 @@ pub fn core_voltage(reading: u8) -> VoltageRead
         14 => VoltageRead::Voltage(CoreVoltage::V1_25),
         15 => VoltageRead::Voltage(CoreVoltage::V1_30),
         _ => VoltageRead::Refused(18),
+    }
+}
+
+// Of the RP235x.
+pub enum CoreVoltage235 {
+    V0_55,
+    V0_60,
+    V0_65,
+    V0_70,
+    V0_75,
+    V0_80,
+    V0_85,
+    V0_90,
+    V0_95,
+    V1_00,
+    V1_05,
+    V1_10,
+    V1_15,
+    V1_20,
+    V1_25,
+    V1_30,
+}
+
+pub enum VoltageRead235 {
+    Voltage(CoreVoltage235),
+    Refused(u8),
+}
+
+impl CoreVoltage235 {
+    fn volts(self) -> Volts
+        ensures { λ r. ⌜ r ≡ volts235Of self ⌝ }
+    {
+        match self {
+            CoreVoltage235::V0_55 => Volts(0, 1, 0),
+            CoreVoltage235::V0_60 => Volts(1, 2, 0),
+            CoreVoltage235::V0_65 => Volts(2, 3, 0),
+            CoreVoltage235::V0_70 => Volts(3, 3, 0),
+            CoreVoltage235::V0_75 => Volts(4, 4, 0),
+            CoreVoltage235::V0_80 => Volts(5, 5, 0),
+            CoreVoltage235::V0_85 => Volts(6, 6, 0),
+            CoreVoltage235::V0_90 => Volts(7, 6, 0),
+            CoreVoltage235::V0_95 => Volts(8, 7, 0),
+            CoreVoltage235::V1_00 => Volts(9, 8, 0),
+            CoreVoltage235::V1_05 => Volts(10, 8, 0),
+            CoreVoltage235::V1_10 => Volts(11, 9, 0),
+            CoreVoltage235::V1_15 => Volts(12, 9, 1000),
+            CoreVoltage235::V1_20 => Volts(13, 10, 2000),
+            CoreVoltage235::V1_25 => Volts(14, 10, 2000),
+            CoreVoltage235::V1_30 => Volts(15, 11, 2000),
+        }
+    }
+
+    // The register code, the Rust's `as u8`.
+    pub fn code(self) -> u8
+        ensures { λ r. ⌜ r ≡ code235Of self ⌝ }
+    {
+        self.volts().0
+    }
+
+    // The brownout detector's level.
+    pub fn recommended_bod(self) -> u8
+        ensures { λ r. ⌜ r ≡ bod235Of self ⌝ }
+    {
+        self.volts().1
+    }
+
+    // Microseconds to wait after a change to this voltage, where a plan gives no time.
+    pub fn default_settling_us(self) -> u32
+        ensures { λ r. ⌜ r ≡ settling235Of self ⌝ }
+    {
+        self.volts().2
+    }
+}
+
+pub fn core_voltage_235(reading: u8) -> VoltageRead235
+    ensures { λ r. ⌜ voltageRead235Is r ≡ coreVoltage235Of reading ⌝ }
+{
+    match reading {
+        0 => VoltageRead235::Voltage(CoreVoltage235::V0_55),
+        1 => VoltageRead235::Voltage(CoreVoltage235::V0_60),
+        2 => VoltageRead235::Voltage(CoreVoltage235::V0_65),
+        3 => VoltageRead235::Voltage(CoreVoltage235::V0_70),
+        4 => VoltageRead235::Voltage(CoreVoltage235::V0_75),
+        5 => VoltageRead235::Voltage(CoreVoltage235::V0_80),
+        6 => VoltageRead235::Voltage(CoreVoltage235::V0_85),
+        7 => VoltageRead235::Voltage(CoreVoltage235::V0_90),
+        8 => VoltageRead235::Voltage(CoreVoltage235::V0_95),
+        9 => VoltageRead235::Voltage(CoreVoltage235::V1_00),
+        10 => VoltageRead235::Voltage(CoreVoltage235::V1_05),
+        11 => VoltageRead235::Voltage(CoreVoltage235::V1_10),
+        12 => VoltageRead235::Voltage(CoreVoltage235::V1_15),
+        13 => VoltageRead235::Voltage(CoreVoltage235::V1_20),
+        14 => VoltageRead235::Voltage(CoreVoltage235::V1_25),
+        15 => VoltageRead235::Voltage(CoreVoltage235::V1_30),
+        _ => VoltageRead235::Refused(18),
     }
 }

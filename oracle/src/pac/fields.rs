@@ -32,11 +32,11 @@ pub enum Loss {
 }
 use Loss::{Refused, RefusedUnlessFour, Unknown};
 
-const fn ones(width: u32) -> u32 {
+pub(super) const fn ones(width: u32) -> u32 {
     u32::MAX >> (32 - width)
 }
 
-fn insert(word: u32, low: u32, width: u32, value: u32, loss: Loss, name: &str) -> u32 {
+pub(super) fn insert(word: u32, low: u32, width: u32, value: u32, loss: Loss, name: &str) -> u32 {
     let held = value & ones(width);
     if held != value {
         recorder::cut(value, loss, name);
@@ -224,5 +224,8 @@ registers! {
     GpioCtrl {
         funcsel set_funcsel: u8, 0, 5, Unknown;
     }
-    PadCtrl {}
+    // The RP235x's alone.
+    PadCtrl {
+        iso set_iso: bool, 8, 1, Unknown;
+    }
 }

@@ -1,9 +1,11 @@
 //! A stand-in for rp-pac: the registers that the published code reads and writes, by its names.
 //! Every access goes to the recorder.
 
+#[macro_use]
+pub mod values;
+#[macro_use]
 pub mod fields;
 mod names;
-pub mod values;
 
 use std::marker::PhantomData;
 
@@ -159,3 +161,5 @@ pub const VREG_AND_CHIP_RESET: vreg_and_chip_reset::VregAndChipReset =
     vreg_and_chip_reset::VregAndChipReset { index: 0 };
 pub const WATCHDOG: watchdog::Watchdog = watchdog::Watchdog { index: 0 };
 pub const PIN: io::Gpio = io::Gpio { index: 0 };
+
+pub mod rp235x;

@@ -37,4 +37,15 @@ pub enum Name {
     PllPosts,
     PinControl,
     PadControl,
+    // Registers of the RP235x that the RP2040 has otherwise or not at all.
+    Rp235xRefDivider,
+    Rp235xSysDivider,
+    Rp235xUsbDivider,
+    Rp235xAdcDivider,
+    Rp235xVreg,
+    Rp235xBrownout,
+    TimerCycles,
+    TimerControl,
+    WatchdogCycles,
+    WatchdogControl,
 }

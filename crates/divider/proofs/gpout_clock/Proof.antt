@@ -1,26 +1,39 @@
 -- `divider::gpout_clock` meets its contract. Assumes nothing.
-use borrow.Author.Tests.{ne-eqb}
+use mathlib.Core.Path.{_≡_, refl, sym}
+use mathlib.Core.List.{List, [], _∷_}
+use Prim.Native.Nat.{ℕ, zero, suc, _<_, _≤_}
+use native.Mathlib.Omega.{arith}
+use lib.ListN.{length, getD, List·getD-eq-default}
+use borrow.Author.Needs.{needs}
+use Rattle.chip.specs.declared.Chip.{Chip}
+use Rattle.chip.specs.declared.Chip.the-variants.{Rp2040, Rp235x}
+use Rattle.chip.specs.Chips.{factsOf}
+use Rattle.divider.specs.Gpout.{gpoutClock}
 use Rattle.divider.proofs.gpout_clock.Statement.{statement}
 use Rattle.divider.proofs.gpout_clock.Tie as tie
 
--- a source code that stands for no clock
-returns-9 : tie.Need-returns-9
-returns-9 c =
-    let rest = c .match .rest in
-    simp (
-      ne-eqb _ _ (rest .0 .0 .0 .0 .0 .0 .0 .1),
-      ne-eqb _ _ (rest .0 .0 .0 .0 .0 .0 .1),
-      ne-eqb _ _ (rest .0 .0 .0 .0 .0 .1),
-      ne-eqb _ _ (rest .0 .0 .0 .0 .1),
-      ne-eqb _ _ (rest .0 .0 .0 .1),
-      ne-eqb _ _ (rest .0 .0 .1),
-      ne-eqb _ _ (rest .0 .1),
-      ne-eqb _ _ (rest .1),
-    )
+-- within a list no default counts
+within : (l : List ℕ) (i : ℕ) → i < length l → getD l i 0 ≡ getD l i 10
+within [] i h = absurd (omega arith)
+within (x ∷ l) zero h = refl
+within (x ∷ l) (suc i) h = within l i (omega arith)
+
+-- each table has the codes 0 to 11
+coded : (chip : Chip) (i : ℕ) → i < 12 → getD (factsOf chip .gpout) i 0 ≡ getD (factsOf chip .gpout) i 10
+coded Rp2040 i h = within (factsOf Rp2040 .gpout) i h
+coded Rp235x i h = within (factsOf Rp235x .gpout) i h
+
+other : (chip : Chip) (i : ℕ) → 12 ≤ i → 10 ≡ getD (factsOf chip .gpout) i 10
+other Rp2040 i h = sym (List·getD-eq-default (factsOf Rp2040 .gpout) 10 h)
+other Rp235x i h = sym (List·getD-eq-default (factsOf Rp235x .gpout) 10 h)
+
+returns : tie.Need-returns
+unfolding gpoutClock
+returns c = rw (c .before .before .facts .ensures) (coded (c .before .before .before .args .chip) _ (c .if1 .taken))
+
+returns-2 : tie.Need-returns-2
+unfolding gpoutClock
+returns-2 c = other (c .before .before .before .args .chip) _ (c .if1 .left)
 
 pub gpout-clock-spec : {M : Type 1} → statement M
-gpout-clock-spec =
-    tie.close
-    (tie.spec (λ c. rw (c .match .keys1)) (λ c. rw (c .match .keys2)) (λ c. rw (c .match .keys3))
-    (λ c. rw (c .match .keys4)) (λ c. rw (c .match .keys5)) (λ c. rw (c .match .keys6)) (λ c. rw (c .match .keys7))
-    (λ c. rw (c .match .keys8)) returns-9)
+gpout-clock-spec = tie.close (tie.spec (λ c κs. search needs) (λ c. search needs) returns returns-2)

@@ -1,8 +1,7 @@
--- `export::write_planned` meets its contract.
--- Assumes nothing.
-use borrow.Author.Needs.{needs}
+-- `export::write_planned` meets its contract. Assumes nothing.
 use mathlib.Core.Path.{_≡_, refl, ap, _∙_}
 use Rattle.export.specs.Numbers.{answerNumber, itself}
+use borrow.Author.Needs.{needs}
 use Rattle.export.proofs.write_planned.Statement.{statement}
 use Rattle.export.proofs.write_planned.Tie as tie
 

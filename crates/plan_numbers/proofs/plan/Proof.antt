@@ -13,21 +13,19 @@ returns c = rw (sym (c .before .whole-plan .ensures) ∙ not-true _ (c .if1 .tak
 returns-2 : tie.Need-returns-2
 unfolding planOf
 returns-2 c =
-    let v = c .before .before in let core-voltage = v .before .before in let byte-at = core-voltage .before in
-    let if1 = byte-at .before in let whole-plan = if1 .before in
-    let passed = sym (whole-plan .whole-plan .ensures) ∙ not-false _ (if1 .if1 .left) in
-    rw (c .plan-at .ensures, passed, ← byte-at .byte-at .ensures, ← core-voltage .core-voltage .ensures, v .v .given .1)
+    let config = c .before .before in let chip = config .before .before in let if1 = chip .before in
+    let passed = sym (if1 .before .whole-plan .ensures) ∙ not-false _ (if1 .if1 .left) in
+    rw (c .plan-at .ensures, passed, ← chip .chip .ensures, config .config .given .1)
 
 returns-3 : tie.Need-returns-3
 unfolding planOf
 returns-3 c =
-    let core-voltage = c .before .before in let byte-at = core-voltage .before in let if1 = byte-at .before in
-    let whole-plan = if1 .before in
-    let passed = sym (whole-plan .whole-plan .ensures) ∙ not-false _ (if1 .if1 .left) in
-    rw (passed, ← byte-at .byte-at .ensures, ← core-voltage .core-voltage .ensures, c .enum-told .given .1)
+    let chip = c .before .before in let if1 = chip .before in
+    let passed = sym (if1 .before .whole-plan .ensures) ∙ not-false _ (if1 .if1 .left) in
+    rw (passed, ← chip .chip .ensures, c .enum-told .given .1)
 
 pub plan-spec : {M : Type 1} → statement M
 plan-spec =
     tie.close
-    (tie.spec (λ c κs. search needs) returns (λ c κs. search needs) (λ c κs. search needs) (λ c. search needs)
-    (λ c κs. search needs) (λ c. search needs) returns-2 returns-3)
+    (tie.spec (λ c κs. search needs) returns (λ c κs. search needs) (λ c. search needs) (λ c κs. search needs)
+    (λ c. search needs) returns-2 returns-3)

@@ -7,16 +7,16 @@ use Rattle.plan_numbers.proofs.plan_at.Tie as tie
 returns : tie.Need-returns
 unfolding planAt
 returns c =
-    let rtc = c .before in let divided2 = rtc .before in let divided = divided2 .before in
-    let peripheral = divided .before in let system = peripheral .before in let reference = system .before in
+    let divided2 = c .before in let divided = divided2 .before in let peripheral = divided .before in
+    let system = peripheral .before in let code = system .before in let reference = code .before in
     let crystal = reference .before in let ring = crystal .before in
     rw (
       c .settling .ensures,
-      rtc .rtc .ensures,
       divided2 .divided2 .ensures,
       divided .divided .ensures,
       peripheral .peripheral .ensures,
       system .system .ensures,
+      code .number-at .ensures,
       reference .reference .ensures,
       crystal .crystal .ensures,
       ring .ring .ensures,
@@ -26,5 +26,5 @@ pub plan-at-spec : {M : Type 1} → statement M
 plan-at-spec =
     tie.close
     (tie.spec (λ c κs. search needs) (λ c κs. search needs) (λ c κs. search needs) (λ c κs. search needs)
-    (λ c κs. search needs) (λ c κs. search needs) (λ c κs. search needs) (λ c κs. search needs)
-    (λ c κs. search needs) returns)
+    (λ c κs. search needs) (λ c κs. search needs) (λ c κs. search needs) (λ c κs. search needs) (λ c κs. search needs)
+    returns)

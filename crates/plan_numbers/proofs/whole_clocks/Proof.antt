@@ -7,19 +7,17 @@ use Rattle.plan_numbers.proofs.whole_clocks.Tie as tie
 returns : tie.Need-returns
 unfolding wholeClocks
 returns c =
-    let is-part4 = c .before .before in let is-part3 = is-part4 .before .before in
-    let is-part2 = is-part3 .before .before in let fits4 = is-part2 .before .before in
-    let fits3 = fits4 .before .before in let is-part = fits3 .before .before in
-    let fits2 = is-part .before .before in
+    let usb = c .before .before in let peripheral = usb .before .before in let system = peripheral .before .before in
+    let reference = system .before .before in let settling = reference .before .before in
+    let voltage = settling .before .before in
     rw (
-      c .is-part5 .ensures,
-      is-part4 .is-part4 .ensures,
-      is-part3 .is-part3 .ensures,
-      is-part2 .is-part2 .ensures,
-      fits4 .fits4 .ensures,
-      fits3 .fits3 .ensures,
-      is-part .is-part .ensures,
-      fits2 .fits2 .ensures,
+      c .is-part4 .ensures,
+      usb .is-part3 .ensures,
+      peripheral .is-part2 .ensures,
+      system .fits4 .ensures,
+      reference .fits3 .ensures,
+      settling .is-part .ensures,
+      voltage .fits2 .ensures,
     )
 
 pub whole-clocks-spec : {M : Type 1} → statement M
@@ -28,4 +26,4 @@ whole-clocks-spec =
     (tie.spec (λ c. search needs) (λ c κs. search needs) (λ c. search needs) (λ c κs. search needs)
     (λ c. search needs) (λ c κs. search needs) (λ c. search needs) (λ c κs. search needs) (λ c. search needs)
     (λ c κs. search needs) (λ c. search needs) (λ c κs. search needs) (λ c. search needs) (λ c κs. search needs)
-    (λ c. search needs) (λ c κs. search needs) returns)
+    returns)

@@ -5,8 +5,9 @@ use Prim.Native.Nat.{ℕ}
 use borrow.Author.Needs.{needs}
 use lib.Dec.{eqb, ltb}
 use Rattle.base.specs.Choice.{pick}
+use Rattle.chip.specs.declared.Facts.{Facts}
 use Rattle.settings.specs.declared.Frequencies.{Frequencies}
-use Rattle.refusals.specs.Refusals.{first, testsOf, refusalOf}
+use Rattle.refusals.specs.Refusals.{ringDividerOver, wholeBad, first, testsOf}
 use Rattle.refusals.proofs.refusal_of.Statement.{statement}
 use Rattle.refusals.proofs.refusal_of.Tie as tie
 
@@ -15,7 +16,6 @@ row : (n : ℕ) {found rest firstOf : ℕ} {answered test : Bool}
 row n found answered rest = rw (← answered, ← rest) found
 
 returns : tie.Need-returns
-unfolding refusalOf
 returns c e =
     let one = c .before in
     let two = one .before in
@@ -44,31 +44,34 @@ returns c e =
     let settling = startup .before in
     let ring-divider = settling .before in
     let strengths = ring-divider .before in
-    let args = strengths .before .before .before .before .args in
-    let over : ltb 15 (args .reading) ≡ ltb 15 (args .reading) = refl in
+    let facts = strengths .before .before .before .before .facts .ensures in
+    let args = strengths .before .before .before .before .before .args in
+    let over = ap (λ (on : Facts). ltb (on .«top_reading») (args .reading)) facts in
+    let divided = ap (λ (on : Facts). ringDividerOver (on .pass) (args .s .rosc)) facts in
+    let part = ap (λ (on : Facts). wholeBad (on .«top_whole») (args .b .whole)) facts in
     let silent : eqb (args .f .sys) 0 ≡ eqb (args .f .sys) 0 = refl in
     let sources = ap (λ (f : Frequencies). f .sources) e in
     row 18 (c .number-when15 .ensures) over
     (row 1 (one .number-when14 .ensures) (strengths .strengths-over .ensures)
-    (row 2 (two .number-when13 .ensures) (ring-divider .ring-divider-over .ensures)
+    (row 2 (two .number-when13 .ensures) (ring-divider .ring-divider-over .ensures ∙ divided)
     (row 3 (three .number-when12 .ensures) (settling .settling-over .ensures)
     (row 4 (four .number-when11 .ensures) (startup .startup-over .ensures)
     (row 5 (five .number-when10 .ensures) (sys-pll .sys-pll-invalid .ensures _ sources)
     (row 6 (six .number-when9 .ensures) (usb-pll .usb-pll-invalid .ensures _ sources)
     (row 7 (seven .number-when8 .ensures) (divider .divider-bad .ensures)
     (row 8 (eight .number-when7 .ensures) (reference .reference-bad .ensures)
-    (row 9 (nine .number-when6 .ensures) (whole .whole-bad .ensures)
+    (row 9 (nine .number-when6 .ensures) (whole .whole-bad .ensures ∙ part)
     (row 10 (ten .number-when5 .ensures) silent
     (row 11 (eleven .number-when4 .ensures) (peri .peri-bad .ensures)
     (row 12 (twelve .number-when3 .ensures) (usb .aux-bad .ensures)
     (row 13 (thirteen .number-when2 .ensures) (adc .aux-bad2 .ensures)
     (row 14 (fourteen .number-when .ensures) (rtc .rtc-bad .ensures) refl))))))))))))))
-    ∙ ap (λ (f : Frequencies). first (testsOf (args .s) f (args .reading))) e
+    ∙ ap (λ (f : Frequencies). first (testsOf (args .s) (args .b) f (args .reading))) e
 
 pub refusal-of-spec : {M : Type 1} → statement M
 refusal-of-spec =
     tie.close
-    (tie.spec (λ c κs. search needs) (λ c κs. search needs) (λ c κs. search needs) (λ c κs. search needs)
+    (tie.spec (λ c κs. search needs) (λ c κs. search needs) (λ c κs. search needs) (λ c κs. search needs) (λ c κs. search needs)
     (λ c κs. search needs) (λ c κs. search needs) (λ c κs. search needs) (λ c κs. search needs)
     (λ c κs. search needs) (λ c κs. search needs) (λ c κs. search needs) (λ c κs. search needs)
     (λ c κs. search needs) (λ c κs. search needs) (λ c κs. search needs) (λ c κs. search needs)

@@ -1,4 +1,5 @@
 -- `cases::kinds::named` meets its contract. Assumes nothing.
+use Rattle.chip.specs.declared.Chip.the-variants.{Rp2040, Rp235x}
 use Rattle.cases.specs.declared.Kind.the-variants.{
   Valid,
   Output,
@@ -27,38 +28,48 @@ use Rattle.cases.proofs.kinds.named.Tie as tie
 
 returns : tie.Need-returns
 returns c =
-    let where-named19 = c .before .before in let where-named18 = where-named19 .before .before in
-    let where-named17 = where-named18 .before .before in let where-named16 = where-named17 .before .before in
-    let where-named15 = where-named16 .before .before in let where-named14 = where-named15 .before .before in
-    let where-named13 = where-named14 .before .before in let where-named12 = where-named13 .before .before in
-    let where-named11 = where-named12 .before .before in let where-named10 = where-named11 .before .before in
-    let where-named9 = where-named10 .before .before in let where-named8 = where-named9 .before .before in
-    let where-named7 = where-named8 .before .before in let where-named6 = where-named7 .before .before in
-    let where-named5 = where-named6 .before .before in let where-named4 = where-named5 .before .before in
-    let where-named3 = where-named4 .before .before in let where-named2 = where-named3 .before .before in
-    let where-named = where-named2 .before .before in
-    let start = where-named .before .before .before in
-    let name = start .args .name .now in
-    or-named name Valid (c .where-named20 .ensures)
-    (or-named name Output (where-named19 .where-named19 .ensures)
-    (or-named name Search (where-named18 .where-named18 .ensures)
-    (or-named name UsbPll (where-named17 .where-named17 .ensures)
-    (or-named name Book (where-named16 .where-named16 .ensures)
-    (or-named name Margin (where-named15 .where-named15 .ensures)
-    (or-named name Settings (where-named14 .where-named14 .ensures)
-    (or-named name Voltage (where-named13 .where-named13 .ensures)
-    (or-named name Pio (where-named12 .where-named12 .ensures)
-    (or-named name Gpout (where-named11 .where-named11 .ensures)
-    (or-named name Sheet (where-named10 .where-named10 .ensures)
-    (or-named name Crystal (where-named9 .where-named9 .ensures)
-    (or-named name Rosc (where-named8 .where-named8 .ensures)
-    (or-named name Default (where-named7 .where-named7 .ensures)
-    (or-named name System (where-named6 .where-named6 .ensures)
-    (or-named name SystemFrom (where-named5 .where-named5 .ensures)
-    (or-named name Manual (where-named4 .where-named4 .ensures)
-    (or-named name Run (where-named3 .where-named3 .ensures)
-    (or-named name Sleep (where-named2 .where-named2 .ensures)
-    (where-named .where-named .ensures)))))))))))))))))))
+    let output = c .before .before in let search = output .before .before in
+    let usb-pll = search .before .before in let book = usb-pll .before .before in
+    let margin = book .before .before in let settings = margin .before .before in
+    let voltage = settings .before .before in let voltage-235 = voltage .before .before in
+    let pio = voltage-235 .before .before in let gpout = pio .before .before in
+    let gpout-235 = gpout .before .before in let sheet = gpout-235 .before .before in
+    let sheet-235 = sheet .before .before in let crystal = sheet-235 .before .before in
+    let crystal-235 = crystal .before .before in let rosc = crystal-235 .before .before in
+    let rosc-235 = rosc .before .before in let default = rosc-235 .before .before in
+    let default-235 = default .before .before in let system = default-235 .before .before in
+    let system-235 = system .before .before in let system-from = system-235 .before .before in
+    let system-from-235 = system-from .before .before in let manual = system-from-235 .before .before in
+    let run = manual .before .before in let sleep = run .before .before in let wake = sleep .before .before in
+    let name = wake .before .before .before .args .name .now in
+    or-named name Valid (c .where-named28 .ensures)
+    (or-named name Output (output .where-named27 .ensures)
+    (or-named name Search (search .where-named26 .ensures)
+    (or-named name UsbPll (usb-pll .where-named25 .ensures)
+    (or-named name Book (book .where-named24 .ensures)
+    (or-named name Margin (margin .where-named23 .ensures)
+    (or-named name Settings (settings .where-named22 .ensures)
+    (or-named name (Voltage Rp2040) (voltage .where-named21 .ensures)
+    (or-named name (Voltage Rp235x) (voltage-235 .where-named20 .ensures)
+    (or-named name Pio (pio .where-named19 .ensures)
+    (or-named name (Gpout Rp2040) (gpout .where-named18 .ensures)
+    (or-named name (Gpout Rp235x) (gpout-235 .where-named17 .ensures)
+    (or-named name (Sheet Rp2040) (sheet .where-named16 .ensures)
+    (or-named name (Sheet Rp235x) (sheet-235 .where-named15 .ensures)
+    (or-named name (Crystal Rp2040) (crystal .where-named14 .ensures)
+    (or-named name (Crystal Rp235x) (crystal-235 .where-named13 .ensures)
+    (or-named name (Rosc Rp2040) (rosc .where-named12 .ensures)
+    (or-named name (Rosc Rp235x) (rosc-235 .where-named11 .ensures)
+    (or-named name (Default Rp2040) (default .where-named10 .ensures)
+    (or-named name (Default Rp235x) (default-235 .where-named9 .ensures)
+    (or-named name (System Rp2040) (system .where-named8 .ensures)
+    (or-named name (System Rp235x) (system-235 .where-named7 .ensures)
+    (or-named name (SystemFrom Rp2040) (system-from .where-named6 .ensures)
+    (or-named name (SystemFrom Rp235x) (system-from-235 .where-named5 .ensures)
+    (or-named name Manual (manual .where-named4 .ensures)
+    (or-named name Run (run .where-named3 .ensures)
+    (or-named name Sleep (sleep .where-named2 .ensures)
+    (wake .where-named .ensures)))))))))))))))))))))))))))
 
 pub named-spec : {M : Type 1} → statement M
 named-spec =
@@ -71,4 +82,7 @@ named-spec =
     (λ c. search needs) (λ c κs. search needs) (λ c. search needs) (λ c κs. search needs) (λ c. search needs)
     (λ c κs. search needs) (λ c. search needs) (λ c κs. search needs) (λ c. search needs) (λ c κs. search needs)
     (λ c. search needs) (λ c κs. search needs) (λ c. search needs) (λ c κs. search needs) (λ c. search needs)
-    (λ c κs. search needs) returns)
+    (λ c κs. search needs) (λ c. search needs) (λ c κs. search needs) (λ c. search needs) (λ c κs. search needs)
+    (λ c. search needs) (λ c κs. search needs) (λ c. search needs) (λ c κs. search needs) (λ c. search needs)
+    (λ c κs. search needs) (λ c. search needs) (λ c κs. search needs) (λ c. search needs) (λ c κs. search needs)
+    (λ c. search needs) (λ c κs. search needs) returns)

@@ -7,15 +7,16 @@ use Rattle.config.proofs.ClockConfig.system_freq_from.Tie as tie
 returns : tie.Need-returns
 unfolding systemPlanFrom
 returns c =
-    let fed = c .before .before in
-    let usb = fed .before .before .before in
+    let fed = c .before in
+    let voltage = fed .before .before in
+    let usb = voltage .before .before in
     let usb-searched = usb .before .before in
     let sys = usb-searched .before .before in
     rw (
       c .from-plls .ensures,
-      c .before .system-voltage .ensures,
       fed .feeding-both .ensures,
       fed .before .ring .ensures,
+      voltage .system-voltage .ensures,
       ← usb-searched .find-usb-pll .ensures,
       usb .usb-pll .given .1,
       ← sys .before .before .find-pll-params .ensures,

@@ -1,6 +1,6 @@
 -- `sheet::clocks::put_clocks` meets its contract. Assumes nothing.
-use Rattle.sheet.proofs.Gathering.{pushes-append}
 use Rattle.sheet.specs.Steps.{clocksPart}
+use Rattle.sheet.proofs.Gathering.{pushes-append}
 use borrow.Author.Needs.{needs}
 use Rattle.sheet.proofs.clocks.put_clocks.Statement.{statement}
 use Rattle.sheet.proofs.clocks.put_clocks.Tie as tie
@@ -8,20 +8,21 @@ use Rattle.sheet.proofs.clocks.put_clocks.Tie as tie
 returns : tie.Need-returns
 unfolding clocksPart
 returns c =
-    let add1 = c .before .before in let rtc = add1 .before .before in let aux2 = rtc .before .before in
-    let aux = aux2 .before .before .before in let peri = aux .before .before .before in
-    let sys = peri .before .before in let ref = sys .before .before in let sources = ref .before .before in
-    let release-mask = sources .before .before in
+    let add1 = c .before .before in let put-rtc = add1 .before .before in let put-aux2 = put-rtc .before .before in
+    let put-aux = put-aux2 .before .before .before in let put-peri = put-aux .before .before .before in
+    let put-sys = put-peri .before .before in
+    let put-ref = put-sys .before .before in let put-sources = put-ref .before .before in
+    let release-mask = put-sources .before .before in
     rw (
       c .add12 .ensures,
       add1 .add1 .ensures,
-      rtc .put-rtc .ensures,
-      aux2 .put-aux2 .ensures,
-      aux .put-aux .ensures,
-      peri .put-peri .ensures,
-      sys .put-sys .ensures,
-      ref .put-ref .ensures,
-      sources .put-sources .ensures,
+      put-rtc .put-rtc .ensures,
+      put-aux2 .put-aux2 .ensures,
+      put-aux .put-aux .ensures,
+      put-peri .put-peri .ensures,
+      put-sys .put-sys .ensures,
+      put-ref .put-ref .ensures,
+      put-sources .put-sources .ensures,
       release-mask .release-mask .ensures,
     ) (simp pushes-append)
 

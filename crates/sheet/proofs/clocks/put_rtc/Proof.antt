@@ -6,22 +6,11 @@ use Rattle.sheet.proofs.clocks.put_rtc.Tie as tie
 
 returns : tie.Need-returns
 unfolding rtcPart
-returns c =
-    let add22 = c .before .before in let add2 = add22 .before .before .before in
-    let aux-code = add2 .before .before .before .before in let rtc = aux-code .before .before in
-    rw (
-      c .add23 .ensures,
-      add22 .add22 .ensures,
-      add2 .add2 .ensures,
-      aux-code .aux-code .ensures,
-      rtc .rtc .given .1,
-    )
+returns c = rw (c .before .before .enum-told .given .1, c .put-rtc-2040 .ensures)
+
+returns-2 : tie.Need-returns-2
+unfolding rtcPart
+returns-2 c = rw (c .enum-told2 .given .1)
 
 pub put-rtc-spec : {M : Type 1} → statement M
-unfolding rtcPart
-put-rtc-spec =
-    tie.close
-    (tie.spec
-    (λ c. search needs) (λ c κs. search needs) (λ c. search needs) (λ c. search needs) (λ c. search needs)
-    (λ c κs. search needs) (λ c. search needs) (λ c κs. search needs) (λ c κs. search needs) (λ c. search needs)
-    (λ c κs. search needs) returns (λ c. rw (c .add24 .ensures, c .before .before .enum-told .given .1)))
+put-rtc-spec = tie.close (tie.spec (λ c. search needs) (λ c κs. search needs) (λ c. search needs) returns returns-2)

@@ -1,0 +1,51 @@
+-- What differs between the chips in numbers, RP2040 beside RP235x (docs/RP235X.md). `gpout` has, for each Gpout
+-- source code from 0 on, the clock that it stands for: 0 ring, 1 crystal, 2 PLL sys, 3 PLL USB, 4 reference, 5 system, 7 USB,
+-- 8 ADC, and 10 for none.
+-- Assumes nothing.
+use mathlib.Core.List.{[], _∷_}
+use Rattle.step.specs.Kinds as kind
+use Rattle.chip.specs.declared.Chip.{Chip}
+use Rattle.chip.specs.declared.Chip.the-variants.{Rp2040, Rp235x}
+use Rattle.chip.specs.declared.Facts.{Facts}
+
+abbrev pub factsOf : Chip → Facts
+factsOf Rp2040 =
+    record {
+      «top_reading» = 15;
+      voltage = kind.voltage;
+      brownout = kind.brownout;
+      divider = kind.sys-divider;
+      scale = 256;
+      «top_whole» = 16777215;
+      pass = 0xAA0;
+      first = 0x0FBCDBF;
+      plls = 0x3000;
+      last = 0x1FFFFFF;
+      peri = 0xC30000;  -- bits 16, 17, 22, 23
+      usb = 0x1000000;  -- bit 24
+      adc = 1;  -- bit 0
+      rtc = 0x8000;  -- bit 15
+      «preset_hz» = 125000000;
+      «preset_post» = 6;
+      gpout = 2 ∷ 10 ∷ 10 ∷ 3 ∷ 0 ∷ 1 ∷ 5 ∷ 7 ∷ 8 ∷ 10 ∷ 4 ∷ 10 ∷ [];
+    }
+factsOf Rp235x =
+    record {
+      «top_reading» = 31;
+      voltage = kind.voltage-235;
+      brownout = kind.brownout-235;
+      divider = kind.sys-divider-235;
+      scale = 65536;
+      «top_whole» = 65535;
+      pass = 0xAA00;
+      first = 0x1EF3B7F;  -- 25 bits less 7, 10, 14, 15, 20
+      plls = 0xC000;  -- bits 14, 15
+      last = 0x1FFFFF7;  -- 25 bits less HSTX, bit 3
+      peri = 0xC0000;  -- bits 18, 19; the UARTs' 26, 27 are not among the 25
+      usb = 0;  -- bit 28 is not among the 25
+      adc = 1;  -- bit 0
+      rtc = 0;
+      «preset_hz» = 150000000;
+      «preset_post» = 5;
+      gpout = 2 ∷ 10 ∷ 10 ∷ 3 ∷ 10 ∷ 0 ∷ 1 ∷ 10 ∷ 5 ∷ 7 ∷ 8 ∷ 4 ∷ [];
+    }
