@@ -2,7 +2,7 @@
 
 use std::hint::black_box;
 
-use dizbaral::{Chip, GpoutDiv, Progress, raw};
+use dizbaral::{Chip, GpoutDiv, Progress, SHEET_BYTES, raw};
 
 use crate::clocks::{self, ClockConfig, Gpout};
 use crate::peripherals::PIN_21;
@@ -178,7 +178,9 @@ impl Inputs {
                 for plan in &self.plans {
                     let plan = black_box(plan);
                     let sheet = sheet.as_mut_ptr();
-                    black_box(unsafe { raw::dizbaral_plan_sheet(RP2040, plan.as_ptr(), 48, READING, sheet, 528) });
+                    black_box(unsafe {
+                        raw::dizbaral_plan_sheet(RP2040, plan.as_ptr(), 48, READING, sheet, 528)
+                    });
                     black_box(&sheet);
                 }
             }),
@@ -220,7 +222,9 @@ impl Inputs {
             proved: Box::new(|| {
                 for &(source, whole, fraction) in &self.gpout {
                     let frequencies = black_box(&self.frequencies);
-                    black_box(unsafe { raw::dizbaral_gpout_frequency(RP2040, source, whole, fraction as u16, frequencies) });
+                    black_box(unsafe {
+                        raw::dizbaral_gpout_frequency(RP2040, source, whole, fraction as u16, frequencies)
+                    });
                 }
             }),
             rust: Box::new(move || {
@@ -238,15 +242,15 @@ impl Inputs {
             calls: self.sheet.len() / 8 + 1,
             goal: 1.0,
             proved: Box::new(|| {
-                let mut runner = [0; 14];
-                let sheet = self.sheet.as_ptr();
-                while black_box(unsafe { raw::dizbaral_run(&mut runner, sheet, self.sheet.len(), true) }) != 0
-                {
-                }
+                let (mut runner, mut kept) = ([0; 15], [0; SHEET_BYTES]);
+                let (sheet, length) = (self.sheet.as_ptr(), self.sheet.len());
+                black_box(unsafe { raw::dizbaral_start(&mut runner, &mut kept, sheet, length) });
+                while black_box(unsafe { raw::dizbaral_run(&mut runner, &kept, sheet, length, true) }) != 0 {}
                 black_box(&runner);
             }),
             rust: Box::new(|| {
-                let mut runner = Runner::default();
+                let mut runner = Runner::fresh();
+                black_box(runner.start(black_box(&self.sheet)));
                 while black_box(runner.poll(black_box(&self.sheet), true)) != Reply::Done {}
                 black_box(&runner);
             }),
@@ -288,10 +292,12 @@ impl Inputs {
         let output = Gpout::new(Peri::new(PIN_21));
         for &(source, whole, fraction) in &self.gpout {
             recorder::set_gpout(source, whole, fraction);
-            let ours = dizbaral::gpout_frequency(source, GpoutDiv::Rp2040 { whole, fraction }, &self.frequencies);
+            let ours =
+                dizbaral::gpout_frequency(source, GpoutDiv::Rp2040 { whole, fraction }, &self.frequencies);
             assert_eq!(ours, Ok(gpout(&output)));
         }
-        let (mut ours, mut rust) = (dizbaral::Runner::new(), Runner::default());
+        let (mut ours, mut rust) = (dizbaral::Runner::new(), Runner::fresh());
+        assert_eq!((ours.start(&self.sheet), rust.start(&self.sheet)), (Ok(()), None));
         for _ in 0..=self.sheet.len() / 8 {
             for ready in [false, true] {
                 let same = match (ours.poll(&self.sheet, ready), rust.poll(&self.sheet, ready)) {
@@ -304,7 +310,7 @@ impl Inputs {
                 assert!(same);
             }
         }
-        assert_eq!(ours.numbers()[4..], rust.frequencies);
+        assert_eq!(ours.numbers()[5..], rust.frequencies);
     }
 }
 

@@ -16,6 +16,7 @@ mod limits;
 #[allow(dead_code, unused_imports)]
 #[path = "../../oracle/src/pac/mod.rs"]
 mod pac;
+#[allow(dead_code)]
 #[path = "../../oracle/src/plain_runner.rs"]
 mod plain_runner;
 #[allow(dead_code, unused_imports)]
@@ -27,6 +28,9 @@ mod random;
 #[allow(dead_code)]
 #[path = "../../oracle/src/random_plan.rs"]
 mod random_plan;
+#[allow(dead_code)]
+#[path = "../../oracle/src/run.rs"]
+mod run;
 #[allow(dead_code)]
 #[path = "../../oracle/src/standins.rs"]
 mod standins;

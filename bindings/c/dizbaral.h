@@ -104,16 +104,25 @@ uint64_t dizbaral_plan_sheet(uint8_t chip, const uint32_t *plan, size_t numbers,
  * greatest post 1, then the greatest post 2. The length in bytes. Refusal 19. */
 uint64_t dizbaral_list(uint32_t input_hz, uint32_t target_hz, uint8_t *list, size_t length);
 
-/* One call of the runner over a sheet: DIZBARAL_DONE, DIZBARAL_PASSED, DIZBARAL_WAITING, or the word of the step that
- * is handed out (its kind in the six highest bits). ready says whether what the step waits for is there.
- * The runner is position, lock polls, total of unready polls, stopped mark (0 or 1, else malformed) and ten
- * frequencies; a fresh one is all zeros. Refusals 21, 22, 20.
+/* Starts a runner with a sheet: 0, and the runner is fresh, with the sheet and its length kept and zeros past it. It may
+ * have been anything before, zeros or a run that stopped. Refusal 20 for the length, where nothing changes.
+ * The caller lends a runner as 15 numbers (position, lock polls, total of unready polls, stopped mark, kept length, ten
+ * frequencies) and its kept bytes, and leaves both alone between the calls. All zeros are a runner before any start,
+ * whose kept sheet is empty. */
+uint64_t dizbaral_start(uint32_t runner[15], uint8_t kept[DIZBARAL_SHEET_BYTES], const uint8_t *sheet, size_t length);
+
+/* One call of the runner over the sheet that it was started with: DIZBARAL_DONE, DIZBARAL_PASSED, DIZBARAL_WAITING, or
+ * the word of the step that is handed out (its kind in the six highest bits). ready says whether what the step waits
+ * for is there.
+ * A stopped mark other than 0 and 1 is malformed. Refusals 21 (also a kept length over DIZBARAL_SHEET_BYTES or no
+ * multiple of 8), 22, 27 (the sheet is not the kept one), 20.
  * The lock timeout, the first refusal 22 of a run, sets the stopped mark and adds 1 to the total; position, lock polls
  * and frequencies stay. */
-uint64_t dizbaral_run(uint32_t runner[14], const uint8_t *sheet, size_t length, bool ready);
+uint64_t dizbaral_run(uint32_t runner[15], const uint8_t kept[DIZBARAL_SHEET_BYTES], const uint8_t *sheet,
+                      size_t length, bool ready);
 
-/* How long to wait for a sheet of this library: where no wait of a fresh runner's run hears more than k unready polls,
- * at most this many calls of dizbaral_run come before the first that answers DIZBARAL_DONE, and none is refused.
+/* How long to wait for a sheet of this library: where no wait of a started runner's run hears more than k unready
+ * polls, at most this many calls of dizbaral_run come before the first that answers DIZBARAL_DONE, and none is refused.
  * 66 + 10 * k. From 1000000 on a lock may time out, and the answer is 4294967295. */
 uint32_t dizbaral_longest_wait(uint32_t k);
 

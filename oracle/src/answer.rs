@@ -37,7 +37,6 @@ pub enum Answer {
     Panic(Vec<u8>),
     /// It goes on with bits lost: the refusal that this belongs to.
     Drops(u8),
-    NoCounterpart,
     /// It did something that the stand-in does not know.
     Unknown(String),
 }
@@ -53,7 +52,6 @@ impl Display for Answer {
             Answer::Refused(number) => write!(f, "refused {number}"),
             Answer::Panic(_) => f.write_str("panic"),
             Answer::Drops(number) => write!(f, "drops {number}"),
-            Answer::NoCounterpart => f.write_str("no counterpart"),
             Answer::Unknown(what) => write!(f, "unknown {what}"),
         }
     }
@@ -101,7 +99,7 @@ pub fn answer(case: &Case) -> Answer {
         }),
         Kind::Manual => sheet(n[0], || ClockConfig::manual_pll(n[2], pll(&n[3..7]), plan::voltage(n[7]))),
         Kind::List => Answer::Ruled(rules::list(n[0], n[1], n[2] as usize)),
-        Kind::Run => Answer::NoCounterpart,
+        Kind::Run | Kind::Start => Answer::Ruled(crate::run::answer(case.kind, n)),
         Kind::Sleep | Kind::Wake => sleep::answer(case.kind, n),
         _ => rp235x::answer::answer(case),
     }

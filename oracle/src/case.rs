@@ -1,5 +1,7 @@
 //! Cases as text: a word, then decimal numbers with one space between. What is no case is `None`.
 
+use crate::run;
+
 #[derive(Clone, Copy, Debug, PartialEq, Eq)]
 pub enum Kind {
     Valid,
@@ -20,6 +22,7 @@ pub enum Kind {
     SystemFrom,
     Manual,
     Run,
+    Start,
     Sleep,
     Wake,
     Voltage235,
@@ -32,7 +35,7 @@ pub enum Kind {
     SystemFrom235,
 }
 
-/// A case with its numbers in the order of the text.
+/// A case with its numbers in the order of the text; the bytes of KEPT and SHEET are numbers too (`run`).
 #[derive(Clone, Debug, PartialEq, Eq)]
 pub struct Case {
     pub kind: Kind,
@@ -64,7 +67,10 @@ pub const U16: Fits = UpTo(u16::MAX as u32);
 pub const U32: Fits = UpTo(u32::MAX);
 pub const ROOM: Fits = UpTo(1024);
 
-pub const KINDS: [(&str, Kind); 28] = [
+/// A line with more bytes is no case.
+const LONGEST: usize = 4096;
+
+pub const KINDS: [(&str, Kind); 29] = [
     ("valid", Kind::Valid),
     ("output", Kind::Output),
     ("search", Kind::Search),
@@ -83,6 +89,7 @@ pub const KINDS: [(&str, Kind); 28] = [
     ("system_from", Kind::SystemFrom),
     ("manual", Kind::Manual),
     ("run", Kind::Run),
+    ("start", Kind::Start),
     ("sleep", Kind::Sleep),
     ("wake", Kind::Wake),
     ("voltage235", Kind::Voltage235),
@@ -100,7 +107,7 @@ impl Kind {
         KINDS.iter().find(|(name, _)| *name == word).map(|&(_, kind)| kind)
     }
 
-    /// The numbers before a plan; `run` is not taken apart.
+    /// The numbers before a plan, or before KEPT and SHEET of a runner.
     pub fn numbers(self) -> &'static [Fits] {
         match self {
             Kind::Valid | Kind::Output => &[U32, U8, U16, U8, U8],
@@ -115,7 +122,8 @@ impl Kind {
             Kind::Crystal | Kind::System | Kind::Crystal235 | Kind::System235 => &[U8, ROOM, U32],
             Kind::SystemFrom | Kind::SystemFrom235 => &[U8, ROOM, U32, U32],
             Kind::Manual => &[U8, ROOM, U32, U8, U16, U8, U8, Code],
-            Kind::Run => &[],
+            Kind::Run => &run::RUN_NUMBERS,
+            Kind::Start => &run::START_NUMBERS,
             Kind::Sleep | Kind::Wake => &SLEEP_NUMBERS,
         }
     }
@@ -209,12 +217,19 @@ impl Case {
         let mut words = line.split(' ');
         let word = words.next()?;
         let kind = Kind::of(word)?;
-        if kind == Kind::Run {
-            return Some(Case::new(kind, &[]));
+        let mut words: Vec<&str> = words.collect();
+        let mut bytes = Vec::new();
+        if run::holds(kind) {
+            let (sheet, kept) = (words.pop()?, words.pop()?);
+            bytes = run::bytes_of(kept, sheet)?;
+            if words.len() != kind.numbers().len() {
+                return None;
+            }
         }
-        let numbers = words.map(number).collect::<Option<Vec<u32>>>()?;
+        let mut numbers = words.into_iter().map(number).collect::<Option<Vec<u32>>>()?;
+        numbers.extend(bytes);
         let case = Case { kind, numbers };
-        case.well_formed().then_some(case)
+        (line.len() <= LONGEST && case.well_formed()).then_some(case)
     }
 
     pub fn word(&self) -> &'static str {
@@ -223,9 +238,14 @@ impl Case {
 
     pub fn text(&self) -> String {
         let mut text = self.word().to_string();
-        for number in &self.numbers {
+        let plain = if run::holds(self.kind) { self.kind.numbers().len() } else { self.numbers.len() };
+        for number in &self.numbers[..plain] {
             text.push(' ');
             text.push_str(&number.to_string());
+        }
+        if run::holds(self.kind) {
+            text.push(' ');
+            text.push_str(&run::words_of(&self.numbers[plain..]));
         }
         text
     }
@@ -240,7 +260,7 @@ impl Case {
         let before = self.kind.numbers();
         let plan = self.kind.plan();
         let fits = before.iter().chain(plan);
-        self.numbers.len() == before.len() + plan.len()
+        (run::holds(self.kind) || self.numbers.len() == before.len() + plan.len())
             && fits.zip(&self.numbers).all(|(fits, &number)| fits.accepts(number))
             && (plan.is_empty() || whole_plan(&self.numbers[PLAN..]))
     }

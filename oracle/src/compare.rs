@@ -93,7 +93,7 @@ pub fn class(case: &Case, rust: &Answer, ours: &str) -> Option<Class> {
             gpout_ruled(case).filter(|_| gpout_value(case) == ours)
         }
         (Answer::Says(_), _) if under_minimum(case) => (refused == Some(15)).then_some(Class::UnderMinimum),
-        (Answer::Unknown(_) | Answer::NoCounterpart, _) => None,
+        (Answer::Unknown(_), _) => None,
         _ if rust.to_string() != ours => None,
         (Answer::Ruled(_), None) if [Kind::Sleep, Kind::Wake].contains(&case.kind) => {
             Some(Class::CrystalCode)

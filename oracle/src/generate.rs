@@ -1,5 +1,5 @@
 //! Cases from a seed: first every limit, the same for all seeds, then random ones. `voltage` has 256 inputs
-//! and all of them are among the first; `run` has no counterpart in the Rust.
+//! and all of them are among the first.
 
 use crate::case::{Case, Kind};
 use crate::generate_ruled as ruled;
@@ -7,6 +7,7 @@ use crate::limits;
 use crate::random::Random;
 use crate::random_plan;
 use crate::rp235x::generate as rp235x;
+use crate::run;
 use crate::sleep::cases as sleep;
 
 /// Lines: cases, and a few lines that are none.
@@ -94,7 +95,8 @@ fn of_kind(r: &mut Random, kind: Kind) -> Case {
         Kind::System => with_buffer(r, |r| search(r)[1..].to_vec()),
         Kind::SystemFrom => with_buffer(r, ruled::system_from),
         Kind::Manual => with_buffer(r, manual),
-        // Not taken apart, or made in `rp235x`: no case of these is made here.
+        Kind::Run | Kind::Start => run::numbers(kind, r),
+        // Made in `rp235x`: no case of these is made here.
         _ => vec![],
     };
     Case { kind, numbers }

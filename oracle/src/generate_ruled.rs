@@ -8,7 +8,10 @@ use crate::limits;
 use crate::random::Random;
 use crate::sleep::cases as sleep;
 
-pub const KINDS: [Kind; 7] = [Kind::UsbPll, Kind::Book, Kind::Margin, Kind::List, Kind::Sleep, Kind::Wake, Kind::SystemFrom];
+#[rustfmt::skip]
+pub const KINDS: [Kind; 9] = [
+    Kind::UsbPll, Kind::Book, Kind::Margin, Kind::List, Kind::Run, Kind::Start, Kind::Sleep, Kind::Wake, Kind::SystemFrom,
+];
 
 pub fn limits() -> Vec<Case> {
     let mut cases = Vec::new();

@@ -37,7 +37,8 @@ fn trials(seed: u32, count: usize) -> String {
     };
     let settings: String = draws(seed).take(count).map(setting).collect();
     let sheet = crystal_sheet();
-    let mut runner = Runner::default();
+    let mut runner = Runner::fresh();
+    assert_eq!(runner.start(&sheet), None);
     for x in draws(seed).take(count) {
         runner.poll(&sheet, x >> 31 == 1);
     }

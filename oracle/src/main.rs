@@ -31,6 +31,7 @@ mod replay;
 mod request_tests;
 mod rp235x;
 mod rules;
+mod run;
 mod sheet;
 mod sleep;
 mod standins;
@@ -84,12 +85,11 @@ fn main() -> ExitCode {
                 compare::compare(generate::lines_ending(word.to_string(), seed, n as usize), program)
             })
         }
-        ["compare", seed, count, program, word] => number(seed)
-            .zip(number(count))
-            .zip(Kind::of(word).filter(|&kind| kind != Kind::Run))
-            .map_or(usage(), |((seed, n), kind)| {
+        ["compare", seed, count, program, word] => {
+            number(seed).zip(number(count)).zip(Kind::of(word)).map_or(usage(), |((seed, n), kind)| {
                 compare::compare(generate::lines_of(kind, seed, n as usize), program)
-            }),
+            })
+        }
         ["book"] => print(&book::text()),
         ["replay", seed, count, folder] => number(seed)
             .zip(number(count))

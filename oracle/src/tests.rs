@@ -299,7 +299,6 @@ fn no_cases() {
     {
         assert_eq!(answer_line(line), "bad case", "{line}");
     }
-    assert_eq!(answer_line("run 0 0 0 0 0 0 0 0 0 0 0 0 0 0 0 -"), "no counterpart");
 }
 
 #[test]

@@ -256,36 +256,58 @@ pub enum Progress {
     Waiting,
 }
 
-/// Takes one step of a sheet after another.
-#[derive(Clone, Copy, Debug, PartialEq, Eq, Default)]
+/// Takes one step after another of the sheet that it was started with.
+#[derive(Clone, Copy, Debug, PartialEq, Eq)]
 pub struct Runner {
-    /// Position, lock polls, total of unready polls, stopped mark, ten frequencies.
-    numbers: [u32; 14],
+    /// Position, lock polls, total of unready polls, stopped mark, kept length, ten frequencies.
+    numbers: [u32; 15],
+    /// The kept sheet, zeros past it.
+    kept: [u8; SHEET_BYTES],
+}
+
+impl Default for Runner {
+    fn default() -> Runner {
+        Runner::new()
+    }
 }
 
 impl Runner {
+    /// Before any start: the kept sheet is empty.
     pub fn new() -> Runner {
-        Runner::default()
+        Runner { numbers: [0; 15], kept: [0; SHEET_BYTES] }
     }
 
-    /// From what `numbers` gave; nothing where the stopped mark is neither 0 nor 1.
-    pub fn from_numbers(numbers: [u32; 14]) -> Option<Runner> {
-        (numbers[3] <= 1).then_some(Runner { numbers })
+    /// From what `numbers` and `kept` gave; nothing where the stopped mark is neither 0 nor 1.
+    pub fn from_parts(numbers: [u32; 15], kept: [u8; SHEET_BYTES]) -> Option<Runner> {
+        (numbers[3] <= 1).then_some(Runner { numbers, kept })
     }
 
-    pub fn numbers(&self) -> &[u32; 14] {
+    pub fn numbers(&self) -> &[u32; 15] {
         &self.numbers
+    }
+
+    pub fn kept(&self) -> &[u8; SHEET_BYTES] {
+        &self.kept
     }
 
     /// The frequency that was stored for a clock, 0 to 9; there is no other clock.
     pub fn frequency(&self, clock: usize) -> Option<u32> {
-        self.numbers[4..].get(clock).copied()
+        self.numbers[5..].get(clock).copied()
     }
 
-    /// One call over the sheet; `ready` says whether what a wait waits for is there. The lock timeout, the first
-    /// refusal 22 of a run, sets the stopped mark and adds 1 to the total.
+    /// Keeps the sheet and makes the runner fresh, stopped or not. Refusal 20 for the sheet's length alone.
+    pub fn start(&mut self, sheet: &[u8]) -> Result<(), Refused> {
+        let number =
+            unsafe { raw::dizbaral_start(&mut self.numbers, &mut self.kept, sheet.as_ptr(), sheet.len()) };
+        answer(number).map(|_| ())
+    }
+
+    /// One call over the sheet that the runner was started with, any other is refused with 27; `ready` says whether
+    /// what a wait waits for is there. The lock timeout, the first refusal 22 of a run, sets the stopped mark and
+    /// adds 1 to the total.
     pub fn poll(&mut self, sheet: &[u8], ready: bool) -> Result<Progress, Refused> {
-        let number = unsafe { raw::dizbaral_run(&mut self.numbers, sheet.as_ptr(), sheet.len(), ready) };
+        let number =
+            unsafe { raw::dizbaral_run(&mut self.numbers, &self.kept, sheet.as_ptr(), sheet.len(), ready) };
         answer(number).map(|number| match number {
             0 => Progress::Done,
             1 => Progress::Passed,
@@ -295,8 +317,9 @@ impl Runner {
     }
 }
 
-/// How many calls may come before the first that answers done, for a fresh runner over a sheet of this library where
-/// no wait hears more than `k` unready polls: 66 + 10 × k, and 65 + 10 × k where the sheet is the RP2040's. From 1000000 on a lock may time out: nothing.
+/// How many calls may come before the first that answers done, for a runner started with a sheet of this library
+/// where no wait hears more than `k` unready polls: 66 + 10 × k, and 65 + 10 × k where the sheet is the RP2040's. From
+/// 1000000 on a lock may time out: nothing.
 pub fn longest_wait(k: u32) -> Option<u32> {
     let calls = unsafe { raw::dizbaral_longest_wait(k) };
     (calls != u32::MAX).then_some(calls)

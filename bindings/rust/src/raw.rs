@@ -1,5 +1,7 @@
 //! The functions of the archive themselves; bindings/c/dizbaral.h says what each answers.
 
+use crate::SHEET_BYTES;
+
 // A slice is a pointer and a length.
 unsafe extern "C" {
     pub fn dizbaral_search(input_hz: u32, target_hz: u32) -> u64;
@@ -43,7 +45,19 @@ unsafe extern "C" {
         length: usize,
     ) -> u64;
     pub fn dizbaral_list(input_hz: u32, target_hz: u32, list: *mut u8, length: usize) -> u64;
-    pub fn dizbaral_run(runner: *mut [u32; 14], sheet: *const u8, length: usize, ready: bool) -> u64;
+    pub fn dizbaral_start(
+        runner: *mut [u32; 15],
+        kept: *mut [u8; SHEET_BYTES],
+        sheet: *const u8,
+        length: usize,
+    ) -> u64;
+    pub fn dizbaral_run(
+        runner: *mut [u32; 15],
+        kept: *const [u8; SHEET_BYTES],
+        sheet: *const u8,
+        length: usize,
+        ready: bool,
+    ) -> u64;
     pub fn dizbaral_longest_wait(k: u32) -> u32;
     pub fn dizbaral_sleep(
         slots: *mut [u32; 48],

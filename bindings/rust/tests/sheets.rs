@@ -111,17 +111,46 @@ fn refusals_are_errors() {
 
 #[test]
 fn a_bad_sheet_is_refused_and_changes_nothing() {
-    for sheet in [&[0; 8][..], &[0; 9], &[0; 528]] {
-        let mut runner = Runner::new();
-        assert_eq!(runner.poll(sheet, true), Err(Refused(20)));
+    let mut runner = Runner::new();
+    for sheet in [&[0; 9][..], &[0; SHEET_BYTES + 8]] {
+        assert_eq!(runner.start(sheet), Err(Refused(20)));
         assert_eq!(runner, Runner::new());
     }
+    runner.start(&[0; 8]).unwrap();
+    let started = runner;
+    assert_eq!(runner.poll(&[0; 8], true), Err(Refused(20)));
+    assert_eq!(runner, started);
+}
+
+#[test]
+fn a_runner_goes_by_the_sheet_that_it_was_started_with() {
+    let sheet = sheet_of(125 * MHZ);
+    let mut runner = Runner::new();
+    assert_eq!(runner.poll(&[], true), Ok(Progress::Done));
+    assert_eq!(runner.poll(&sheet, true), Err(Refused(27)));
+    runner.start(&sheet).unwrap();
+    assert_eq!(runner.kept()[..sheet.len()], sheet[..]);
+    assert!(runner.kept()[sheet.len()..].iter().all(|&byte| byte == 0));
+    let started = runner;
+    for at in 0..sheet.len() {
+        let mut other = sheet.clone();
+        other[at] ^= 1;
+        assert_eq!(runner.poll(&other, true), Err(Refused(27)));
+    }
+    assert_eq!(runner.poll(&sheet[8..], true), Err(Refused(27)));
+    assert_eq!(runner.poll(&sheet[..sheet.len() - 8], true), Err(Refused(27)));
+    assert_eq!(runner, started);
+    assert!(matches!(runner.poll(&sheet, true), Ok(Progress::Handed(_))));
+    runner.start(&sheet[..8]).unwrap();
+    assert!(runner.kept()[8..].iter().all(|&byte| byte == 0));
+    assert_eq!(runner.numbers()[..5], [0, 0, 0, 0, 8]);
 }
 
 #[test]
 fn a_run_stores_the_ten_frequencies() {
     let sheet = sheet_of(125 * MHZ);
     let mut runner = Runner::new();
+    runner.start(&sheet).unwrap();
     let mut released = 0;
     loop {
         match runner.poll(&sheet, true) {
@@ -154,14 +183,18 @@ fn a_run_stores_the_ten_frequencies() {
 #[test]
 fn a_lock_times_out_at_the_millionth_poll() {
     let sheet = (22u64 << 58).to_be_bytes();
-    let mut numbers = [0; 14];
+    let mut started = Runner::new();
+    started.start(&sheet).unwrap();
+    let mut numbers = *started.numbers();
     numbers[1] = 999_998;
-    let mut runner = Runner::from_numbers(numbers).unwrap();
+    let mut runner = Runner::from_parts(numbers, *started.kept()).unwrap();
     assert_eq!(runner.poll(&sheet, false), Ok(Progress::Waiting));
     assert_eq!(runner.poll(&sheet, false), Err(Refused(22)));
     assert_eq!(runner.numbers()[..4], [0, 999_999, 2, 1]);
     assert_eq!(runner.poll(&sheet, true), Err(Refused(22)));
-    assert_eq!(Runner::from_numbers([2; 14]), None);
+    runner.start(&sheet).unwrap();
+    assert_eq!(runner, started);
+    assert_eq!(Runner::from_parts([2; 15], [0; SHEET_BYTES]), None);
 }
 
 #[test]

@@ -14,7 +14,7 @@ use Rattle.replies.specs.Reply.{badCase}
 use Rattle.number_cases.specs.Numbers.{validText, outputText, searchText, usbPllText, bookText, marginText, voltageText, pioText, gpoutText}
 use Rattle.sheet_cases.specs.Sheets.{crystalText, roscText, defaultText, systemText, systemFromText}
 use Rattle.sheet_cases.specs.Sheets.{manualText, planCount, planSheetText}
-use Rattle.run_cases.specs.Runs.{runText}
+use Rattle.run_cases.specs.Runs.{runText, startText}
 use Rattle.sleep_cases.specs.Sleeps.{sleepText, wakeText}
 use Rattle.cases.specs.Lists.{listText}
 use Rattle.cases.specs.declared.Kind.{Kind}
@@ -37,6 +37,7 @@ use Rattle.cases.specs.declared.Kind.the-variants.{
   SystemFrom,
   Manual,
   Run,
+  Start,
   Sleep,
   Wake,
   Unknown,
@@ -46,7 +47,7 @@ pub record Row : Type 0 where
   pub name : List ℕ
   -- its numbers, out of what stands behind the name
   pub fields : Tail → Fields
-  -- its answer, from its numbers and the word behind them
+  -- its answer, from its numbers and what stands behind them
   pub text : List ℕ → List ℕ → List ℕ
 
 -- numbers alone
@@ -68,7 +69,7 @@ abbrev pub fractionTop : Chip → ℕ
 fractionTop Rp2040 = u8
 fractionTop Rp235x = u16
 
--- numbers and a word
+-- numbers and what stands behind them
 abbrev pub worded : String → List ℕ → (List ℕ → List ℕ → List ℕ) → Row
 worded name limits text =
     record { name = ascii name; fields = numbersIn limits; text = text }
@@ -117,11 +118,13 @@ rowOf (System chip) = onChip chip "system" (u8 ∷ room ∷ u32 ∷ []) (systemT
 rowOf (SystemFrom chip) = onChip chip "system_from" (u8 ∷ room ∷ u32 ∷ u32 ∷ []) (systemFromText chip)
 -- READING ROOM HZ REFDIV FBDIV POST1 POST2 CODE
 rowOf Manual = plain "manual" (u8 ∷ room ∷ u32 ∷ u8 ∷ u16 ∷ u8 ∷ u8 ∷ 15 ∷ []) manualText
--- POSITION POLLS TOTAL STOPPED F0 to F9 READY, then SHEET
+-- POSITION POLLS TOTAL STOPPED F0 to F9 READY LEN, then KEPT SHEET
 rowOf Run =
     worded "run"
-    (u32 ∷ u32 ∷ u32 ∷ 1 ∷ u32 ∷ u32 ∷ u32 ∷ u32 ∷ u32 ∷ u32 ∷ u32 ∷ u32 ∷ u32 ∷ u32 ∷ 1 ∷ [])
+    (u32 ∷ u32 ∷ u32 ∷ 1 ∷ u32 ∷ u32 ∷ u32 ∷ u32 ∷ u32 ∷ u32 ∷ u32 ∷ u32 ∷ u32 ∷ u32 ∷ 1 ∷ u32 ∷ [])
     runText
+-- POSITION POLLS TOTAL STOPPED F0 to F9 LEN, then KEPT SHEET
+rowOf Start = worded "start" (u32 ∷ u32 ∷ u32 ∷ 1 ∷ replicate 11 u32) startText
 -- SLOT W0 to W10, then four slots
 rowOf Sleep = plain "sleep" sleepLimits sleepText
 rowOf Wake = plain "wake" sleepLimits wakeText
@@ -132,7 +135,7 @@ kinds =
     Valid ∷ Output ∷ Search ∷ UsbPll ∷ Book ∷ Margin ∷ Settings ∷ Voltage Rp2040 ∷ Voltage Rp235x ∷ Pio ∷ Gpout Rp2040
     ∷ Gpout Rp235x ∷ Sheet Rp2040 ∷ Sheet Rp235x ∷ Crystal Rp2040 ∷ Crystal Rp235x ∷ Rosc Rp2040 ∷ Rosc Rp235x
     ∷ Default Rp2040 ∷ Default Rp235x ∷ System Rp2040 ∷ System Rp235x ∷ SystemFrom Rp2040 ∷ SystemFrom Rp235x
-    ∷ Manual ∷ Run ∷ Sleep ∷ Wake ∷ []
+    ∷ Manual ∷ Run ∷ Start ∷ Sleep ∷ Wake ∷ []
 
 abbrev pub firstNamed : List ℕ → List Kind → Kind
 firstNamed name [] = Unknown

@@ -34,7 +34,8 @@ pub(crate) fn named(name: &[u8]) -> Kind
 {
     let from_wake = where_named(name, b"wake", Kind::Wake, Kind::Unknown);
     let from_sleep = where_named(name, b"sleep", Kind::Sleep, from_wake);
-    let from_run = where_named(name, b"run", Kind::Run, from_sleep);
+    let from_start = where_named(name, b"start", Kind::Start, from_sleep);
+    let from_run = where_named(name, b"run", Kind::Run, from_start);
     let from_manual = where_named(name, b"manual", Kind::Manual, from_run);
     let from_system_from235 = where_named(
         name,
@@ -164,9 +165,14 @@ pub(crate) fn read(kind: Kind, line: &[u8], at: usize, n: &mut [u32; 64]) -> Res
         Kind::SystemFrom(_) => read_all(line, at, &[U8, ROOM, U32, U32], n),
         Kind::Manual => read_all(line, at, &[U8, ROOM, U32, U8, U16, U8, U8, 15], n),
         Kind::Run => {
-            let mut limits = [U32; 15];
+            let mut limits = [U32; 16];
             limits[3] = 1;
             limits[14] = 1;
+            fields::read(line, at, &limits, n)
+        }
+        Kind::Start => {
+            let mut limits = [U32; 15];
+            limits[3] = 1;
             fields::read(line, at, &limits, n)
         }
         Kind::Sleep => read_sleep(line, at, n),

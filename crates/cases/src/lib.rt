@@ -28,12 +28,13 @@ pub enum Kind {
     SystemFrom(Chip),
     Manual,
     Run,
+    Start,
     Sleep,
     Wake,
     Unknown,
 }
 
-// The answer of a kind to its numbers n and the word behind them.
+// The answer of a kind to its numbers n and what stands behind them.
 fn put_case(kind: Kind, n: &[u32; 64], word: &[u8], out: &mut [u8]) -> usize
     ensures { λ r. ⌜ Placed (now (out .entry)) 0 (rowOf kind .text (now (n .entry)) (now (word .entry))) r (now (out .exit)) ⌝ }
 {
@@ -56,6 +57,7 @@ fn put_case(kind: Kind, n: &[u32; 64], word: &[u8], out: &mut [u8]) -> usize
         Kind::SystemFrom(chip) => sheet_cases::put_system_from(chip, n, out),
         Kind::Manual => sheet_cases::put_manual(n, out),
         Kind::Run => run_cases::put_run(n, word, out),
+        Kind::Start => run_cases::put_start(n, word, out),
         Kind::Sleep => sleep_cases::put_sleep(n, out),
         Kind::Wake => sleep_cases::put_wake(n, out),
         Kind::Unknown => replies::put_bad(out),

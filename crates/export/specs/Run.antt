@@ -1,15 +1,17 @@
--- The runner's call over a runner that is given as 14 numbers.
+-- The runner's start and call over a runner that is given as 15 numbers and its kept bytes.
 -- Assumes nothing.
 use mathlib.Core.Bool.{Bool}
-use mathlib.Core.List.{List, _++_}
+use mathlib.Core.Path.{_≡_}
+use mathlib.Core.List.{List, _∷_, _++_}
 use Prim.Native.Nat.{ℕ}
 use lib.Dec.{eqb, leb}
-use lib.ListN.{getD, set, take, drop}
+use lib.ListN.{getD, set, take, drop, replicate}
 use Rattle.base.specs.Choice.{pick, bit}
 use Rattle.step.specs.Steps.{packOf}
 use Rattle.runner.specs.declared.State.{State}
 use Rattle.runner.specs.declared.Runner.{Runner}
-use Rattle.runner.specs.Run.{Progress, done, handed, passed, waiting, Outcome, advanceOf}
+use Rattle.base.specs.Answer.{Answer, value, refusal}
+use Rattle.runner.specs.Run.{Progress, done, handed, passed, waiting, Outcome, advanceOf, Go, started, startOf}
 use Rattle.export.specs.Numbers.{answerNumber, malformed}
 
 -- position, lock polls, total, stopped mark
@@ -22,9 +24,10 @@ stateIn ns =
       stopped = eqb (getD ns 3 0) 1;
     }
 
--- then the ten frequencies
-abbrev pub runnerIn : List ℕ → Runner
-runnerIn ns = record { state = stateIn ns; freqs = drop 4 ns }
+-- then the kept length, then the ten frequencies
+abbrev pub runnerIn : List ℕ → List ℕ → Runner
+runnerIn ns kept =
+    record { kept = kept; len = getD ns 4 0; stepper = record { state = stateIn ns; freqs = drop 5 ns } }
 
 -- a mark is 1 or 0; no other is a runner's
 abbrev pub isRunner : List ℕ → Bool
@@ -49,14 +52,33 @@ unfoldable pub withState : State → List ℕ → List ℕ
 withState s ns = set (set (set (set ns 0 (s .position)) 1 (s .«lock_polls»)) 2 (s .total)) 3 (bit (s .stopped))
 
 unfoldable pub withFreqs : List ℕ → List ℕ → List ℕ
-withFreqs freqs ns = take 4 ns ++ freqs
+withFreqs freqs ns = take 5 ns ++ freqs
 
 -- a call: its answer as a number, and the numbers after it; numbers of no runner stay as they are
-unfoldable pub runNumber : List ℕ → List ℕ → Bool → ℕ
-runNumber ns sheet ready =
-    pick (isRunner ns) (answerNumber progressNumber (advanceOf (runnerIn ns) sheet ready .answer)) malformed
+unfoldable pub runNumber : List ℕ → List ℕ → List ℕ → Bool → ℕ
+runNumber ns kept sheet ready =
+    pick (isRunner ns) (answerNumber progressNumber (advanceOf (runnerIn ns kept) sheet ready .answer)) malformed
 
-unfoldable pub runLeaves : List ℕ → List ℕ → Bool → List ℕ
-runLeaves ns sheet ready =
-    let next = advanceOf (runnerIn ns) sheet ready .next in
+unfoldable pub runLeaves : List ℕ → List ℕ → List ℕ → Bool → List ℕ
+runLeaves ns kept sheet ready =
+    let next = advanceOf (runnerIn ns kept) sheet ready .next .stepper in
     pick (isRunner ns) (withState (next .state) (withFreqs (next .freqs) ns)) ns
+
+-- a start that is not refused
+abbrev pub goNumber : Go → ℕ
+goNumber started = 0
+
+-- the numbers of a runner that was just started with as many bytes
+abbrev pub startedNumbers : ℕ → List ℕ
+startedNumbers len = 0 ∷ 0 ∷ 0 ∷ 0 ∷ len ∷ replicate 10 0
+
+-- the numbers after a start: where it is refused, those before it
+abbrev pub startLeaves : Answer Go → List ℕ → ℕ → List ℕ
+startLeaves (value started) ns len = startedNumbers len
+startLeaves (refusal n) ns len = ns
+
+-- what a start promises: its answer r, the numbers and the kept bytes after it
+pub record StartCall (ns kept sheet : List ℕ) (r : ℕ) (ns′ kept′ : List ℕ) : Type 0 where
+  pub answer : r ≡ answerNumber goNumber (startOf (runnerIn ns kept) sheet .answer)
+  pub numbers : ns′ ≡ startLeaves (startOf (runnerIn ns kept) sheet .answer) ns (startOf (runnerIn ns kept) sheet .next .len)
+  pub bytes : kept′ ≡ startOf (runnerIn ns kept) sheet .next .kept

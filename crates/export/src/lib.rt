@@ -10,6 +10,9 @@ use numbers::OptionChip;
 use numbers::OptionDiv;
 use plan_numbers::PlanRead;
 use pll::PllConfig;
+use runner::Opening;
+use runner::Runner;
+use step::MAX_BYTES;
 ghost use mathlib.Core.Path.{_≡_};
 ghost use lib.ListN.{length};
 ghost use mathlib.Core.Option.{some};
@@ -28,7 +31,7 @@ ghost use Rattle.export.specs.Numbers.{answerNumber, itself, settingNumb
 ghost use Rattle.export.specs.Numbers.{voltageNumber, dividerNumbered, gpoutNumber};
 ghost use Rattle.export.specs.Sheet.{SheetCall, presetOn, given, planOn};
 ghost use Rattle.sleep.specs.Sleep.{sleepOf, wakeOf};
-ghost use Rattle.export.specs.Run.{runNumber, runLeaves};
+ghost use Rattle.export.specs.Run.{runNumber, runLeaves, StartCall};
 ghost use Rattle.export.specs.Slots.{askedWith, SlotsCall};
 
 #[no_mangle]
@@ -221,17 +224,46 @@ pub extern "C" fn dizbaral_list(input_hz: u32, target_hz: u32, list: &mut [u8]) 
     numbers::length(lister::list_exact(input_hz, target_hz, list))
 }
 
+// Any numbers may be given: a start makes a runner of them.
 #[no_mangle]
-pub extern "C" fn dizbaral_run(runner: &mut [u32; 14], sheet: &[u8], ready: bool) -> u64
-    ensures { λ r. ⌜ r ≡ runNumber (now (runner .entry)) (now (sheet .entry)) ready ⌝ }
-    ensures { λ _. ⌜ now (runner .exit) ≡ runLeaves (now (runner .entry)) (now (sheet .entry)) ready ⌝ }
+pub extern "C" fn dizbaral_start(
+    runner: &mut [u32; 15],
+    kept: &mut [u8; MAX_BYTES],
+    sheet: &[u8],
+) -> u64
+    ensures { λ r. ⌜ StartCall (now (runner .entry)) (now (kept .entry)) (now (sheet .entry)) r (now (runner .exit)) (now (kept .exit)) ⌝ }
+{
+    let o = runner::restarted(Runner::new(), sheet);
+    let reply = o.reply;
+    let next = o.runner;
+    match reply {
+        Opening::Started => {
+            run::put_started(runner, next.len as u32);
+            let bytes = next.kept;
+            let _n = bytes::copy(&bytes, kept);
+            0
+        }
+        Opening::Refused(number) => numbers::refused(number),
+    }
+}
+
+#[no_mangle]
+pub extern "C" fn dizbaral_run(
+    runner: &mut [u32; 15],
+    kept: &[u8; MAX_BYTES],
+    sheet: &[u8],
+    ready: bool,
+) -> u64
+    ensures { λ r. ⌜ r ≡ runNumber (now (runner .entry)) (now (kept .entry)) (now (sheet .entry)) ready ⌝ }
+    ensures { λ _. ⌜ now (runner .exit) ≡ runLeaves (now (runner .entry)) (now (kept .entry)) (now (sheet .entry)) ready ⌝ }
 {
     if 1 < runner[3] {
         return numbers::MALFORMED;
     }
     let before = run::state(runner);
     let word = step::word(sheet, 8 * before.position);
-    let t = runner::turn(before, sheet, ready);
+    let len = base::wide(runner[4]) as usize;
+    let t = runner::turn(before, len, kept, sheet, ready);
     let after = t.state;
     let reply = t.reply;
     let number = run::answer(runner, reply, word);

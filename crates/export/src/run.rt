@@ -1,17 +1,18 @@
-// A runner as 14 numbers: position, lock polls, total, stopped mark, ten frequencies.
+// A runner as 15 numbers: position, lock polls, total, stopped mark, kept length, ten frequencies; and its kept bytes.
 use crate::numbers;
 use runner::Reply;
 use runner::State;
 use step::Step;
+use step::kind;
 ghost use mathlib.Core.Path.{_≡_};
 ghost use Prim.Native.Nat.{_≤_};
-ghost use lib.ListN.{drop};
+ghost use lib.ListN.{length, drop};
 ghost use Rattle.step.specs.Steps.{WellFormed};
 ghost use Rattle.runner.specs.Run.{replyIs, HandsFormed, storedBy, freqsAfter};
 ghost use Rattle.export.specs.Numbers.{answerNumber};
-ghost use Rattle.export.specs.Run.{stateIn, withState, withFreqs, progressWith};
+ghost use Rattle.export.specs.Run.{stateIn, withState, withFreqs, progressWith, startedNumbers};
 
-pub(crate) fn state(numbers: &[u32; 14]) -> State
+pub(crate) fn state(numbers: &[u32; 15]) -> State
     ensures { λ r. ⌜ (r ≡ stateIn (now (numbers .entry))) × (r .position ≤ 4294967295) ⌝ }
 {
     State {
@@ -22,7 +23,7 @@ pub(crate) fn state(numbers: &[u32; 14]) -> State
     }
 }
 
-pub(crate) fn put_state(numbers: &mut [u32; 14], s: State)
+pub(crate) fn put_state(numbers: &mut [u32; 15], s: State)
     requires { ⌜ s .position ≤ 4294967295 ⌝ }
     ensures { λ _. ⌜ now (numbers .exit) ≡ withState s (now (numbers .entry)) ⌝ }
 {
@@ -33,21 +34,21 @@ pub(crate) fn put_state(numbers: &mut [u32; 14], s: State)
 }
 
 // A store sets its clock's frequency.
-fn put_store(numbers: &mut [u32; 14], step: Step)
+fn put_store(numbers: &mut [u32; 15], step: Step)
     requires { ⌜ WellFormed step ⌝ }
-    ensures { λ _. ⌜ now (numbers .exit) ≡ withFreqs (storedBy step (drop 4 (now (numbers .entry)))) (now (numbers .entry)) ⌝ }
+    ensures { λ _. ⌜ now (numbers .exit) ≡ withFreqs (storedBy step (drop 5 (now (numbers .entry)))) (now (numbers .entry)) ⌝ }
 {
-    if step.kind != 37 {
+    if step.kind != kind::STORE {
         return;
     }
     let clock = step.f0 as usize;
-    numbers[4 + clock] = step.f1 as u32;
+    numbers[5 + clock] = step.f1 as u32;
 }
 
 // The number of a reply at a word of the sheet; a store that is handed out sets its frequency.
-pub(crate) fn answer(numbers: &mut [u32; 14], reply: Reply, word: u64) -> u64
+pub(crate) fn answer(numbers: &mut [u32; 15], reply: Reply, word: u64) -> u64
     requires { ⌜ HandsFormed (replyIs reply) ⌝ }
-    ensures { λ r. ⌜ (r ≡ answerNumber (progressWith word) (replyIs reply)) × (now (numbers .exit) ≡ withFreqs (freqsAfter (replyIs reply) (drop 4 (now (numbers .entry)))) (now (numbers .entry))) ⌝ }
+    ensures { λ r. ⌜ (r ≡ answerNumber (progressWith word) (replyIs reply)) × (now (numbers .exit) ≡ withFreqs (freqsAfter (replyIs reply) (drop 5 (now (numbers .entry)))) (now (numbers .entry))) ⌝ }
 {
     match reply {
         Reply::Done => 0,
@@ -59,4 +60,26 @@ pub(crate) fn answer(numbers: &mut [u32; 14], reply: Reply, word: u64) -> u64
         Reply::Waiting => 2,
         Reply::Refused(number) => numbers::refused(number),
     }
+}
+
+// A runner that was just started with as many bytes.
+pub(crate) fn put_started(numbers: &mut [u32], len: u32)
+    requires { ⌜ length (now numbers) ≡ 15 ⌝ }
+    ensures { λ _. ⌜ now (numbers .exit) ≡ startedNumbers len ⌝ }
+{
+    numbers[0] = 0;
+    numbers[1] = 0;
+    numbers[2] = 0;
+    numbers[3] = 0;
+    numbers[4] = len;
+    numbers[5] = 0;
+    numbers[6] = 0;
+    numbers[7] = 0;
+    numbers[8] = 0;
+    numbers[9] = 0;
+    numbers[10] = 0;
+    numbers[11] = 0;
+    numbers[12] = 0;
+    numbers[13] = 0;
+    numbers[14] = 0;
 }

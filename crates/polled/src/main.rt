@@ -52,9 +52,10 @@ fn is_waiting(reply: Reply) -> bool {
     }
 }
 
-// A fresh runner over a sheet until it answers done; ready after an answer that it waits.
+// A runner that is started with a sheet, until it answers done; ready after an answer that it waits.
 fn run(sheet: &[u8]) -> Runner {
-    let mut runner = Runner::new();
+    let opened = runner::restarted(Runner::new(), sheet);
+    let mut runner = opened.runner;
     let mut ready = false;
     let mut left: usize = 76;
     while 0 < left {
@@ -71,8 +72,8 @@ fn run(sheet: &[u8]) -> Runner {
 }
 
 fn show_runner(r: Runner) {
-    show(b"steps", r.state.position as u64);
-    show(b"unready", r.state.total as u64);
+    show(b"steps", r.stepper.state.position as u64);
+    show(b"unready", r.stepper.state.total as u64);
     show(b"rosc", runner::rosc_freq(r) as u64);
     show(b"xosc", runner::xosc_freq(r) as u64);
     show(b"pll_sys", runner::pll_sys_freq(r) as u64);

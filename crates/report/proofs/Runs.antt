@@ -24,10 +24,10 @@ use Rattle.sheet.specs.Steps.{releaseMask, clocksPart, stepsWith, stepsOf}
 use Rattle.sheet.specs.Writer.{sheetBytes}
 use Rattle.runner.specs.declared.Runner.{Runner}
 use Rattle.runner.specs.declared.Stepped.{Stepped}
-use Rattle.runner.specs.Run.{Progress, Outcome, replyIs, steppedIs, fresh, isWait, advanceOf}
+use Rattle.runner.specs.Run.{Progress, Outcome, replyIs, steppedIs, fresh, isWait, advanceOf, Begun, startedWith, startOf}
 use Rattle.runner.specs.Calls.{answers, readyAnswer}
 use Rattle.up.specs.Up.{planSteps}
-use Rattle.up.proofs.Run.{sheet-answers, sheet-run}
+use Rattle.up.proofs.Run.{sheet-starts, sheet-answers, sheet-run}
 use Rattle.report.specs.Report.{numbersOf}
 use Rattle.report.specs.Ran.{releasedIn, releasedBy, lastReleased, runs, ranOf, reportNumbers}
 
@@ -91,10 +91,14 @@ answers-first sheet (suc n) r =
 
 -- an accepted plan's sheet, at any reading: after as many calls as there are steps the numbers are the report's
 module _ (p : ClockConfig) (r : ℕ) (ok : Accepted p r) (t : Typed (settingsOf p r)) where
-  all-answers : answers fresh (sheetBytes p r) (replicate (length (planSteps p r)) true) ≡ map readyAnswer (planSteps p r)
+  started : startOf fresh (sheetBytes p r) .next ≡ startedWith (sheetBytes p r)
+  started = ap (λ (x : Begun Runner). x .next) (sheet-starts p r fresh)
+
+  all-answers : answers (startedWith (sheetBytes p r)) (sheetBytes p r) (replicate (length (planSteps p r)) true)
+      ≡ map readyAnswer (planSteps p r)
   all-answers =
       let n = length (planSteps p r) in
-      sym (answers-first (sheetBytes p r) n fresh)
+      sym (answers-first (sheetBytes p r) n (startedWith (sheetBytes p r)))
       ∙ ap (take n) (rw add-one at (sheet-answers p r ok t))
       ∙ rw (← length-map (planSteps p r) readyAnswer) (take-append-seam (map readyAnswer (planSteps p r)) _)
 
@@ -106,6 +110,7 @@ module _ (p : ClockConfig) (r : ℕ) (ok : Accepted p r) (t : Typed (settingsOf 
   unfolding tenOf runs
   run-numbers =
       rw (
+        started,
         calls,
         sheet-run p r ok t,
         all-answers,

@@ -2,16 +2,20 @@
 -- Assumes nothing.
 use mathlib.Core.Path.{_≡_, refl, ap, _∙_}
 use mathlib.Core.Bool.{Bool, true, false}
-use mathlib.Core.List.{List}
+use mathlib.Core.List.{List, _++_}
 use mathlib.Core.Option.{none, some}
-use Prim.Native.Nat.{ℕ, _+_, _≤_}
+use Prim.Native.Nat.{ℕ, _+_, _-_, _≤_}
+use native.Mathlib.Nat.{zero-add}
 use native.Mathlib.Omega.{arith}
 use borrow.Author.Tests.{leb-true}
 use lib.Dec.{leb}
-use lib.ListN.{length, take, drop}
-use lib.Seq.{take-append-seam, length-sets, sets-eq}
+use lib.ListN.{length, take, drop, length-drop, replicate}
+use lib.Seq.{take-append-seam, take-all, sets, length-sets, sets-eq}
 use Rattle.base.proofs.Bools.{both-true}
 use Rattle.text.specs.Hex.{isHexWord, pairValues, isReadable, HexReading}
+use Rattle.step.specs.Sheet.{maxBytes}
+use Rattle.runner.specs.Run.{padded}
+use Rattle.runner.proofs.Starts.{drop-zeros}
 use Rattle.text.specs.declared.HexRead.the-variants.{Bytes, Bad}
 
 -- a word that was read
@@ -54,3 +58,20 @@ module _ (w xs ys : List ℕ) where
           let z : _≡_ {A = ℕ} 0 1 = cc in
           absurd (omega arith)
       go false e = e
+
+-- read over zeros, the bytes stand in front of them
+pub word-padded : (w ys : List ℕ) (k : ℕ) → HexReading w (replicate maxBytes 0) (Bytes k) ys → ys ≡ padded (pairValues w)
+unfolding isReadable
+word-padded w ys k h =
+    let read = word-read w (replicate maxBytes 0) ys k h in
+    let room : length (pairValues w) ≤ maxBytes
+    = leb-true (length (pairValues w)) maxBytes (both-true (isHexWord w) _ (read .readable) .1) in
+    let placed : sets (replicate maxBytes 0) 0 (pairValues w)
+    ≡ pairValues w ++ drop (length (pairValues w)) (replicate maxBytes 0)
+    = rw zero-add at (sets-eq (pairValues w) (replicate maxBytes 0) 0 (omega arith)) in
+    rw (read .readable) at (h .bytes) ∙ placed
+    ∙ ap (λ (zeros : List ℕ). pairValues w ++ zeros) (drop-zeros (length (pairValues w)) maxBytes room)
+
+-- all that is left behind an index
+pub take-rest : (k : ℕ) (xs : List ℕ) → take (length xs - k) (drop k xs) ≡ drop k xs
+take-rest k xs = take-all (length xs - k) (drop k xs) (simp length-drop (omega arith))

@@ -1,32 +1,43 @@
--- What a `run` case answers, from its numbers n and the word of hex behind them.
+-- What the cases `run` and `start` answer, from their numbers n and the two words of hex behind them, KEPT and SHEET.
 -- Assumes nothing.
 use mathlib.Core.Bool.{Bool}
 use mathlib.Core.List.{List, [], _∷_, _++_}
 use Prim.Native.Nat.{ℕ}
 use lib.Dec.{eqb}
 use Rattle.base.specs.Choice.{pick, bit}
-use Rattle.text.specs.Hex.{isReadable, pairValues}
+use lib.ListN.{take}
+use Rattle.text.specs.Hex.{isReadable, pairValues, hexOf}
+use Rattle.text.specs.Decimal.{decimalOf}
+use Rattle.text.specs.Words.{upTo}
 use Rattle.step.specs.declared.Step.{Step}
+use Rattle.step.specs.Sheet.{maxBytes}
 use Rattle.runner.specs.declared.Runner.{Runner}
-use Rattle.runner.specs.Run.{Progress, done, handed, passed, waiting, Outcome, advanceOf}
+use Rattle.runner.specs.Run.{Progress, done, handed, passed, waiting, Outcome, advanceOf, Go, started, Begun, padded, startOf}
 use Rattle.text.specs.Ascii.{ascii}
 use Rattle.fields.specs.Row.{nth, tenAt}
+use Rattle.fields.specs.Fields.{Tail, ended, more, bad, behind}
 use Rattle.replies.specs.Reply.{badCase, answerText, rowText}
+use Rattle.run_cases.specs.declared.Ask.{Ask}
 
--- POSITION POLLS TOTAL STOPPED F0 to F9
-abbrev pub runnerOfCase : List ℕ → Runner
-runnerOfCase n =
+-- POSITION POLLS TOTAL STOPPED F0 to F9, and LEN at place at
+abbrev pub runnerOfCase : List ℕ → ℕ → List ℕ → Runner
+runnerOfCase n at kept =
     record {
-      state =
-          record { position = nth n 0; «lock_polls» = nth n 1; total = nth n 2; stopped = eqb (nth n 3) 1 };
-      freqs = tenAt n 4;
+      kept = kept;
+      len = nth n at;
+      stepper =
+          record {
+            state =
+                record { position = nth n 0; «lock_polls» = nth n 1; total = nth n 2; stopped = eqb (nth n 3) 1 };
+            freqs = tenAt n 4;
+          };
     }
 
--- the same order
+-- the fourteen numbers in the same order
 abbrev pub runnerText : Runner → List ℕ
 runnerText r =
-    rowText (r .state .position)
-    (r .state .«lock_polls» ∷ r .state .total ∷ bit (r .state .stopped) ∷ tenAt (r .freqs) 0)
+    let s = r .stepper .state in
+    rowText (s .position) (s .«lock_polls» ∷ s .total ∷ bit (s .stopped) ∷ tenAt (r .stepper .freqs) 0)
 
 -- `step` with KIND and the five fields, or a word
 abbrev pub progressText : Progress → List ℕ
@@ -39,9 +50,43 @@ progressText waiting = ascii "waiting"
 unfoldable pub outcomeText : Outcome Runner → List ℕ
 outcomeText o = answerText progressText (o .answer) ++ (ascii " / " ++ runnerText (o .next))
 
--- READY is the last number; a sheet of up to 2048 bytes is read, longer ones are no case
-unfoldable pub runText : List ℕ → List ℕ → List ℕ
-runText n word =
-    pick (isReadable word 2048)
-    (outcomeText (advanceOf (runnerOfCase n) (pairValues word) (eqb (nth n 14) 1)))
+abbrev pub goText : Go → List ℕ
+goText started = ascii "started"
+
+-- LEN, and the kept bytes up to it
+abbrev pub keptText : ℕ → List ℕ → List ℕ
+keptText len kept = 32 ∷ (decimalOf len ++ (32 ∷ hexOf (take len kept)))
+
+-- the answer, then the runner after it with what it keeps
+unfoldable pub begunText : Begun Runner → List ℕ
+begunText o =
+    let r = o .next in
+    answerText goText (o .answer) ++ (ascii " / " ++ (runnerText r ++ keptText (r .len) (r .kept)))
+
+abbrev pub askText : Ask → Runner → List ℕ → List ℕ
+askText Ask.Start r sheet = begunText (startOf r sheet)
+askText (Ask.Call ready) r sheet = outcomeText (advanceOf r sheet ready)
+
+-- a sheet of up to 2048 bytes is read, longer ones are no case
+unfoldable pub sheetText : Ask → Runner → List ℕ → List ℕ
+sheetText ask r word = pick (isReadable word 2048) (askText ask r (pairValues word)) badCase
+
+abbrev pub behindText : Ask → Runner → Tail → List ℕ
+behindText ask r ended = badCase
+behindText ask r (more word) = sheetText ask r word
+behindText ask r bad = badCase
+
+-- KEPT gives up to 528 bytes; zeros follow
+unfoldable pub wordsText : Ask → List ℕ → ℕ → List ℕ → List ℕ
+wordsText ask n at words =
+    pick (isReadable (upTo 32 words) maxBytes)
+    (behindText ask (runnerOfCase n at (padded (pairValues (upTo 32 words)))) (behind words))
     badCase
+
+-- READY and LEN are the last numbers
+abbrev pub runText : List ℕ → List ℕ → List ℕ
+runText n words = wordsText (Ask.Call (eqb (nth n 14) 1)) n 15 words
+
+-- LEN is the last number
+abbrev pub startText : List ℕ → List ℕ → List ℕ
+startText n words = wordsText Ask.Start n 14 words

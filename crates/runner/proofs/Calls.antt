@@ -1,61 +1,76 @@
 -- Which rule a call falls under.
 -- Assumes nothing.
-use mathlib.Core.Bool.{Bool, true, false, not}
+use mathlib.Core.Bool.{Bool, true, false, _||_, not}
 use mathlib.Core.List.{List}
 use mathlib.Core.Path.{_≡_, refl}
-use Prim.Native.Nat.{ℕ, _+_, _*_, _<_, _≤_}
+use Prim.Native.Nat.{ℕ, _+_, _*_, _%_, _<_, _≤_}
 use borrow.Author.Tests.{le-leb, lt-leb, ltb-false}
 use native.Mathlib.Omega.{arith}
 use lib.Dec.{eqb, ltb, leb}
-use lib.ListN.{length}
+use lib.ListN.{length, take}
 use Rattle.base.specs.Answer.{Answer, value, refusal}
 use Rattle.base.specs.Choice.{pick}
 use Rattle.base.proofs.Bools.{both-false}
 use Rattle.step.specs.declared.Step.{Step}
 use Rattle.step.specs.Kinds as kind
 use Rattle.step.specs.Access.{readAt}
-use Rattle.step.specs.Sheet.{maxSteps}
+use Rattle.step.specs.Sheet.{maxSteps, maxBytes}
 use Rattle.runner.specs.declared.State.{State}
 use Rattle.runner.specs.Run.{Outcome, outcome, done, handed, passed, movedOn, polled, waits, isWait, unready}
-use Rattle.runner.specs.Run.{takeStep, takeRead, outside, badLength, turnOf}
+use Rattle.text.specs.Ascii.{same}
+use Rattle.runner.specs.Run.{takeStep, takeRead, outside, badSize, onwardOf, turnOf}
 
-pub inside : (s : State) → outside s ≡ false → (s .position ≤ maxSteps) × (s .«lock_polls» < 1000000)
-unfolding outside
-inside s e =
-    let both = both-false (ltb maxSteps (s .position)) (ltb 999999 (s .«lock_polls»)) e in
-    (ltb-false maxSteps (s .position) (both .0), omega (arith, ltb-false 999999 (s .«lock_polls») (both .1)))
+pub size-fits : (n : ℕ) → badSize n ≡ false → n ≤ maxBytes
+size-fits n e = ltb-false maxBytes n (both-false (ltb maxBytes n) (not (eqb (n % 8) 0)) e .0)
+
+module _ (s : State) (len : ℕ) (o : outside s len ≡ false) where
+  ranged : ((ltb maxSteps (s .position) || ltb 999999 (s .«lock_polls»)) ≡ false) × (badSize len ≡ false)
+  unfolding outside
+  ranged = both-false (ltb maxSteps (s .position) || ltb 999999 (s .«lock_polls»)) (badSize len) o
+
+  pub inside : (s .position ≤ maxSteps) × (s .«lock_polls» < 1000000)
+  inside =
+      let both = both-false (ltb maxSteps (s .position)) (ltb 999999 (s .«lock_polls»)) (ranged .0) in
+      (ltb-false maxSteps (s .position) (both .0), omega (arith, ltb-false 999999 (s .«lock_polls») (both .1)))
+
+  pub len-fits : len ≤ maxBytes
+  len-fits = size-fits len (ranged .1)
 
 module _ (s : State) (sheet : List ℕ) (ready : Bool) where
-  pub call-outside : outside s ≡ true → outcome (refusal 21) s ≡ turnOf s sheet ready
+  pub onward-done : length sheet ≤ 8 * s .position → outcome (value done) s ≡ onwardOf s sheet ready
+  unfolding onwardOf
+  onward-done h = simp (le-leb _ _ h)
+
+  pub onward-read : 8 * s .position < length sheet → (a : Answer Step) → readAt sheet (8 * s .position) ≡ a
+      → takeRead s a ready ≡ onwardOf s sheet ready
+  unfolding onwardOf
+  onward-read h a e = simp (lt-leb _ _ h, e)
+
+module _ (s : State) (len : ℕ) (kept sheet : List ℕ) (ready : Bool) where
+  pub call-outside : outside s len ≡ true → outcome (refusal 21) s ≡ turnOf s len kept sheet ready
   unfolding turnOf
   call-outside o = simp o
 
-  module _ (o : outside s ≡ false) where
-    pub call-stopped : s .stopped ≡ true → outcome (refusal 22) s ≡ turnOf s sheet ready
+  module _ (o : outside s len ≡ false) where
+    pub call-stopped : s .stopped ≡ true → outcome (refusal 22) s ≡ turnOf s len kept sheet ready
     unfolding turnOf
     call-stopped t = simp (o, t)
 
     module _ (t : s .stopped ≡ false) where
-      pub call-length : badLength sheet ≡ true → outcome (refusal 20) s ≡ turnOf s sheet ready
+      pub call-differs : same (take len kept) sheet ≡ false → outcome (refusal 27) s ≡ turnOf s len kept sheet ready
       unfolding turnOf
-      call-length l = simp (o, t, l)
+      call-differs d = simp (o, t, d)
 
-      module _ (l : badLength sheet ≡ false) where
-        pub call-done : length sheet ≤ 8 * s .position → outcome (value done) s ≡ turnOf s sheet ready
-        unfolding turnOf
-        call-done h = simp (o, t, l, le-leb _ _ h)
-
-        pub call-read : 8 * s .position < length sheet → (a : Answer Step) → readAt sheet (8 * s .position) ≡ a
-            → takeRead s a ready ≡ turnOf s sheet ready
-        unfolding turnOf
-        call-read h a e = simp (o, t, l, lt-leb _ _ h, e)
+      pub call-goes : same (take len kept) sheet ≡ true → onwardOf s sheet ready ≡ turnOf s len kept sheet ready
+      unfolding turnOf
+      call-goes d = simp (o, t, d)
 
 pub both : {A : Type 0} (P : A → Type 0) (b : Bool) (x y : A) → P x → P y → P (pick b x y)
 both P true x y p q = p
 both P false x y p q = q
 
 -- what holds of every outcome that the rules name holds of a call
-module _ (P : Outcome State → Type 0) (s : State) (sheet : List ℕ) (ready : Bool)
+module _ (P : Outcome State → Type 0) (s : State) (len : ℕ) (kept sheet : List ℕ) (ready : Bool)
     (refuses : (n : ℕ) → P (outcome (refusal n) s))
     (ends : P (outcome (value done) s)) (passes : P (outcome (value passed) (movedOn s 0)))
     (stays : (polls : ℕ) → P (waits s polls)) (stops : P (outcome (refusal 22) (polled s (s .«lock_polls») true)))
@@ -73,10 +88,10 @@ module _ (P : Outcome State → Type 0) (s : State) (sheet : List ℕ) (ready : 
       both P (isWait (step .kind)) _ _ (both P ready _ _ passes (polls (step .kind))) (hands step e)
   reads (refusal n) e = refuses n
 
-  pub every-turn : P (turnOf s sheet ready)
-  unfolding turnOf
+  pub every-turn : P (turnOf s len kept sheet ready)
+  unfolding turnOf onwardOf
   every-turn =
-      both P (outside s) _ _ (refuses 21)
+      both P (outside s len) _ _ (refuses 21)
       (both P (s .stopped) _ _ (refuses 22)
-      (both P (badLength sheet) _ _ (refuses 20)
+      (both P (not (same (take len kept) sheet)) _ _ (refuses 27)
       (both P (leb (length sheet) (8 * s .position)) _ _ ends (reads (readAt sheet (8 * s .position)) refl))))

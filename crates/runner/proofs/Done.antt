@@ -6,7 +6,7 @@ use mathlib.Core.Logic.{_⊎_, inl, inr}
 use mathlib.Core.Path.{_≡_, refl}
 use Prim.Native.Nat.{ℕ, _+_, _*_}
 use lib.Dec.{eqb, ltb, leb}
-use lib.ListN.{length}
+use lib.ListN.{length, take}
 use Rattle.base.specs.Answer.{Answer, value, refusal}
 use Rattle.base.specs.Choice.{pick}
 use Rattle.step.specs.declared.Step.{Step}
@@ -15,7 +15,8 @@ use Rattle.step.specs.Access.{readAt}
 use Rattle.runner.specs.declared.State.{State}
 use Rattle.runner.specs.declared.Runner.{Runner}
 use Rattle.runner.specs.Run.{Progress, done, handed, passed, waiting, Outcome, outcome, isWait, unready}
-use Rattle.runner.specs.Run.{takeStep, takeRead, outside, badLength, turnOf, advanceOf}
+use Rattle.text.specs.Ascii.{same}
+use Rattle.runner.specs.Run.{takeStep, takeRead, outside, onwardOf, turnOf, stepperOf, advanceOf}
 use Rattle.runner.proofs.Calls.{both}
 
 abbrev NotDone : Answer Progress → Type 0
@@ -36,17 +37,17 @@ not-at-step s (value step) ready =
 not-at-step s (refusal n) ready = tt
 
 -- a call is not done, or any call is
-either : (s : State) (sheet : List ℕ) (heard ready : Bool)
-    → NotDone (turnOf s sheet heard .answer) ⊎ (turnOf s sheet ready ≡ outcome (value done) s)
-unfolding turnOf
-either s sheet heard ready =
-    go (outside s) (s .stopped) (badLength sheet) (leb (length sheet) (8 * s .position)) _ _
+either : (s : State) (len : ℕ) (kept sheet : List ℕ) (heard ready : Bool)
+    → NotDone (turnOf s len kept sheet heard .answer) ⊎ (turnOf s len kept sheet ready ≡ outcome (value done) s)
+unfolding turnOf onwardOf
+either s len kept sheet heard ready =
+    go (outside s len) (s .stopped) (not (same (take len kept) sheet)) (leb (length sheet) (8 * s .position)) _ _
     (not-at-step s (readAt sheet (8 * s .position)) heard)
   where
     calls : Bool → Bool → Bool → Bool → Outcome State → Outcome State
     calls a b c d x =
         pick a (outcome (refusal 21) s)
-        (pick b (outcome (refusal 22) s) (pick c (outcome (refusal 20) s) (pick d (outcome (value done) s) x)))
+        (pick b (outcome (refusal 22) s) (pick c (outcome (refusal 27) s) (pick d (outcome (value done) s) x)))
 
     go : (a b c d : Bool) (x y : Outcome State) → NotDone (x .answer)
         → NotDone (calls a b c d x .answer) ⊎ (calls a b c d y ≡ outcome (value done) s)
@@ -59,10 +60,14 @@ either s sheet heard ready =
 -- a runner that answers done answers done at each call, whatever it hears, and stays as it is
 pub done-stays : (r : Runner) (sheet : List ℕ) (heard ready : Bool) → advanceOf r sheet heard .answer ≡ value done
     → advanceOf r sheet ready ≡ outcome (value done) r
-unfolding advanceOf
-done-stays r sheet heard ready e = go (either (r .state) sheet heard ready)
+unfolding advanceOf stepperOf
+done-stays r sheet heard ready e = go (either s (r .len) (r .kept) sheet heard ready)
   where
-    go : NotDone (turnOf (r .state) sheet heard .answer) ⊎ (turnOf (r .state) sheet ready ≡ outcome (value done) (r .state))
+    s : State
+    s = r .stepper .state
+
+    go : NotDone (turnOf s (r .len) (r .kept) sheet heard .answer)
+        ⊎ (turnOf s (r .len) (r .kept) sheet ready ≡ outcome (value done) s)
         → advanceOf r sheet ready ≡ outcome (value done) r
     go (inl n) = absurd (rw e at n)
-    go (inr s) = rw s
+    go (inr t) = rw t

@@ -16,14 +16,19 @@ use Rattle.step.specs.Sheet.{maxSteps, maxBytes}
 use Rattle.runner.specs.declared.State.{State}
 use Rattle.runner.specs.declared.Runner.{Runner}
 use Rattle.runner.specs.Run.{done, handed, passed, waiting, Outcome, outcome, isWait, oneMore, movedOn, unready}
-use Rattle.runner.specs.Run.{takeStep, takeRead, outside, badLength, storedBy, joined, advanceOf}
-use Rattle.runner.proofs.Calls.{call-done, call-read}
+use Rattle.runner.specs.Run.{takeStep, takeRead, outside, badSize, padded, withStepper, startedWith, onwardOf, turnOf}
+use Rattle.runner.specs.Run.{storedBy, joined, inRunner, stepperOf, advanceOf}
+use Rattle.text.proofs.Same.{same-refl}
+use Rattle.runner.proofs.Starts.{kept-sheet}
+use Rattle.runner.proofs.Calls.{onward-done, onward-read, call-goes}
 
 abbrev pub going : ℕ → ℕ → ℕ → State
 going p polls total = record { position = p; «lock_polls» = polls; total = total; stopped = false }
 
-abbrev pub standing : ℕ → ℕ → ℕ → List ℕ → Runner
-standing p polls total freqs = record { state = going p polls total; freqs = freqs }
+-- started with the sheet
+abbrev pub standing : List ℕ → ℕ → ℕ → ℕ → List ℕ → Runner
+standing sheet p polls total freqs =
+    withStepper (startedWith sheet) (record { state = going p polls total; freqs = freqs })
 
 -- a wait is no store
 pub wait-stores : (step : Step) (freqs : List ℕ) → isWait (step .kind) ≡ true → storedBy step freqs ≡ freqs
@@ -75,28 +80,34 @@ polls-on p polls total step w h = go (eqb (step .kind) kind.wait-lock) refl
 
 -- over a sheet of n steps
 module _ (sheet : List ℕ) (n : ℕ) (few : n ≤ maxSteps) (size : length sheet ≡ 8 * n) where
-  within : (p polls total : ℕ) → p ≤ n → polls < 1000000 → outside (going p polls total) ≡ false
-  unfolding outside
-  within p polls total h l = simp (le-ltb maxSteps p (omega arith), le-ltb 999999 polls (omega arith))
+  pub good-size : badSize (length sheet) ≡ false
+  good-size = simp (le-ltb maxBytes (length sheet) (omega arith), eq-eqb (length sheet % 8) 0 (omega arith))
 
-  good-length : badLength sheet ≡ false
-  unfolding badLength
-  good-length = simp (le-ltb maxBytes (length sheet) (omega arith), eq-eqb (length sheet % 8) 0 (omega arith))
+  within : (p polls total : ℕ) → p ≤ n → polls < 1000000 → outside (going p polls total) (length sheet) ≡ false
+  unfolding outside
+  within p polls total h l = simp (le-ltb maxSteps p (omega arith), le-ltb 999999 polls (omega arith), good-size)
+
+  -- the sheet that is handed in is the kept one
+  goes : (p polls total : ℕ) (ready : Bool) → p ≤ n → polls < 1000000
+      → turnOf (going p polls total) (length sheet) (padded sheet) sheet ready
+      ≡ onwardOf (going p polls total) sheet ready
+  goes p polls total ready h l =
+      sym (call-goes (going p polls total) (length sheet) (padded sheet) sheet ready (within p polls total h l) refl
+      (rw (kept-sheet sheet) (same-refl sheet)))
 
   -- past the last step
   pub done-at : (total : ℕ) (freqs : List ℕ) (ready : Bool)
-      → advanceOf (standing n 0 total freqs) sheet ready ≡ outcome (value done) (standing n 0 total freqs)
-  unfolding advanceOf
+      → advanceOf (standing sheet n 0 total freqs) sheet ready ≡ outcome (value done) (standing sheet n 0 total freqs)
+  unfolding advanceOf stepperOf
   done-at total freqs ready =
-      let fine = within n 0 total (omega arith) (omega arith) in
-      rw (sym (call-done (going n 0 total) sheet ready fine refl good-length (omega arith)))
+      rw (goes n 0 total ready (omega arith) (omega arith)
+      ∙ sym (onward-done (going n 0 total) sheet ready (omega arith)))
 
   -- at a step
   pub step-at : (step : Step) (p polls total : ℕ) (freqs : List ℕ) (ready : Bool) (x : Outcome State)
       → p < n → polls < 1000000 → readAt sheet (8 * p) ≡ value step → takeStep (going p polls total) step ready ≡ x
-      → advanceOf (standing p polls total freqs) sheet ready ≡ joined x freqs
-  unfolding advanceOf takeRead
+      → advanceOf (standing sheet p polls total freqs) sheet ready ≡ inRunner (startedWith sheet) (joined x freqs)
+  unfolding advanceOf stepperOf takeRead
   step-at step p polls total freqs ready x h l read e =
-      let fine = within p polls total (omega arith) l in
-      let taken = call-read (going p polls total) sheet ready fine refl good-length (omega arith) (value step) read in
-      rw (sym taken ∙ e)
+      let taken = onward-read (going p polls total) sheet ready (omega arith) (value step) read in
+      rw (goes p polls total ready (omega arith) l ∙ sym taken ∙ e)

@@ -1,6 +1,10 @@
+pub mod Same
 pub mod Calls
+pub mod Starts
 pub mod Steps
 pub mod Untouched
+pub mod OneSheet
+pub mod OtherSheet
 pub mod Done
 pub mod Going
 pub mod Ready

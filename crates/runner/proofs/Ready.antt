@@ -1,4 +1,4 @@
--- A sheet of well-formed steps under a runner that hears ready each time.
+-- A sheet of well-formed steps under a runner that was started with it and hears ready each time.
 -- Assumes nothing.
 use mathlib.Core.Bool.{Bool, true, false}
 use mathlib.Core.List.{List, [], _∷_, _++_, map}
@@ -14,7 +14,7 @@ use Rattle.step.specs.Access.{readAt}
 use Rattle.step.specs.Sheet.{maxSteps, encoded, AllFormed}
 use Rattle.step.proofs.Sheets.{length-encoded, read-encoded}
 use Rattle.runner.specs.declared.Runner.{Runner}
-use Rattle.runner.specs.Run.{Progress, done, Outcome, outcome, fresh, isWait, takeStep, storedBy, freqsAfter, advanceOf}
+use Rattle.runner.specs.Run.{Progress, done, Outcome, outcome, isWait, takeStep, storedBy, freqsAfter, startedWith, advanceOf}
 use Rattle.runner.specs.Calls.{answers, after, readyAnswer, storesOf, readyState, readyAt}
 use Rattle.runner.proofs.Going.{wait-stores, done-at, step-at}
 
@@ -37,16 +37,16 @@ stores step freqs = go (isWait (step .kind)) refl
 
 module _ (sheet : List ℕ) (n : ℕ) (few : n ≤ maxSteps) (size : length sheet ≡ 8 * n) where
   ready-at : (step : Step) (p : ℕ) (freqs : List ℕ) → p < n → readAt sheet (8 * p) ≡ value step
-      → advanceOf (readyAt p freqs) sheet true
-      ≡ outcome (readyAnswer step) (readyAt (p + 1) (storedBy step freqs))
+      → advanceOf (readyAt sheet p freqs) sheet true
+      ≡ outcome (readyAnswer step) (readyAt sheet (p + 1) (storedBy step freqs))
   ready-at step p freqs h read =
       step-at sheet n few size step p 0 0 freqs true _ h (omega arith) read (takes step p) ∙ rw (stores step freqs)
 
   -- a runner with the steps ts before it takes them all, then is done
   record Through (p : ℕ) (freqs : List ℕ) (ts : List Step) : Type 0 where
-    answered : answers (readyAt p freqs) sheet (replicate (suc (length ts)) true)
+    answered : answers (readyAt sheet p freqs) sheet (replicate (suc (length ts)) true)
         ≡ map readyAnswer ts ++ (value done ∷ [])
-    left : after (readyAt p freqs) sheet (replicate (length ts) true) ≡ readyAt n (storesOf ts freqs)
+    left : after (readyAt sheet p freqs) sheet (replicate (length ts) true) ≡ readyAt sheet n (storesOf ts freqs)
 
   through : (d : Step) (ts : List Step) (p : ℕ) (freqs : List ℕ) → p + length ts ≡ n
       → ((i : ℕ) → i < length ts → readAt sheet (8 * (p + i)) ≡ value (getD ts i d)) → Through p freqs ts
@@ -71,10 +71,11 @@ all xs f few =
 
 -- every step is answered in order, then done
 pub ready-answers : (xs : List Step) → AllFormed xs → length xs ≤ maxSteps
-    → answers fresh (encoded xs) (replicate (length xs + 1) true) ≡ map readyAnswer xs ++ (value done ∷ [])
+    → answers (startedWith (encoded xs)) (encoded xs) (replicate (length xs + 1) true) ≡ map readyAnswer xs ++ (value done ∷ [])
 ready-answers xs f few = rw add-one (all xs f few .answered)
 
 -- after as many calls as there are steps the frequencies are what the sheet stores
 pub ready-stores : (xs : List Step) → AllFormed xs → length xs ≤ maxSteps
-    → after fresh (encoded xs) (replicate (length xs) true) ≡ readyAt (length xs) (storesOf xs (replicate 10 0))
+    → after (startedWith (encoded xs)) (encoded xs) (replicate (length xs) true)
+    ≡ readyAt (encoded xs) (length xs) (storesOf xs (replicate 10 0))
 ready-stores xs f few = all xs f few .left

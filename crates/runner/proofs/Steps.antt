@@ -32,7 +32,8 @@ store-fits s w k =
     let stores : T (storable kind.store (s .f0) (s .f1)) = rw k at (w .stores) in
     (omega (arith, leb→le (s .f0) 9 (left (leb (s .f0) 9) _ stores)), fill .1 .1 .0)
 
-pub turn-formed : (s : State) (sheet : List ℕ) (ready : Bool) → HandsFormed (turnOf s sheet ready .answer)
-turn-formed s sheet ready =
-    every-turn (λ (x : Outcome State). HandsFormed (x .answer)) s sheet ready (λ n. tt) tt tt (λ polls. tt) tt
-    (read-formed sheet (8 * s .position))
+pub turn-formed : (s : State) (len : ℕ) (kept sheet : List ℕ) (ready : Bool)
+    → HandsFormed (turnOf s len kept sheet ready .answer)
+turn-formed s len kept sheet ready =
+    every-turn (λ (x : Outcome State). HandsFormed (x .answer)) s len kept sheet ready (λ n. tt) tt tt
+    (λ polls. tt) tt (read-formed sheet (8 * s .position))

@@ -9,8 +9,11 @@ use Rattle.base.specs.Answer.{Answer, value, refusal}
 use Rattle.base.specs.Choice.{pick}
 use Rattle.step.specs.declared.Step.{Step}
 use Rattle.runner.specs.declared.State.{State}
+use Rattle.runner.specs.declared.Stepper.{Stepper}
 use Rattle.runner.specs.declared.Runner.{Runner}
-use Rattle.runner.specs.Run.{Progress, handed, passed, Outcome, isWait, polled, storedBy, advanceOf}
+use Rattle.text.specs.Ascii.{same}
+use Rattle.runner.specs.Run.{Progress, handed, passed, Outcome, isWait, polled, storedBy, withStepper, startedWith}
+use Rattle.runner.specs.Run.{advanceOf}
 
 -- what the calls answer
 abbrev pub answers : Runner → List ℕ → List Bool → List (Answer Progress)
@@ -24,6 +27,20 @@ abbrev pub after : Runner → List ℕ → List Bool → Runner
 after r sheet [] = r
 after r sheet (ready ∷ flags) = after (advanceOf r sheet ready .next) sheet flags
 
+-- a call hands in a sheet and a ready flag
+pub data Call : Type 0 where
+  call : List ℕ → Bool → Call
+
+abbrev pub afterCalls : Runner → List Call → Runner
+afterCalls r [] = r
+afterCalls r (call sheet ready ∷ calls) = afterCalls (advanceOf r sheet ready .next) calls
+
+-- the ready flags of the calls that hand in this sheet
+abbrev pub flagsOf : List ℕ → List Call → List Bool
+flagsOf sheet [] = []
+flagsOf sheet (call given ready ∷ calls) =
+    pick (same sheet given) (ready ∷ flagsOf sheet calls) (flagsOf sheet calls)
+
 -- what a ready call answers at a step: a wait is passed, any other step is handed out
 abbrev pub readyAnswer : Step → Answer Progress
 readyAnswer step = value (pick (isWait (step .kind)) passed (handed step))
@@ -33,12 +50,13 @@ abbrev pub storesOf : List Step → List ℕ → List ℕ
 storesOf [] freqs = freqs
 storesOf (step ∷ steps) freqs = storesOf steps (storedBy step freqs)
 
--- a runner at a position that heard ready each time
+-- at a position, having heard ready each time
 abbrev pub readyState : ℕ → State
 readyState position = record { position = position; «lock_polls» = 0; total = 0; stopped = false }
 
-abbrev pub readyAt : ℕ → List ℕ → Runner
-readyAt position freqs = record { state = readyState position; freqs = freqs }
+-- a runner that was started with the sheet, there
+abbrev pub readyAt : List ℕ → ℕ → List ℕ → Runner
+readyAt sheet position freqs = withStepper (startedWith sheet) (record { state = readyState position; freqs = freqs })
 
 -- where the answer is a refusal nothing has changed, or it is the lock timeout, 22, and what is left is timedOut
 abbrev pub Untouched : {A : Type 0} → A → A → Outcome A → Type 0
@@ -48,6 +66,9 @@ Untouched {A} same timedOut x = go (x .answer) (x .next)
     go (value p) y = Unit {0}
     go (refusal n) y = (y ≡ same) ⊎ ((n ≡ 22) × (y ≡ timedOut))
 
--- the runner that the timeout leaves
+-- what the timeout leaves
+abbrev pub stepperTimedOut : Stepper → Stepper
+stepperTimedOut b = record { state = polled (b .state) (b .state .«lock_polls») true; freqs = b .freqs }
+
 abbrev pub timedOut : Runner → Runner
-timedOut r = record { state = polled (r .state) (r .state .«lock_polls») true; freqs = r .freqs }
+timedOut r = withStepper r (stepperTimedOut (r .stepper))

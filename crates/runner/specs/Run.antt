@@ -1,12 +1,13 @@
--- What each call of the runner answers and leaves, for every runner, sheet and ready flag.
+-- What a start and each call of the runner answer and leave, for every runner, sheet and ready flag.
 -- Assumes nothing.
-use Prim.Native.Nat.{ℕ, _+_, _*_, _%_}
+use Prim.Native.Nat.{ℕ, _+_, _-_, _*_, _%_}
 use mathlib.Core.Bool.{Bool, true, false, _||_, not}
-use mathlib.Core.List.{List}
+use mathlib.Core.List.{List, _++_}
 use lib.Dec.{eqb, ltb, leb}
-use lib.ListN.{length, getD, set, replicate}
+use lib.ListN.{length, getD, set, take, replicate}
 use Rattle.base.specs.Answer.{Answer, value, refusal}
 use Rattle.base.specs.Choice.{pick}
+use Rattle.text.specs.Ascii.{same}
 use Rattle.step.specs.declared.Step.{Step}
 use Rattle.step.specs.Kinds as kind
 use Rattle.step.specs.Access.{readAt}
@@ -14,9 +15,13 @@ use Rattle.step.specs.Sheet.{maxSteps, maxBytes}
 use Rattle.step.specs.Steps.{WellFormed}
 use Rattle.runner.specs.declared.Reply.{Reply}
 use Rattle.runner.specs.declared.State.{State}
+use Rattle.runner.specs.declared.Stepper.{Stepper}
 use Rattle.runner.specs.declared.Runner.{Runner}
 use Rattle.runner.specs.declared.Turned.{Turned}
+use Rattle.runner.specs.declared.Moved.{Moved}
 use Rattle.runner.specs.declared.Stepped.{Stepped}
+use Rattle.runner.specs.declared.Opening.{Opening}
+use Rattle.runner.specs.declared.Opened.{Opened}
 
 -- what a call that is not refused answers
 pub data Progress : Type 0 where
@@ -44,20 +49,27 @@ replyIs (Reply.Refused n) = refusal n
 abbrev pub turnedIs : Turned → Outcome State
 turnedIs t = outcome (replyIs (t .reply)) (t .state)
 
+abbrev pub movedIs : Moved → Outcome Stepper
+movedIs m = outcome (replyIs (m .reply)) (m .stepper)
+
 abbrev pub steppedIs : Stepped → Outcome Runner
 steppedIs s = outcome (replyIs (s .reply)) (s .runner)
 
 -- all numbers 0, and not stopped
-abbrev pub fresh : Runner
-fresh =
+abbrev pub freshStepper : Stepper
+freshStepper =
     record {
       state = record { position = 0; «lock_polls» = 0; total = 0; stopped = false };
       freqs = replicate 10 0;
     }
 
+-- before any start the kept sheet is empty
+abbrev pub fresh : Runner
+fresh = record { kept = replicate maxBytes 0; len = 0; stepper = freshStepper }
+
 -- the frequency that a runner holds for a clock, by the clock's number
 abbrev pub freqOf : Runner → ℕ → ℕ
-freqOf r clock = getD (r .freqs) clock 0
+freqOf r clock = getD (r .stepper .freqs) clock 0
 
 -- the waits
 abbrev pub isWait : ℕ → Bool
@@ -100,22 +112,27 @@ unfoldable pub takeRead : State → Answer Step → Bool → Outcome State
 takeRead s (value step) ready = takeStep s step ready
 takeRead s (refusal n) ready = outcome (refusal n) s
 
--- refusal 21: position over the greatest number of steps, or lock polls over 999999
-unfoldable pub outside : State → Bool
-outside s = ltb maxSteps (s .position) || ltb 999999 (s .«lock_polls»)
+-- a length that no sheet has: over that of the most steps, or no multiple of 8
+abbrev pub badSize : ℕ → Bool
+badSize n = ltb maxBytes n || not (eqb (n % 8) 0)
 
--- refusal 20 for a sheet's length: over that of the most steps, or no multiple of 8
-unfoldable pub badLength : List ℕ → Bool
-badLength sheet = ltb maxBytes (length sheet) || not (eqb (length sheet % 8) 0)
+-- refusal 21: position over the greatest number of steps, lock polls over 999999, or a kept length that no sheet has
+unfoldable pub outside : State → ℕ → Bool
+outside s len = (ltb maxSteps (s .position) || ltb 999999 (s .«lock_polls»)) || badSize len
 
--- a call: 21, then 22, then 20 for the length, then done, then the step
-unfoldable pub turnOf : State → List ℕ → Bool → Outcome State
-turnOf s sheet ready =
-    pick (outside s) (outcome (refusal 21) s)
+-- past the last step done, else the step
+unfoldable pub onwardOf : State → List ℕ → Bool → Outcome State
+onwardOf s sheet ready =
+    pick (leb (length sheet) (8 * s .position)) (outcome (value done) s)
+    (takeRead s (readAt sheet (8 * s .position)) ready)
+
+-- a call: 21, then 22, then 27 for a sheet other than the kept one, then done or the step
+unfoldable pub turnOf : State → ℕ → List ℕ → List ℕ → Bool → Outcome State
+turnOf s len kept sheet ready =
+    pick (outside s len) (outcome (refusal 21) s)
     (pick (s .stopped) (outcome (refusal 22) s)
-    (pick (badLength sheet) (outcome (refusal 20) s)
-    (pick (leb (length sheet) (8 * s .position)) (outcome (value done) s)
-    (takeRead s (readAt sheet (8 * s .position)) ready))))
+    (pick (not (same (take len kept) sheet)) (outcome (refusal 27) s)
+    (onwardOf s sheet ready)))
 
 -- the ten frequencies after a step: a store sets its clock's
 unfoldable pub storedBy : Step → List ℕ → List ℕ
@@ -137,8 +154,50 @@ HandsFormed (value passed) = Unit {0}
 HandsFormed (value waiting) = Unit {0}
 HandsFormed (refusal n) = Unit {0}
 
-abbrev pub joined : Outcome State → List ℕ → Outcome Runner
+abbrev pub joined : Outcome State → List ℕ → Outcome Stepper
 joined t freqs = outcome (t .answer) (record { state = t .next; freqs = freqsAfter (t .answer) freqs })
 
+-- a call on the part that steps, under a kept sheet
+unfoldable pub stepperOf : Stepper → ℕ → List ℕ → List ℕ → Bool → Outcome Stepper
+stepperOf b len kept sheet ready = joined (turnOf (b .state) len kept sheet ready) (b .freqs)
+
+-- a call leaves the kept sheet as it is
+abbrev pub withStepper : Runner → Stepper → Runner
+withStepper r b = record { kept = r .kept; len = r .len; stepper = b }
+
+abbrev pub inRunner : Runner → Outcome Stepper → Outcome Runner
+inRunner r x = outcome (x .answer) (withStepper r (x .next))
+
 unfoldable pub advanceOf : Runner → List ℕ → Bool → Outcome Runner
-advanceOf r sheet ready = joined (turnOf (r .state) sheet ready) (r .freqs)
+advanceOf r sheet ready = inRunner r (stepperOf (r .stepper) (r .len) (r .kept) sheet ready)
+
+-- what a start that is not refused answers
+pub data Go : Type 0 where
+  started : Go
+
+-- what a start answers, and what it leaves
+pub record Begun (A : Type 0) : Type 0 where
+  pub answer : Answer Go
+  pub next : A
+
+abbrev pub begun : {A : Type 0} → Answer Go → A → Begun A
+begun a x = record { answer = a; next = x }
+
+abbrev pub openingIs : Opening → Answer Go
+openingIs Opening.Started = value started
+openingIs (Opening.Refused n) = refusal n
+
+abbrev pub openedIs : Opened → Begun Runner
+openedIs o = begun (openingIs (o .reply)) (o .runner)
+
+-- what is kept of a sheet: its bytes, and zeros past them
+abbrev pub padded : List ℕ → List ℕ
+padded sheet = sheet ++ replicate (maxBytes - length sheet) 0
+
+-- a runner that was started with the sheet
+abbrev pub startedWith : List ℕ → Runner
+startedWith sheet = record { kept = padded sheet; len = length sheet; stepper = freshStepper }
+
+-- a start: 20 for the length, and then nothing changes; else fresh with the sheet, whatever the runner was
+unfoldable pub startOf : Runner → List ℕ → Begun Runner
+startOf r sheet = pick (badSize (length sheet)) (begun (refusal 20) r) (begun (value started) (startedWith sheet))

@@ -1,16 +1,15 @@
-// The runner over a sheet: each call takes one step. `turn` does the work on the runner's state, `advance` on a whole
-// runner by value, and `poll` changes a runner in place.
-ghost use mathlib.Core.Path.{_≡_};
-ghost use Prim.Native.Nat.{_<_, _≤_};
-ghost use Rattle.base.specs.Answer.{refusal};
-ghost use Rattle.step.specs.Sheet.{maxSteps};
-ghost use Rattle.runner.specs.Run.{outcome, replyIs, turnedIs, steppedIs, fresh, freqOf, isWait, oneMore};
-ghost use Rattle.runner.specs.Run.{unready, takeStep, turnOf, HandsFormed, freqsAfter, advanceOf};
+// The runner over its kept sheet: each call takes one step. `turn` does the work on the state, `move_stepper` on the
+// part that steps under a kept sheet, `advance` on a whole runner by value, and `poll` changes a runner in place.
+// `restarted` and `start` take a sheet.
+mod kept;
+mod stepping;
+
 use step::MAX_BYTES;
 use step::MAX_STEPS;
 use step::Step;
-use step::Unpacked;
-use step::kind;
+ghost use mathlib.Core.Path.{_≡_};
+ghost use Rattle.runner.specs.Run.{outcome, replyIs, turnedIs, movedIs, steppedIs, freshStepper, fresh, freqOf};
+ghost use Rattle.runner.specs.Run.{turnOf, stepperOf, advanceOf, begun, openingIs, openedIs, startOf};
 
 // What a runner holds besides the frequencies.
 pub struct State {
@@ -20,9 +19,17 @@ pub struct State {
     pub stopped: bool,
 }
 
-pub struct Runner {
+// The part that steps.
+pub struct Stepper {
     pub state: State,
     pub freqs: [u32; 10],
+}
+
+// A stepper and the sheet that it was started with: `len` bytes, zeros past them.
+pub struct Runner {
+    pub kept: [u8; MAX_BYTES],
+    pub len: usize,
+    pub stepper: Stepper,
 }
 
 pub enum Reply {
@@ -38,14 +45,30 @@ pub struct Turned {
     pub state: State,
 }
 
+pub struct Moved {
+    pub reply: Reply,
+    pub stepper: Stepper,
+}
+
 pub struct Stepped {
     pub reply: Reply,
     pub runner: Runner,
 }
 
-impl Runner {
+// What a start answers.
+pub enum Opening {
+    Started,
+    Refused(u8),
+}
+
+pub struct Opened {
+    pub reply: Opening,
+    pub runner: Runner,
+}
+
+impl Stepper {
     pub fn new() -> Self
-        ensures { λ r. ⌜ r ≡ fresh ⌝ }
+        ensures { λ r. ⌜ r ≡ freshStepper ⌝ }
     {
         Self {
             state: State {
@@ -59,213 +82,196 @@ impl Runner {
     }
 }
 
-fn is_wait(of: u8) -> bool
-    ensures { λ r. ⌜ r ≡ isWait of ⌝ }
-{
-    (of == kind::WAIT_RELEASED)
-        | (of == kind::WAIT_SYS)
-        | (of == kind::WAIT_REF)
-        | (of == kind::WAIT_STABLE)
-        | (of == kind::WAIT_LOCK)
-}
-
-// One more, up to the top of 32 bits.
-fn one_more(total: u32) -> u32
-    ensures { λ r. ⌜ r ≡ oneMore total ⌝ }
-{
-    if total < 4294967295 { total + 1 } else { total }
-}
-
-fn refused(unmoved: State, number: u8) -> Turned
-    ensures { λ t. ⌜ turnedIs t ≡ outcome (refusal number) unmoved ⌝ }
-{
-    Turned {
-        reply: Reply::Refused(number),
-        state: unmoved,
-    }
-}
-
-fn wait_unready(s: State, wait: u8) -> Turned
-    requires { ⌜ s .«lock_polls» < 1000000 ⌝ }
-    ensures { λ t. ⌜ turnedIs t ≡ unready s wait ⌝ }
-{
-    let mut next = s;
-    next.total = one_more(s.total);
-    if wait != kind::WAIT_LOCK {
-        return Turned {
-            reply: Reply::Waiting,
-            state: next,
-        };
-    }
-    if s.lock_polls < 999999 {
-        next.lock_polls = s.lock_polls + 1;
-        return Turned {
-            reply: Reply::Waiting,
-            state: next,
-        };
-    }
-    next.stopped = true;
-    Turned {
-        reply: Reply::Refused(22),
-        state: next,
-    }
-}
-
-fn take_step(s: State, step: Step, ready: bool) -> Turned
-    requires { ⌜ (s .position ≤ maxSteps) × (s .«lock_polls» < 1000000) ⌝ }
-    ensures { λ t. ⌜ turnedIs t ≡ takeStep s step ready ⌝ }
-{
-    let of = step.kind;
-    let mut next = s;
-    next.position = s.position + 1;
-    if is_wait(of) {
-        if ready {
-            next.lock_polls = 0;
-            return Turned {
-                reply: Reply::Passed,
-                state: next,
-            };
+impl Runner {
+    // Before any start.
+    pub fn new() -> Self
+        ensures { λ r. ⌜ r ≡ fresh ⌝ }
+    {
+        let stepper = Stepper::new();
+        Self {
+            kept: [0; MAX_BYTES],
+            len: 0,
+            stepper,
         }
-        return wait_unready(s, of);
-    }
-    Turned {
-        reply: Reply::Handed(step),
-        state: next,
     }
 }
 
-// One call on the state. A store that is handed out is left to the caller.
-pub fn turn(s: State, sheet: &[u8], ready: bool) -> Turned
-    ensures { λ t. ⌜ turnedIs t ≡ turnOf s (now (sheet .entry)) ready ⌝ }
+// One call on the state, under the first `len` bytes of what is kept.
+pub fn turn(s: State, len: usize, kept: &[u8; MAX_BYTES], sheet: &[u8], ready: bool) -> Turned
+    ensures { λ t. ⌜ turnedIs t ≡ turnOf s len (now (kept .entry)) (now (sheet .entry)) ready ⌝ }
 {
-    let position = s.position;
-    if (position > MAX_STEPS) | (s.lock_polls > 999999) {
-        return refused(s, 21);
+    if ((s.position > MAX_STEPS) | (s.lock_polls > 999999)) | kept::bad_size(len) {
+        return stepping::refused(s, 21);
     }
     if s.stopped {
-        return refused(s, 22);
+        return stepping::refused(s, 22);
     }
-    let n = sheet.len();
-    if (n > MAX_BYTES) | (n % 8 != 0) {
-        return refused(s, 20);
+    let whole: &[u8] = kept;
+    if !kept::same_bytes(&whole[..len], sheet) {
+        return stepping::refused(s, 27);
     }
-    let at = 8 * position;
-    if n <= at {
-        return Turned {
-            reply: Reply::Done,
-            state: s,
-        };
-    }
-    match step::read(sheet, at) {
-        Unpacked::Refused(number) => refused(s, number),
-        Unpacked::Step(step) => take_step(s, step, ready),
+    stepping::onward(s, sheet, ready)
+}
+
+// One call on the part that steps, under a kept sheet.
+pub fn move_stepper(
+    b: Stepper,
+    len: usize,
+    kept: &[u8; MAX_BYTES],
+    sheet: &[u8],
+    ready: bool,
+) -> Moved
+    ensures { λ m. ⌜ movedIs m ≡ stepperOf b len (now (kept .entry)) (now (sheet .entry)) ready ⌝ }
+{
+    // Field by field: a copy of the whole carries the bytes between its fields through every branch.
+    let before = State {
+        position: b.state.position,
+        lock_polls: b.state.lock_polls,
+        total: b.state.total,
+        stopped: b.state.stopped,
+    };
+    let t = turn(before, len, kept, sheet, ready);
+    let reply = t.reply;
+    let state = t.state;
+    let old = b.freqs;
+    let freqs = stepping::freqs_after(reply, old);
+    Moved {
+        reply,
+        stepper: Stepper { state, freqs },
     }
 }
 
-// The frequencies after an answer: a store that is handed out sets its clock's.
-fn freqs_after(reply: Reply, freqs: [u32; 10]) -> [u32; 10]
-    requires { ⌜ HandsFormed (replyIs reply) ⌝ }
-    ensures { λ x. ⌜ x ≡ freqsAfter (replyIs reply) freqs ⌝ }
+// One call on a runner, answering what steps alone: the kept sheet stays where it is.
+fn next_stepper(r: Runner, sheet: &[u8], ready: bool) -> Moved
+    ensures { λ m. ⌜ movedIs m ≡ stepperOf (r .stepper) (r .len) (r .kept) (now (sheet .entry)) ready ⌝ }
 {
-    let Reply::Handed(step) = reply else {
-        return freqs;
-    };
-    if step.kind != kind::STORE {
-        return freqs;
-    }
-    let clock = step.f0 as usize;
-    let mut next = freqs;
-    next[clock] = step.f1 as u32;
-    next
+    let len = r.len;
+    let old = r.stepper;
+    move_stepper(old, len, &r.kept, sheet, ready)
 }
 
 // One call, by value.
 pub fn advance(r: Runner, sheet: &[u8], ready: bool) -> Stepped
     ensures { λ s. ⌜ steppedIs s ≡ advanceOf r (now (sheet .entry)) ready ⌝ }
 {
-    // Field by field: a copy of the whole carries the bytes between its fields through every branch.
-    let before = State {
-        position: r.state.position,
-        lock_polls: r.state.lock_polls,
-        total: r.state.total,
-        stopped: r.state.stopped,
-    };
-    let t = turn(before, sheet, ready);
-    let reply = t.reply;
-    let state = t.state;
-    let old = r.freqs;
-    let freqs = freqs_after(reply, old);
+    let m = next_stepper(r, sheet, ready);
+    let reply = m.reply;
+    let stepper = m.stepper;
+    let kept = r.kept;
+    let len = r.len;
     Stepped {
         reply,
-        runner: Runner { state, freqs },
+        runner: Runner { kept, len, stepper },
     }
 }
 
-// The same in place: answers, and leaves the runner after the call.
+// The same in place: answers, and leaves the runner after the call. Only what steps is stored.
 pub fn poll(r: &mut Runner, sheet: &[u8], ready: bool) -> Reply
     ensures { λ a. ⌜ outcome (replyIs a) (now (r .exit)) ≡ advanceOf (now (r .entry)) (now (sheet .entry)) ready ⌝ }
 {
-    let s = advance(*r, sheet, ready);
-    *r = s.runner;
-    s.reply
+    let m = next_stepper(*r, sheet, ready);
+    r.stepper = m.stepper;
+    m.reply
+}
+
+// A start, by value: takes the sheet and makes the runner fresh, or refuses with 20.
+pub fn restarted(r: Runner, sheet: &[u8]) -> Opened
+    ensures { λ o. ⌜ openedIs o ≡ startOf r (now (sheet .entry)) ⌝ }
+{
+    let len = sheet.len();
+    if kept::bad_size(len) {
+        return Opened {
+            reply: Opening::Refused(20),
+            runner: r,
+        };
+    }
+    let kept = kept::keep(sheet);
+    let fresh = Stepper::new();
+    Opened {
+        reply: Opening::Started,
+        runner: Runner {
+            kept,
+            len,
+            stepper: fresh,
+        },
+    }
+}
+
+// The same in place.
+pub fn start(r: &mut Runner, sheet: &[u8]) -> Opening
+    ensures { λ a. ⌜ begun (openingIs a) (now (r .exit)) ≡ startOf (now (r .entry)) (now (sheet .entry)) ⌝ }
+{
+    let o = restarted(*r, sheet);
+    *r = o.runner;
+    o.reply
 }
 
 pub fn rosc_freq(r: Runner) -> u32
     ensures { λ hz. ⌜ hz ≡ freqOf r 0 ⌝ }
 {
-    r.freqs[0]
+    let s = r.stepper;
+    s.freqs[0]
 }
 
 pub fn xosc_freq(r: Runner) -> u32
     ensures { λ hz. ⌜ hz ≡ freqOf r 1 ⌝ }
 {
-    r.freqs[1]
+    let s = r.stepper;
+    s.freqs[1]
 }
 
 pub fn pll_sys_freq(r: Runner) -> u32
     ensures { λ hz. ⌜ hz ≡ freqOf r 2 ⌝ }
 {
-    r.freqs[2]
+    let s = r.stepper;
+    s.freqs[2]
 }
 
 pub fn pll_usb_freq(r: Runner) -> u32
     ensures { λ hz. ⌜ hz ≡ freqOf r 3 ⌝ }
 {
-    r.freqs[3]
+    let s = r.stepper;
+    s.freqs[3]
 }
 
 pub fn clk_ref_freq(r: Runner) -> u32
     ensures { λ hz. ⌜ hz ≡ freqOf r 4 ⌝ }
 {
-    r.freqs[4]
+    let s = r.stepper;
+    s.freqs[4]
 }
 
 pub fn clk_sys_freq(r: Runner) -> u32
     ensures { λ hz. ⌜ hz ≡ freqOf r 5 ⌝ }
 {
-    r.freqs[5]
+    let s = r.stepper;
+    s.freqs[5]
 }
 
 pub fn clk_peri_freq(r: Runner) -> u32
     ensures { λ hz. ⌜ hz ≡ freqOf r 6 ⌝ }
 {
-    r.freqs[6]
+    let s = r.stepper;
+    s.freqs[6]
 }
 
 pub fn clk_usb_freq(r: Runner) -> u32
     ensures { λ hz. ⌜ hz ≡ freqOf r 7 ⌝ }
 {
-    r.freqs[7]
+    let s = r.stepper;
+    s.freqs[7]
 }
 
 pub fn clk_adc_freq(r: Runner) -> u32
     ensures { λ hz. ⌜ hz ≡ freqOf r 8 ⌝ }
 {
-    r.freqs[8]
+    let s = r.stepper;
+    s.freqs[8]
 }
 
 pub fn clk_rtc_freq(r: Runner) -> u32
     ensures { λ hz. ⌜ hz ≡ freqOf r 9 ⌝ }
 {
-    r.freqs[9]
+    let s = r.stepper;
+    s.freqs[9]
 }

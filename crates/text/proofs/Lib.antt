@@ -2,3 +2,4 @@ pub mod Decimals
 pub mod Hexes
 pub mod Lines
 pub mod Outputs
+pub mod Same

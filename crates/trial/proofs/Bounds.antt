@@ -18,7 +18,7 @@ use Rattle.pll.proofs.Inputs.{search-finds, found-valid}
 use Rattle.pll.proofs.Valid.{valid}
 use Rattle.runner.specs.declared.State.{State}
 use Rattle.runner.specs.declared.Runner.{Runner}
-use Rattle.runner.specs.Run.{Outcome, oneMore, turnOf, advanceOf}
+use Rattle.runner.specs.Run.{Outcome, oneMore, turnOf, stepperOf, advanceOf}
 use Rattle.runner.proofs.Calls.{both, every-turn}
 use Rattle.up.specs.Wait.{runnerAfter}
 use Rattle.trial.specs.Draws.{drawn}
@@ -54,30 +54,31 @@ one-more : (total : ℕ) → oneMore total ≤ total + 1
 unfolding oneMore
 one-more total = both (λ (t : ℕ). t ≤ total + 1) (ltb total 4294967295) _ _ (omega arith) (omega arith)
 
-turn-on : (s : State) (sheet : List ℕ) (ready : Bool) → OneOn s (turnOf s sheet ready .next)
-turn-on s sheet ready =
+turn-on : (s : State) (len : ℕ) (kept sheet : List ℕ) (ready : Bool) → OneOn s (turnOf s len kept sheet ready .next)
+turn-on s len kept sheet ready =
     let stays : OneOn s s = record { position = omega arith; total = omega arith } in
     let polled = one-more (s .total) in
-    every-turn (λ (x : Outcome State). OneOn s (x .next)) s sheet ready (λ n. stays) stays
+    every-turn (λ (x : Outcome State). OneOn s (x .next)) s len kept sheet ready (λ n. stays) stays
     (record { position = omega arith; total = omega arith })
     (λ polls. record { position = omega arith; total = polled })
     (record { position = omega arith; total = polled })
     (λ step e. record { position = omega arith; total = omega arith })
 
 module _ (sheet : List ℕ) (ready : ℕ → Bool) where
-  pub calls-most : (i : ℕ) → let s = runnerAfter sheet ready i .state in (s .position ≤ i) × (s .total ≤ i)
-  unfolding runnerAfter advanceOf
+  pub calls-most : (i : ℕ) → let s = runnerAfter sheet ready i .stepper .state in (s .position ≤ i) × (s .total ≤ i)
+  unfolding runnerAfter advanceOf stepperOf
   calls-most zero = (omega arith, omega arith)
   calls-most (suc i) =
-      let on = turn-on (runnerAfter sheet ready i .state) sheet (ready i) in
+      let r = runnerAfter sheet ready i in
+      let on = turn-on (r .stepper .state) (r .len) (r .kept) sheet (ready i) in
       let before = calls-most i in
       (omega (arith, on .position, before .0), omega (arith, on .total, before .1))
 
-runner-most : (r : Runner) → r .state .position ≤ mostCount → r .state .total ≤ mostCount → length (runnerLine r) ≤ 12
+runner-most : (r : Runner) → r .stepper .state .position ≤ mostCount → r .stepper .state .total ≤ mostCount → length (runnerLine r) ≤ 12
 unfolding runnerLine
 runner-most r p t =
-    let position = length-decimal 4 (r .state .position) (omega arith) in
-    let total = length-decimal 4 (r .state .total) (omega arith) in
+    let position = length-decimal 4 (r .stepper .state .position) (omega arith) in
+    let total = length-decimal 4 (r .stepper .state .total) (omega arith) in
     simp length-append (omega (arith, position .1, total .1))
 
 -- ---- an output

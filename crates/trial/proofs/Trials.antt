@@ -1,8 +1,8 @@
 -- Both trials, one draw on.
 -- Assumes nothing.
-use mathlib.Core.Bool.{Bool}
+use mathlib.Core.Bool.{Bool, false}
 use mathlib.Core.List.{List, _++_}
-use mathlib.Core.Path.{_≡_, refl, ap, ap₂, _∙_}
+use mathlib.Core.Path.{_≡_, refl, sym, ap, ap₂, _∙_}
 use Prim.Native.Nat.{ℕ, suc, _+_}
 use native.Mathlib.Nat.{zero-add}
 use native.Mathlib.Numerals.{add-one}
@@ -10,7 +10,9 @@ use lib.ListN.{length}
 use Rattle.text.specs.Words.{upTo, indexFrom}
 use Rattle.runner.specs.declared.Runner.{Runner}
 use Rattle.runner.specs.declared.Stepped.{Stepped}
-use Rattle.runner.specs.Run.{Outcome, steppedIs, advanceOf}
+use Rattle.runner.specs.declared.Opened.{Opened}
+use Rattle.runner.specs.Run.{Outcome, steppedIs, advanceOf, badSize, Begun, openedIs, startedWith, startOf}
+use Rattle.runner.proofs.Starts.{start-kept}
 use Rattle.up.specs.Wait.{runnerAfter}
 use Rattle.trial.specs.Draws.{drawOf, drawn, topBit}
 use Rattle.trial.specs.Load.{targetLine, targetLines, flags}
@@ -36,6 +38,11 @@ module _ (seed i : ℕ) where
       rw add-one
       (ap (λ (x : Outcome Runner). x .next) call
       ∙ ap₂ (λ (q : Runner) (b : Bool). advanceOf q sheet b .next) before flag)
+
+-- a start with the sheet comes before the first call
+pub begins : (sheet : List ℕ) (r : Runner) (o : Opened) → badSize (length sheet) ≡ false → openedIs o ≡ startOf r sheet
+    → o .runner ≡ startedWith sheet
+begins sheet r o good e = ap (λ (x : Begun Runner). x .next) (e ∙ sym (start-kept r sheet good))
 
 -- where the count stands
 pub space-at : (s : List ℕ) → indexFrom s 0 32 ≡ length (upTo 32 s)

@@ -50,7 +50,7 @@ trialRunner seed count = runnerAfter trialSheet (flags seed) count
 
 -- position and total of unready polls
 unfoldable pub runnerLine : Runner → List ℕ
-runnerLine r = line (rowText (r .state .position) (r .state .total ∷ []))
+runnerLine r = line (rowText (r .stepper .state .position) (r .stepper .state .total ∷ []))
 
 -- each trial draws afresh from the seed
 unfoldable pub trials : ℕ → ℕ → List ℕ

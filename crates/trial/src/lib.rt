@@ -6,12 +6,14 @@ use config::ClockConfig;
 use pll::Found;
 use runner::Runner;
 use step::MAX_BYTES;
+ghost use mathlib.Core.Bool.{false};
 ghost use mathlib.Core.Path.{_≡_};
 ghost use Prim.Native.Nat.{_*_, _%_, _^_, _≤_};
 ghost use lib.ListN.{length, take};
 ghost use Rattle.base.specs.Answer.{value, numberIs};
 ghost use Rattle.base.specs.Placed.{Placed};
 ghost use Rattle.text.specs.Output.{Whole, Printed};
+ghost use Rattle.runner.specs.Run.{badSize};
 ghost use Rattle.up.specs.Wait.{runnerAfter};
 ghost use Rattle.trial.specs.Draws.{drawOf, topBit};
 ghost use Rattle.trial.specs.Load.{refusedLine, targetLine, targetLines, flags, trialRunner, runnerLine};
@@ -78,11 +80,13 @@ fn put_targets(out: &mut [u8], seed: u32, count: u32) -> usize
     at
 }
 
-// A fresh runner over a sheet: each call hears the top bit of a draw.
+// A runner that is started with a sheet: each call hears the top bit of a draw.
 fn run(sheet: &[u8], seed: u32, count: u32) -> Runner
+    requires { ⌜ badSize (length (now sheet)) ≡ false ⌝ }
     ensures { λ r. ⌜ r ≡ runnerAfter (now (sheet .entry)) (flags seed) count ⌝ }
 {
-    let mut runner = Runner::new();
+    let opened = runner::restarted(Runner::new(), sheet);
+    let mut runner = opened.runner;
     let mut x = seed;
     let mut i = 0;
     while i < count {
@@ -112,8 +116,8 @@ fn trial_runner(seed: u32, count: u32) -> Runner
 fn put_runner(out: &mut [u8], at: usize, r: Runner) -> usize
     ensures { λ e. ⌜ Placed (now (out .entry)) at (runnerLine r) e (now (out .exit)) ⌝ }
 {
-    let total = [r.state.total as u64];
-    let at = replies::put_row(out, at, r.state.position as u64, &total);
+    let total = [r.stepper.state.total as u64];
+    let at = replies::put_row(out, at, r.stepper.state.position as u64, &total);
     text::put_byte(out, at, b'\n')
 }
 

@@ -1,4 +1,4 @@
--- Will it come up? The sheet of an accepted plan, at its reading, under a fresh runner.
+-- Will it come up? The sheet of an accepted plan, at its reading, under a runner that was started with it.
 -- Assumes nothing.
 use Prim.Native.Nat.{ℕ, _+_, _*_, _≤_, _<_}
 use native.Mathlib.Omega.{arith}

@@ -1,6 +1,7 @@
--- The sheet of an accepted plan, at any reading, runs to its end and leaves its stored values.
+-- A plan's sheet starts any runner; that of an accepted plan, at any reading, runs to its end and leaves its stored values.
 -- Assumes nothing.
-use mathlib.Core.Path.{_∙_, ap}
+use mathlib.Core.Bool.{false}
+use mathlib.Core.Path.{_≡_, sym, _∙_, ap}
 use Prim.Native.Nat.{ℕ}
 use lib.ListN.{length}
 use Rattle.config.specs.declared.ClockConfig.{ClockConfig}
@@ -10,10 +11,25 @@ use Rattle.refusals.specs.Refusals.{Accepted}
 use Rattle.sheet.specs.Writer.{sheetBytes}
 use Rattle.sheet.proofs.Counts.{steps-few}
 use Rattle.sheet.proofs.Sheets.{steps-formed}
+use Rattle.runner.specs.Run.{badSize}
 use Rattle.runner.specs.Calls.{readyAt}
+use Rattle.step.specs.Sheet.{encoded}
+use Rattle.step.proofs.Sheets.{length-encoded}
+use Rattle.runner.proofs.Starts.{start-kept}
+use Rattle.runner.proofs.Going.{good-size}
 use Rattle.runner.proofs.Ready.{ready-answers, ready-stores}
-use Rattle.up.specs.Up.{planSteps, AnswersAll, LeavesStored}
+use Rattle.up.specs.Up.{planSteps, Starts, AnswersAll, LeavesStored}
 use Rattle.up.proofs.Stored.{steps-store}
+
+module _ (p : ClockConfig) (reading : ℕ) where
+  pub sheet-size : badSize (length (sheetBytes p reading)) ≡ false
+  unfolding sheetBytes
+  sheet-size =
+      let steps = planSteps p reading in
+      good-size (encoded steps) (length steps) (steps-few reading (settingsOf p reading)) (length-encoded steps)
+
+  pub sheet-starts : Starts p reading
+  sheet-starts r = sym (start-kept r (sheetBytes p reading) sheet-size)
 
 module _ (p : ClockConfig) (reading : ℕ) (ok : Accepted p reading) (t : Typed (settingsOf p reading)) where
   pub sheet-answers : AnswersAll p reading
@@ -27,4 +43,4 @@ module _ (p : ClockConfig) (reading : ℕ) (ok : Accepted p reading) (t : Typed 
   sheet-run =
       let s = settingsOf p reading in
       ready-stores (planSteps p reading) (steps-formed s reading ok t) (steps-few reading s)
-      ∙ ap (readyAt (length (planSteps p reading))) (steps-store reading s)
+      ∙ ap (readyAt (sheetBytes p reading) (length (planSteps p reading))) (steps-store reading s)

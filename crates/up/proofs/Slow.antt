@@ -35,20 +35,20 @@ module _ (k : ℕ) (sheet : List ℕ) where
       ap₂ (λ (a : ℕ) (r : Runner). a + unreadyPoll p r sheet (slowReady k (slowAfter k sheet i)))
       (same-polls p i) (same-runner i)
 
-  slow-flag : (i : ℕ) → slowest k sheet i ≡ leb k (heard sheet (slowest k sheet) (at i .state .position) i)
+  slow-flag : (i : ℕ) → slowest k sheet i ≡ leb k (heard sheet (slowest k sheet) (at i .stepper .state .position) i)
   unfolding slowest
   slow-flag i =
       sym
-      (ap (leb k) (same-polls (at i .state .position) i)
-      ∙ ap (λ (r : Runner). leb k (slowAfter k sheet i .polls (r .state .position))) (same-runner i))
+      (ap (leb k) (same-polls (at i .stepper .state .position) i)
+      ∙ ap (λ (r : Runner). leb k (slowAfter k sheet i .polls (r .stepper .state .position))) (same-runner i))
 
   -- no poll is unready where k were
   full : (p : ℕ) (r : Runner) (ready : Bool) (h : ℕ) → h ≤ k
-      → (r .state .position ≡ p → ready ≡ leb k h) → h + unreadyPoll p r sheet ready ≤ k
+      → (r .stepper .state .position ≡ p → ready ≡ leb k h) → h + unreadyPoll p r sheet ready ≤ k
   unfolding unreadyPoll
-  full p r ready h few flag = go (eqb (r .state .position) p) refl (holdsWait (readAt sheet (8 * p))) (leb k h) refl
+  full p r ready h few flag = go (eqb (r .stepper .state .position) p) refl (holdsWait (readAt sheet (8 * p))) (leb k h) refl
     where
-      go : (b : Bool) → eqb (r .state .position) p ≡ b → (w l : Bool) → leb k h ≡ l
+      go : (b : Bool) → eqb (r .stepper .state .position) p ≡ b → (w l : Bool) → leb k h ≡ l
           → h + bit (b && (w && not ready)) ≤ k
       go false e w l f = omega arith
       go true e false l f = omega arith

@@ -1,4 +1,4 @@
--- Calls of a fresh runner over a sheet, one for each ready flag of a stream.
+-- Calls of a runner over the sheet that it was started with, one for each ready flag of a stream.
 -- Assumes nothing.
 use Prim.Native.Nat.{ℕ, zero, suc, _+_, _*_, _≤_, _<_}
 use native.Mathlib.Omega.{arith}
@@ -35,7 +35,7 @@ module _ (sheet : List ℕ) (ready : ℕ → Bool) where
 
   -- from done on
   pub stays-done : (n : ℕ) → n ≤ maxSteps → length sheet ≡ 8 * n → (i total : ℕ) (freqs : List ℕ)
-      → at i ≡ standing n 0 total freqs → (d : ℕ) → at (d + i) ≡ standing n 0 total freqs
+      → at i ≡ standing sheet n 0 total freqs → (d : ℕ) → at (d + i) ≡ standing sheet n 0 total freqs
   stays-done n few size i total freqs e zero = rw zero-add e
   stays-done n few size i total freqs e (suc d) =
       let s : suc d + i ≡ suc (d + i) = omega arith in
@@ -43,12 +43,12 @@ module _ (sheet : List ℕ) (ready : ℕ → Bool) where
       rw s (next (d + i) _ _ before (done-at sheet n few size total freqs (ready (d + i))))
 
   -- polls at other positions
-  pub elsewhere : (i p q : ℕ) → at i .state .position ≡ p → p < q → heard sheet ready q i ≡ 0
+  pub elsewhere : (i p q : ℕ) → at i .stepper .state .position ≡ p → p < q → heard sheet ready q i ≡ 0
       → heard sheet ready q (suc i) ≡ 0
   unfolding heard unreadyPoll
   elsewhere i p q e h z = simp (z, e, ne-eqb p q (λ e. omega arith))
 
-  pub polled-here : (i p c : ℕ) (step : Step) → at i .state .position ≡ p → readAt sheet (8 * p) ≡ value step
+  pub polled-here : (i p c : ℕ) (step : Step) → at i .stepper .state .position ≡ p → readAt sheet (8 * p) ≡ value step
       → isWait (step .kind) ≡ true → ready i ≡ false → heard sheet ready p i ≡ c
       → heard sheet ready p (suc i) ≡ c + 1
   unfolding heard unreadyPoll

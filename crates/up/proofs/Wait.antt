@@ -39,7 +39,7 @@ module _ (sheet : List ℕ) (n : ℕ) (few : n ≤ maxSteps) (size : length shee
 
   -- call i finds the runner at p, where c polls were unready, and nothing heard further on
   record At (i p c polls total : ℕ) (freqs : List ℕ) : Type 0 where
-    is : now i ≡ standing p polls total freqs
+    is : now i ≡ standing sheet p polls total freqs
     here : heard sheet ready p i ≡ c
     ahead : (q : ℕ) → p < q → heard sheet ready q i ≡ 0
 
@@ -51,14 +51,14 @@ module _ (sheet : List ℕ) (n : ℕ) (few : n ≤ maxSteps) (size : length shee
     within-most : calls ≤ most
     all : HearsAll k sheet ready → most ≤ calls
     before : (i : ℕ) → a ≤ i → i < calls → OnTheWay (answerTo sheet ready i)
-    left : now calls ≡ standing n 0 total freqs
+    left : now calls ≡ standing sheet n 0 total freqs
 
-  position : (i p c polls total : ℕ) (freqs : List ℕ) → At i p c polls total freqs → now i .state .position ≡ p
-  position i p c polls total freqs a = ap (λ (r : Runner). r .state .position) (a .is)
+  position : (i p c polls total : ℕ) (freqs : List ℕ) → At i p c polls total freqs → now i .stepper .state .position ≡ p
+  position i p c polls total freqs a = ap (λ (r : Runner). r .stepper .state .position) (a .is)
 
   -- a call that moves on
   moved : (i p c polls total m : ℕ) (freqs held : List ℕ) → At i p c polls total freqs
-      → now (suc i) ≡ standing (p + 1) 0 m held → At (suc i) (p + 1) 0 0 m held
+      → now (suc i) ≡ standing sheet (p + 1) 0 m held → At (suc i) (p + 1) 0 0 m held
   moved i p c polls total m freqs held a e =
       let past : (q : ℕ) → p < q → heard sheet ready q (suc i) ≡ 0 =
       λ q h. elsewhere sheet ready i p q (position i p c polls total freqs a) h (a .ahead q h) in
@@ -215,7 +215,7 @@ comes xs f few k small ready hears =
     let freqs = storesOf xs (replicate 10 0) in
     let calls = g .calls in
     let sheet = encoded xs in
-    let end : (i : ℕ) → calls ≤ i → runnerAfter sheet ready i ≡ standing (length xs) 0 total freqs =
+    let end : (i : ℕ) → calls ≤ i → runnerAfter sheet ready i ≡ standing sheet (length xs) 0 total freqs =
     λ i h. let e : (i - calls) + calls ≡ i = omega arith in
     rw e at (stays-done sheet ready (length xs) few (length-encoded xs) calls total freqs (g .left) (i - calls)) in
     record {
@@ -228,7 +228,7 @@ comes xs f few k small ready hears =
             ends = λ i h. answered sheet ready i _ _ (end i h)
                 (done-at sheet (length xs) few (length-encoded xs) total freqs (ready i));
             stays = λ i h. end i h ∙ sym (g .left);
-            holds = ap (λ (r : Runner). r .freqs) (g .left);
+            holds = ap (λ (r : Runner). r .stepper .freqs) (g .left);
           };
     }
 

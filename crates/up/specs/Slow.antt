@@ -6,13 +6,13 @@ use mathlib.Core.Path.{_≡_}
 use mathlib.Core.List.{List}
 use lib.Dec.{leb}
 use Rattle.runner.specs.declared.Runner.{Runner}
-use Rattle.runner.specs.Run.{fresh, advanceOf}
+use Rattle.runner.specs.Run.{startedWith, advanceOf}
 use Rattle.up.specs.Wait.{runnerAfter, unreadyPoll, heard}
 
 -- at each wait no fewer than k unready polls: unready as long as k are not heard
 abbrev pub HearsAll : ℕ → List ℕ → (ℕ → Bool) → Type 0
 HearsAll k sheet ready =
-    (i : ℕ) → heard sheet ready (runnerAfter sheet ready i .state .position) i < k → ready i ≡ false
+    (i : ℕ) → heard sheet ready (runnerAfter sheet ready i .stepper .state .position) i < k → ready i ≡ false
 
 -- a runner, and the unready polls at each position that it has heard
 pub record Slow : Type 0 where
@@ -21,10 +21,10 @@ pub record Slow : Type 0 where
 
 -- ready once k polls at its position were unready
 abbrev pub slowReady : ℕ → Slow → Bool
-slowReady k s = leb k (s .polls (s .runner .state .position))
+slowReady k s = leb k (s .polls (s .runner .stepper .state .position))
 
 unfoldable pub slowAfter : ℕ → List ℕ → ℕ → Slow
-slowAfter k sheet zero = record { runner = fresh; polls = λ p. 0 }
+slowAfter k sheet zero = record { runner = startedWith sheet; polls = λ p. 0 }
 slowAfter k sheet (suc i) =
     let s = slowAfter k sheet i in
     record {

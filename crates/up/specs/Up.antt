@@ -1,4 +1,4 @@
--- Inside: a plan's sheet under a fresh runner that hears ready at each call.
+-- Inside: a plan's sheet under a runner that was started with it and hears ready at each call.
 -- Assumes nothing.
 use mathlib.Core.Bool.{true}
 use mathlib.Core.List.{List, [], _∷_, _++_, map}
@@ -12,21 +12,27 @@ use Rattle.settings.specs.Settings.{settingsOf}
 use Rattle.settings.specs.Frequencies.{tenOf}
 use Rattle.sheet.specs.Steps.{stepsOf}
 use Rattle.sheet.specs.Writer.{sheetBytes}
-use Rattle.runner.specs.Run.{done, fresh}
+use Rattle.runner.specs.declared.Runner.{Runner}
+use Rattle.runner.specs.Run.{done, begun, started, startedWith, startOf}
 use Rattle.runner.specs.Calls.{answers, after, readyAnswer, readyAt}
 
 -- the steps of a plan's sheet
 abbrev pub planSteps : ClockConfig → ℕ → List Step
 planSteps p reading = stepsOf reading (settingsOf p reading)
 
+-- whatever the runner was, it starts with the sheet
+abbrev pub Starts : ClockConfig → ℕ → Type 0
+Starts p reading =
+    (r : Runner) → startOf r (sheetBytes p reading) ≡ begun (value started) (startedWith (sheetBytes p reading))
+
 -- every step is answered in its order, then done
 abbrev pub AnswersAll : ClockConfig → ℕ → Type 0
 AnswersAll p reading =
-    answers fresh (sheetBytes p reading) (replicate (length (planSteps p reading) + 1) true)
+    answers (startedWith (sheetBytes p reading)) (sheetBytes p reading) (replicate (length (planSteps p reading) + 1) true)
     ≡ map readyAnswer (planSteps p reading) ++ (value done ∷ [])
 
 -- after as many calls as there are steps the runner holds the stored values, and 0 Hz for the RTC of an RP235x
 abbrev pub LeavesStored : ClockConfig → ℕ → Type 0
 LeavesStored p reading =
-    after fresh (sheetBytes p reading) (replicate (length (planSteps p reading)) true)
-    ≡ readyAt (length (planSteps p reading)) (tenOf (settingsOf p reading))
+    after (startedWith (sheetBytes p reading)) (sheetBytes p reading) (replicate (length (planSteps p reading)) true)
+    ≡ readyAt (sheetBytes p reading) (length (planSteps p reading)) (tenOf (settingsOf p reading))

@@ -1,4 +1,4 @@
--- A fresh runner over a sheet with any stream of ready flags: how many calls come before done, and what it holds then.
+-- A runner that was started with a sheet, over it with any stream of ready flags: how many calls come before done, and what it holds then.
 -- Assumes nothing.
 use Prim.Native.Nat.{ℕ, zero, suc, _+_, _*_, _≤_, _<_}
 use mathlib.Core.Bool.{Bool, false, _&&_, not}
@@ -10,11 +10,11 @@ use Rattle.base.specs.Choice.{bit}
 use Rattle.step.specs.declared.Step.{Step}
 use Rattle.step.specs.Access.{readAt}
 use Rattle.runner.specs.declared.Runner.{Runner}
-use Rattle.runner.specs.Run.{Progress, done, handed, passed, waiting, fresh, isWait, advanceOf}
+use Rattle.runner.specs.Run.{Progress, done, handed, passed, waiting, isWait, startedWith, advanceOf}
 
 -- the runner after i calls, and what call i answers; call i hears ready i
 unfoldable pub runnerAfter : List ℕ → (ℕ → Bool) → ℕ → Runner
-runnerAfter sheet ready zero = fresh
+runnerAfter sheet ready zero = startedWith sheet
 runnerAfter sheet ready (suc i) = advanceOf (runnerAfter sheet ready i) sheet (ready i) .next
 
 abbrev pub answerTo : List ℕ → (ℕ → Bool) → ℕ → Answer Progress
@@ -26,7 +26,7 @@ holdsWait (refusal n) = false
 
 -- 1 where a runner at position p, a wait, hears unready
 unfoldable pub unreadyPoll : ℕ → Runner → List ℕ → Bool → ℕ
-unreadyPoll p r sheet ready = bit (eqb (r .state .position) p && (holdsWait (readAt sheet (8 * p)) && not ready))
+unreadyPoll p r sheet ready = bit (eqb (r .stepper .state .position) p && (holdsWait (readAt sheet (8 * p)) && not ready))
 
 -- the unready polls at position p among the first i calls
 unfoldable pub heard : List ℕ → (ℕ → Bool) → ℕ → ℕ → ℕ
@@ -50,7 +50,7 @@ pub record UpAfter (calls : ℕ) (sheet : List ℕ) (ready : ℕ → Bool) (freq
   pub before : (i : ℕ) → i < calls → OnTheWay (answerTo sheet ready i)
   pub ends : (i : ℕ) → calls ≤ i → answerTo sheet ready i ≡ value done
   pub stays : (i : ℕ) → calls ≤ i → runnerAfter sheet ready i ≡ runnerAfter sheet ready calls
-  pub holds : runnerAfter sheet ready calls .freqs ≡ freqs
+  pub holds : runnerAfter sheet ready calls .stepper .freqs ≡ freqs
 
 -- there is such a number, at most this
 pub record UpWithin (most : ℕ) (sheet : List ℕ) (ready : ℕ → Bool) (freqs : List ℕ) : Type 0 where

@@ -7,7 +7,7 @@ pub put-case-spec : {M : Type 1} → statement M
 put-case-spec =
     tie.close
     (tie.spec
-    (λ c. search needs) (λ c κs. search needs) (λ c. search needs) (λ c κs. search needs) (λ c. search needs)
+    (λ c. search needs) (λ c κs. search needs) (λ c. search needs) (λ c κs. search needs) (λ c. search needs) (λ c κs. search needs) (λ c. search needs)
     (λ c κs. search needs) (λ c. search needs) (λ c κs. search needs) (λ c. search needs) (λ c κs. search needs)
     (λ c. search needs) (λ c κs. search needs) (λ c. search needs) (λ c κs. search needs) (λ c. search needs)
     (λ c κs. search needs) (λ c. search needs) (λ c κs. search needs) (λ c. search needs) (λ c κs. search needs)
@@ -52,8 +52,10 @@ put-case-spec =
     (λ c. search needs)
     (λ c. rw (c .before .before .before .before .enum-told10 .given .1) (c .before .before .put-run .ensures))
     (λ c. search needs)
-    (λ c. rw (c .before .before .before .before .enum-told11 .given .1) (c .before .before .put-sleep .ensures))
+    (λ c. rw (c .before .before .before .before .enum-told11 .given .1) (c .before .before .put-start .ensures))
     (λ c. search needs)
-    (λ c. rw (c .before .before .before .before .enum-told12 .given .1) (c .before .before .put-wake .ensures))
+    (λ c. rw (c .before .before .before .before .enum-told12 .given .1) (c .before .before .put-sleep .ensures))
     (λ c. search needs)
-    (λ c. rw (c .before .before .before .before .enum-told13 .given .1) (c .before .before .put-bad .ensures)))
+    (λ c. rw (c .before .before .before .before .enum-told13 .given .1) (c .before .before .put-wake .ensures))
+    (λ c. search needs)
+    (λ c. rw (c .before .before .before .before .enum-told14 .given .1) (c .before .before .put-bad .ensures)))

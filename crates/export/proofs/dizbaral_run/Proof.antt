@@ -4,7 +4,7 @@ use borrow.Author.Tests.{le-leb, lt-leb}
 use borrow.Author.Needs.{needs}
 use mathlib.Core.Path.{_≡_, ap, _∙_}
 use Rattle.runner.specs.declared.State.{State}
-use Rattle.runner.specs.Run.{Outcome, advanceOf}
+use Rattle.runner.specs.Run.{Outcome, stepperOf, advanceOf}
 use Rattle.runner.proofs.Steps.{turn-formed}
 use Rattle.export.specs.Run.{runNumber, runLeaves}
 use Rattle.export.proofs.Runners.{position-fits, turn-word}
@@ -17,27 +17,31 @@ returns c = let no = lt-leb _ _ (c .if1 .taken) in (rw no, rw no)
 
 answer-requires : tie.Need-answer-requires
 answer-requires c κs =
-    rw (ap (λ (x : Outcome State). x .answer) (c .before .before .turn .ensures)) (turn-formed _ _ _)
+    rw (ap (λ (x : Outcome State). x .answer) (c .before .before .turn .ensures)) (turn-formed _ _ _ _ _)
 
 put-state-requires : tie.Need-put-state-requires
 put-state-requires c κs =
-    let t = c .before .before .before .before in let s = t .before .before .before in
-    rw (ap (λ (x : Outcome State). x .next .position) (t .turn .ensures)) (position-fits _ _ _ (s .state .ensures .1))
+    let t = c .before .before .before .before in
+    let s = t .before .before .before .before .before in
+    rw (ap (λ (x : Outcome State). x .next .position) (t .turn .ensures)) (position-fits _ _ _ _ _ (s .state .ensures .1))
 
 returns-2 : tie.Need-returns-2
-unfolding runNumber runLeaves advanceOf
+unfolding runNumber runLeaves advanceOf stepperOf
 returns-2 c =
-    let a = c .before .before in let t = a .before .before .before in let s = t .before .before .before in
+    let a = c .before .before in
+    let t = a .before .before .before in
+    let w = t .before in
+    let s = w .before .before .before .before in
     let replied = ap (λ (x : Outcome State). x .answer) (t .turn .ensures) in
     let yes = le-leb _ _ (s .before .before .if1 .left) in (
-      rw (yes, ← s .state .ensures .0)
-          (a .answer .ensures .0 ∙ rw (t .before .word .ensures, replied) (turn-word _ _ _)),
+      rw (yes, ← s .state .ensures .0, ← w .wide .ensures .0)
+          (a .answer .ensures .0 ∙ rw (w .before .before .word .ensures, replied) (turn-word _ _ _ _ _)),
       rw
-          (yes, ← s .state .ensures .0, ← t .turn .ensures, c .put-state .ensures, a .answer .ensures .1),
+          (yes, ← s .state .ensures .0, ← w .wide .ensures .0, ← t .turn .ensures, c .put-state .ensures, a .answer .ensures .1),
     )
 
 pub dizbaral-run-spec : {M : Type 1} → statement M
 dizbaral-run-spec =
     tie.close
     (tie.spec (λ c. search needs) returns (λ c κs. search needs) (λ c. search needs) (λ c κs. search needs)
-    (λ c κs. search needs) answer-requires put-state-requires returns-2)
+    (λ c. search needs) (λ c κs. search needs) (λ c κs. search needs) answer-requires put-state-requires returns-2)

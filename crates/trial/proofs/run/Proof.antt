@@ -7,7 +7,7 @@ use borrow.Author.Needs.{needs}
 use Rattle.up.specs.Wait.{runnerAfter}
 use Rattle.trial.specs.Draws.{drawn}
 use Rattle.trial.specs.Load.{flags}
-use Rattle.trial.proofs.Trials.{draw-next, runner-next}
+use Rattle.trial.proofs.Trials.{draw-next, begins, runner-next}
 use Rattle.trial.proofs.run.Statement.{statement}
 use Rattle.trial.proofs.run.Tie as tie
 
@@ -20,7 +20,10 @@ abbrev μ-loop : tie.MeasureT-loop
 
 loop-holds : tie.Need-loop-holds Inv-loop μ-loop
 unfolding drawn runnerAfter
-loop-holds c = (search needs, refl, c .new .ensures)
+loop-holds c =
+    let restarted = c .before in
+    let entry = restarted .before .before .before in
+    (search needs, refl, begins _ _ (restarted .restarted .result) (entry .pre) (restarted .restarted .ensures))
 
 loop-again : tie.Need-loop-again Inv-loop μ-loop
 loop-again c =
@@ -28,7 +31,7 @@ loop-again c =
     let flag = call .before in
     let next = flag .before in
     let at = next .before .before in
-    let args = at .before .before .before .args in
+    let args = at .before .before .before .before .before .args in
     let drew = draw-next (args .seed) (at .loop .i) (at .loop .inv .1) (next .draw .ensures) in (
       omega arith,
       drew,
@@ -39,12 +42,12 @@ loop-again c =
 returns : tie.Need-returns Inv-loop μ-loop
 returns c =
     let at = c .before in
-    let args = at .before .before .before .args in
+    let args = at .before .before .before .before .before .args in
     let all : at .loop .i ≡ args .count = omega arith in
     at .loop .inv .2 ∙ ap (runnerAfter (args .sheet .now) (flags (args .seed))) all
 
 pub run-spec : {M : Type 1} → statement M
 run-spec =
     tie.close
-    (tie.spec Inv-loop μ-loop (λ c κs. search needs) loop-holds (λ c κs. search needs) (λ c κs. search needs)
+    (tie.spec Inv-loop μ-loop (λ c κs. search needs) (λ c κs. search needs) loop-holds (λ c κs. search needs) (λ c κs. search needs)
     (λ c κs. search needs) (λ c. search needs) (λ c. search needs) loop-again returns)

@@ -4,7 +4,10 @@ use mathlib.Core.Path.{refl, sym, ap, _∙_}
 use Prim.Native.Nat.{ℕ}
 use borrow.Author.Needs.{needs}
 use lib.Seq.{length-take-le}
+use Rattle.chip.specs.declared.Chip.the-variants.{Rp2040}
+use Rattle.config.specs.Presets.{crystalPlan}
 use Rattle.up.specs.Wait.{runnerAfter}
+use Rattle.up.proofs.Run.{sheet-size}
 use Rattle.trial.specs.Load.{flags}
 use Rattle.trial.proofs.Sheets.{written-fits, written, never-refused}
 use Rattle.trial.proofs.trial_runner.Statement.{statement}
@@ -31,6 +34,14 @@ slice-aggregate-run c =
     let crystal = call .before .before in
     sym (length-take-le _ _ (written-fits _ (crystal .crystal .ensures) _ _ _ (call .init .ensures) (told .0 .0) (rw (told .1))))
 
+run-requires : tie.Need-run-requires
+run-requires c κs =
+    let told = c .before .before .n .given in
+    let call = c .before .before .before .before .before in
+    let crystal = call .before .before in
+    rw (written _ (crystal .crystal .ensures) _ _ _ (call .init .ensures) (told .0 .0) (rw (told .1)))
+    (sheet-size (crystalPlan Rp2040 12000000) 11)
+
 returns-2 : tie.Need-returns-2
 returns-2 c =
     let told = c .before .before .before .n .given in
@@ -45,4 +56,4 @@ pub trial-runner-spec : {M : Type 1} → statement M
 trial-runner-spec =
     tie.close
     (tie.spec (λ c κs. search needs) (λ c. search needs) (λ c κs. search needs) (λ c. search needs) (λ c. search needs)
-    (λ c κs. search needs) returns array-share-prefix-bytes slice-aggregate-run (λ c κs. search needs) returns-2)
+    (λ c κs. search needs) returns array-share-prefix-bytes slice-aggregate-run run-requires returns-2)

@@ -1,10 +1,10 @@
--- `runner::take_step` meets its contract.
+-- `runner::stepping::take_step` meets its contract.
 -- Assumes nothing.
 use borrow.Author.Needs.{needs}
 use mathlib.Core.Path.{sym, _∙_}
 use Rattle.runner.specs.Run.{takeStep}
-use Rattle.runner.proofs.take_step.Statement.{statement}
-use Rattle.runner.proofs.take_step.Tie as tie
+use Rattle.runner.proofs.stepping.take_step.Statement.{statement}
+use Rattle.runner.proofs.stepping.take_step.Tie as tie
 
 returns : tie.Need-returns
 unfolding takeStep

@@ -1,10 +1,10 @@
--- `runner::one_more` meets its contract.
+-- `runner::stepping::one_more` meets its contract.
 -- Assumes nothing.
 use borrow.Author.Needs.{needs}
 use borrow.Author.Tests.{lt-ltb, le-ltb}
 use Rattle.runner.specs.Run.{oneMore}
-use Rattle.runner.proofs.one_more.Statement.{statement}
-use Rattle.runner.proofs.one_more.Tie as tie
+use Rattle.runner.proofs.stepping.one_more.Statement.{statement}
+use Rattle.runner.proofs.stepping.one_more.Tie as tie
 
 pub one-more-spec : {M : Type 1} → statement M
 unfolding oneMore

@@ -1,12 +1,12 @@
--- `runner::wait_unready` meets its contract.
+-- `runner::stepping::wait_unready` meets its contract.
 -- Assumes nothing.
 use borrow.Author.Needs.{needs}
 use borrow.Author.Tests.{lt-ltb, le-ltb, eq-eqb, ne-eqb}
 use Prim.Native.Nat.{_+_}
 use native.Mathlib.Omega.{arith}
 use Rattle.runner.specs.Run.{unready}
-use Rattle.runner.proofs.wait_unready.Statement.{statement}
-use Rattle.runner.proofs.wait_unready.Tie as tie
+use Rattle.runner.proofs.stepping.wait_unready.Statement.{statement}
+use Rattle.runner.proofs.stepping.wait_unready.Tie as tie
 
 returns-2 : tie.Need-returns-2
 unfolding unready

@@ -1,4 +1,4 @@
--- `runner::freqs_after` meets its contract.
+-- `runner::stepping::freqs_after` meets its contract.
 -- Assumes nothing.
 use borrow.Author.Needs.{needs}
 use borrow.Author.Tests.{eq-eqb, ne-eqb}
@@ -13,8 +13,8 @@ use Rattle.runner.specs.declared.Reply.the-variants.{Done, Handed, Passe
 use Rattle.runner.specs.Run.{replyIs, freqsAfter, storedBy}
 use Rattle.runner.proofs.Reply as reply
 use Rattle.runner.proofs.Steps.{store-fits}
-use Rattle.runner.proofs.freqs_after.Statement.{statement}
-use Rattle.runner.proofs.freqs_after.Tie as tie
+use Rattle.runner.proofs.stepping.freqs_after.Statement.{statement}
+use Rattle.runner.proofs.stepping.freqs_after.Tie as tie
 
 -- only a step that is handed out stores
 unchanged : (x : Reply) (freqs : List ℕ) → OneOf (0 ∷ 2 ∷ 3 ∷ 4 ∷ []) (tagOf reply.the-type x)

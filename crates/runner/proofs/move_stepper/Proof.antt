@@ -1,0 +1,21 @@
+-- `runner::move_stepper` meets its contract.
+-- Assumes nothing.
+use borrow.Author.Needs.{needs}
+use mathlib.Core.Path.{ap}
+use Rattle.runner.specs.declared.State.{State}
+use Rattle.runner.specs.Run.{Outcome, stepperOf}
+use Rattle.runner.proofs.Steps.{turn-formed}
+use Rattle.runner.proofs.move_stepper.Statement.{statement}
+use Rattle.runner.proofs.move_stepper.Tie as tie
+
+freqs-after-requires : tie.Need-freqs-after-requires
+freqs-after-requires c κs =
+    let c2 = c .before .before in
+    rw (ap (λ (x : Outcome State). x .answer) (c2 .turn .ensures)) (turn-formed _ _ _ _ _)
+
+returns : tie.Need-returns
+unfolding stepperOf
+returns c = rw (c .freqs-after .ensures, ← c .before .before .before .turn .ensures)
+
+pub move-stepper-spec : {M : Type 1} → statement M
+move-stepper-spec = tie.close (tie.spec (λ c κs. search needs) freqs-after-requires returns)
