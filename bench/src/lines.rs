@@ -2,7 +2,7 @@
 
 use std::hint::black_box;
 
-use dizbaral::{Chip, GpoutDiv, Progress, SHEET_BYTES, raw};
+use dizbaral::{BENCH_NUMBERS, Chip, GpoutDiv, Progress, SHEET_BYTES, raw};
 
 use crate::clocks::{self, ClockConfig, Gpout};
 use crate::peripherals::PIN_21;
@@ -97,6 +97,7 @@ impl Inputs {
             self.pio(),
             self.gpout(),
             self.runner(),
+            self.bench(),
         ]
     }
 
@@ -253,6 +254,38 @@ impl Inputs {
                 black_box(runner.start(black_box(&self.sheet)));
                 while black_box(runner.poll(black_box(&self.sheet), true)) != Reply::Done {}
                 black_box(&runner);
+            }),
+        }
+    }
+
+    /// Eight boards in turn, beside as many runners.
+    fn bench(&self) -> Line<'_> {
+        let calls = self.sheet.len() + 8;
+        Line {
+            name: "bench, eight whole sheets",
+            calls,
+            goal: 1.0,
+            proved: Box::new(move || {
+                let (mut bench, mut kept) = ([0; BENCH_NUMBERS], [0; SHEET_BYTES]);
+                let (sheet, length) = (self.sheet.as_ptr(), self.sheet.len());
+                black_box(unsafe { raw::dizbaral_bench_start(&mut bench, &mut kept, sheet, length) });
+                for call in 0..calls {
+                    let board = call as u8 & 7;
+                    black_box(unsafe {
+                        raw::dizbaral_bench_run(&mut bench, &kept, board, sheet, length, true)
+                    });
+                }
+                black_box(&bench);
+            }),
+            rust: Box::new(move || {
+                let mut runners: [Runner; 8] = std::array::from_fn(|_| Runner::fresh());
+                for runner in &mut runners {
+                    black_box(runner.start(black_box(&self.sheet)));
+                }
+                for call in 0..calls {
+                    black_box(runners[call & 7].poll(black_box(&self.sheet), true));
+                }
+                black_box(&runners);
             }),
         }
     }

@@ -3,10 +3,10 @@
  * Every function is total: it answers every input, and its answer is one number.
  *   below DIZBARAL_REFUSAL   the value, as each function says
  *   DIZBARAL_REFUSAL + n     refusal n of docs/FORMAT.md
- *   DIZBARAL_MALFORMED       the numbers given are of no plan, no runner or no slots
- *   from DIZBARAL_STEP on    (dizbaral_run only) the word of a step
+ *   DIZBARAL_MALFORMED       the numbers given are of no plan, no runner, no board or no slots
+ *   from DIZBARAL_STEP on    (dizbaral_run and dizbaral_bench_run only) the word of a step
  * After a refusal or DIZBARAL_MALFORMED all that was lent is as it was before, but for the lock timeout of
- * dizbaral_run.
+ * these two.
  *
  * A pointer with a length behind it is a buffer of that many elements; no function keeps it. No pointer may be NULL,
  * also where the length is 0. Two buffers of one call may not overlap, and nobody else may change a buffer during the
@@ -23,7 +23,7 @@
 #define DIZBARAL_ABSENT ((uint64_t)1 << 32)
 #define DIZBARAL_STEP ((uint64_t)1 << 58)
 
-/* What dizbaral_run answers beside these. */
+/* What dizbaral_run and dizbaral_bench_run answer beside these. */
 #define DIZBARAL_DONE ((uint64_t)0)
 #define DIZBARAL_PASSED ((uint64_t)1)
 #define DIZBARAL_WAITING ((uint64_t)2)
@@ -34,6 +34,9 @@
 
 /* A sheet has at most this many bytes. */
 #define DIZBARAL_SHEET_BYTES 528
+
+/* A bench has eight boards, of 14 numbers each, and the kept length. */
+#define DIZBARAL_BENCH_NUMBERS 113
 
 /* What a step of a sleep or a wake waits for. */
 #define DIZBARAL_RING_STABLE 11
@@ -120,6 +123,18 @@ uint64_t dizbaral_start(uint32_t runner[15], uint8_t kept[DIZBARAL_SHEET_BYTES],
  * and frequencies stay. */
 uint64_t dizbaral_run(uint32_t runner[15], const uint8_t kept[DIZBARAL_SHEET_BYTES], const uint8_t *sheet,
                       size_t length, bool ready);
+
+/* Starts eight boards with one sheet: 0, and all are fresh. They may have been anything before. Refusal 20 for the
+ * length, where nothing changes.
+ * The caller lends a bench as 113 numbers (of each board from 0 to 7 position, lock polls, total of unready polls, stopped
+ * mark, ten frequencies; then the kept length) and its kept bytes, and leaves both alone between the calls. */
+uint64_t dizbaral_bench_start(uint32_t bench[DIZBARAL_BENCH_NUMBERS], uint8_t kept[DIZBARAL_SHEET_BYTES],
+                              const uint8_t *sheet, size_t length);
+
+/* One call for a board: refusal 28 where the number is over 7, else what dizbaral_run does for a runner of its own that
+ * was started with the same sheet. Nothing of another board is looked at or changed. */
+uint64_t dizbaral_bench_run(uint32_t bench[DIZBARAL_BENCH_NUMBERS], const uint8_t kept[DIZBARAL_SHEET_BYTES],
+                            uint8_t board, const uint8_t *sheet, size_t length, bool ready);
 
 /* How long to wait for a sheet of this library: where no wait of a started runner's run hears more than k unready
  * polls, at most this many calls of dizbaral_run come before the first that answers DIZBARAL_DONE, and none is refused.

@@ -100,6 +100,7 @@ pub fn answer(case: &Case) -> Answer {
         Kind::Manual => sheet(n[0], || ClockConfig::manual_pll(n[2], pll(&n[3..7]), plan::voltage(n[7]))),
         Kind::List => Answer::Ruled(rules::list(n[0], n[1], n[2] as usize)),
         Kind::Run | Kind::Start => Answer::Ruled(crate::run::answer(case.kind, n)),
+        Kind::Bench => Answer::Ruled(crate::bench::answer(n)),
         Kind::Sleep | Kind::Wake => sleep::answer(case.kind, n),
         _ => rp235x::answer::answer(case),
     }

@@ -23,6 +23,7 @@ pub enum Kind {
     Manual,
     Run,
     Start,
+    Bench,
     Sleep,
     Wake,
     Voltage235,
@@ -35,7 +36,7 @@ pub enum Kind {
     SystemFrom235,
 }
 
-/// A case with its numbers in the order of the text; the bytes of KEPT and SHEET are numbers too (`run`).
+/// A case with its numbers in the order of the text; the bytes of its words of hex are numbers too (`run`).
 #[derive(Clone, Debug, PartialEq, Eq)]
 pub struct Case {
     pub kind: Kind,
@@ -70,7 +71,7 @@ pub const ROOM: Fits = UpTo(1024);
 /// A line with more bytes is no case.
 const LONGEST: usize = 4096;
 
-pub const KINDS: [(&str, Kind); 29] = [
+pub const KINDS: [(&str, Kind); 30] = [
     ("valid", Kind::Valid),
     ("output", Kind::Output),
     ("search", Kind::Search),
@@ -90,6 +91,7 @@ pub const KINDS: [(&str, Kind); 29] = [
     ("manual", Kind::Manual),
     ("run", Kind::Run),
     ("start", Kind::Start),
+    ("bench", Kind::Bench),
     ("sleep", Kind::Sleep),
     ("wake", Kind::Wake),
     ("voltage235", Kind::Voltage235),
@@ -107,7 +109,7 @@ impl Kind {
         KINDS.iter().find(|(name, _)| *name == word).map(|&(_, kind)| kind)
     }
 
-    /// The numbers before a plan, or before KEPT and SHEET of a runner.
+    /// The numbers before a plan, or before words of hex.
     pub fn numbers(self) -> &'static [Fits] {
         match self {
             Kind::Valid | Kind::Output => &[U32, U8, U16, U8, U8],
@@ -124,6 +126,7 @@ impl Kind {
             Kind::Manual => &[U8, ROOM, U32, U8, U16, U8, U8, Code],
             Kind::Run => &run::RUN_NUMBERS,
             Kind::Start => &run::START_NUMBERS,
+            Kind::Bench => &[],
             Kind::Sleep | Kind::Wake => &SLEEP_NUMBERS,
         }
     }
@@ -219,9 +222,9 @@ impl Case {
         let kind = Kind::of(word)?;
         let mut words: Vec<&str> = words.collect();
         let mut bytes = Vec::new();
-        if run::holds(kind) {
-            let (sheet, kept) = (words.pop()?, words.pop()?);
-            bytes = run::bytes_of(kept, sheet)?;
+        if let Some(most) = run::two_words(kind) {
+            let (second, first) = (words.pop()?, words.pop()?);
+            bytes = run::bytes_of(most, first, second)?;
             if words.len() != kind.numbers().len() {
                 return None;
             }
@@ -238,12 +241,13 @@ impl Case {
 
     pub fn text(&self) -> String {
         let mut text = self.word().to_string();
-        let plain = if run::holds(self.kind) { self.kind.numbers().len() } else { self.numbers.len() };
+        let worded = run::two_words(self.kind).is_some();
+        let plain = if worded { self.kind.numbers().len() } else { self.numbers.len() };
         for number in &self.numbers[..plain] {
             text.push(' ');
             text.push_str(&number.to_string());
         }
-        if run::holds(self.kind) {
+        if worded {
             text.push(' ');
             text.push_str(&run::words_of(&self.numbers[plain..]));
         }
@@ -260,7 +264,7 @@ impl Case {
         let before = self.kind.numbers();
         let plan = self.kind.plan();
         let fits = before.iter().chain(plan);
-        (run::holds(self.kind) || self.numbers.len() == before.len() + plan.len())
+        (run::two_words(self.kind).is_some() || self.numbers.len() == before.len() + plan.len())
             && fits.zip(&self.numbers).all(|(fits, &number)| fits.accepts(number))
             && (plan.is_empty() || whole_plan(&self.numbers[PLAN..]))
     }

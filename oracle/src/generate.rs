@@ -1,6 +1,7 @@
 //! Cases from a seed: first every limit, the same for all seeds, then random ones. `voltage` has 256 inputs
 //! and all of them are among the first.
 
+use crate::bench;
 use crate::case::{Case, Kind};
 use crate::generate_ruled as ruled;
 use crate::limits;
@@ -43,7 +44,9 @@ pub fn lines_ending(word: String, seed: u64, count: usize) -> impl Iterator<Item
 
 /// Lines of one kind: its limits, then random ones.
 pub fn lines_of(kind: Kind, seed: u64, count: usize) -> impl Iterator<Item = String> {
-    let fixed = limits::all().into_iter().chain(ruled::limits()).filter(move |case| case.kind == kind);
+    // A bench is compared by its own word alone: one case holds hundreds of calls.
+    let all = limits::all().into_iter().chain(ruled::limits()).chain(bench::limits());
+    let fixed = all.filter(move |case| case.kind == kind);
     let random = random_lines(seed, move |r| of_kind(r, kind));
     fixed.map(|case| case.text()).chain(std::iter::repeat_with(random)).take(count)
 }
@@ -78,7 +81,7 @@ fn ruled_case(r: &mut Random) -> Case {
     of_kind(r, kind)
 }
 
-fn of_kind(r: &mut Random, kind: Kind) -> Case {
+pub fn of_kind(r: &mut Random, kind: Kind) -> Case {
     let numbers = match kind {
         Kind::Valid | Kind::Output => setting(r),
         Kind::Search | Kind::Margin => search(r),
@@ -96,6 +99,7 @@ fn of_kind(r: &mut Random, kind: Kind) -> Case {
         Kind::SystemFrom => with_buffer(r, ruled::system_from),
         Kind::Manual => with_buffer(r, manual),
         Kind::Run | Kind::Start => run::numbers(kind, r),
+        Kind::Bench => bench::numbers(r),
         // Made in `rp235x`: no case of these is made here.
         _ => vec![],
     };

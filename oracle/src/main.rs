@@ -7,6 +7,7 @@
 mod way_in;
 
 mod answer;
+mod bench;
 mod book;
 mod case;
 mod compare;

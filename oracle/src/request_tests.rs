@@ -48,3 +48,31 @@ fn a_crystal_with_no_code_runs() {
     let slept = answer_line(&format!("sleep 0 0 0 0 0 0 0 0 0 0 7 0 {slots}"));
     assert!(slept.contains(&format!(" w9={} ", 0xd1e << 12 | 7)), "{slept}");
 }
+
+/// POSITION POLLS TOTAL STOPPED of a board; its frequencies are 0.
+fn board(numbers: &str) -> String {
+    format!("{numbers} 0 0 0 0 0 0 0 0 0 0")
+}
+
+#[test]
+fn a_slow_board_adds_to_its_own_total_alone() {
+    // Two waits for lock. Board 3 hears unready four times, board 4 once and then ready.
+    let wait = "5800000000000000";
+    let fresh = board("0 0 0 0");
+    let (slow, quick) = (board("1 3 4 0"), board("1 0 1 0"));
+    let boards =
+        [&fresh, &fresh, &fresh, &slow, &quick, &fresh, &fresh, &fresh].map(String::as_str).join(" ");
+    let answer = answer_line(&format!("bench {wait}{wait} 0304830803030384"));
+    assert_eq!(answer, format!("wwp(28)wwwp / {boards}"));
+}
+
+#[test]
+fn a_refused_start_leaves_an_empty_sheet() {
+    let boards = [board("0 0 0 0").as_str(); 8].join(" ");
+    assert_eq!(answer_line("bench 00 0007ff"), format!("(27)(27)(28) / {boards}"));
+    assert_eq!(answer_line("bench - 0088"), format!("d(28) / {boards}"));
+    assert_eq!(answer_line("bench - -"), format!(" / {boards}"));
+    let calls = |count: usize| answer_line(&format!("bench - {}", "00".repeat(count)));
+    assert_eq!(calls(512), format!("{} / {boards}", "d".repeat(512)));
+    assert_eq!(calls(513), "bad case");
+}

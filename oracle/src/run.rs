@@ -8,6 +8,9 @@ use crate::random::Random;
 /// Of a sheet more bytes are not read.
 const LONGEST_SHEET: usize = 2048;
 
+/// More calls of a bench are no case.
+pub const LONGEST_CALLS: usize = 512;
+
 /// The numbers of a runner; READY and LEN follow, at `start` LEN alone.
 const RUNNER: usize = 14;
 pub const RUN_NUMBERS: [Fits; 16] =
@@ -15,21 +18,26 @@ pub const RUN_NUMBERS: [Fits; 16] =
 pub const START_NUMBERS: [Fits; 15] =
     [U32, U32, U32, FLAG, U32, U32, U32, U32, U32, U32, U32, U32, U32, U32, U32];
 
-pub fn holds(kind: Kind) -> bool {
-    matches!(kind, Kind::Run | Kind::Start)
+/// The most bytes of the two words of hex that a kind ends in: KEPT and SHEET, or a bench's SHEET and CALLS.
+pub fn two_words(kind: Kind) -> Option<(usize, usize)> {
+    match kind {
+        Kind::Run | Kind::Start => Some((MAX_BYTES, LONGEST_SHEET)),
+        Kind::Bench => Some((LONGEST_SHEET, LONGEST_CALLS)),
+        _ => None,
+    }
 }
 
-/// The numbers of the two words KEPT and SHEET.
-pub fn bytes_of(kept: &str, sheet: &str) -> Option<Vec<u32>> {
-    let (kept, sheet) = (bytes(kept)?, bytes(sheet)?);
-    let read = kept.len() <= MAX_BYTES && sheet.len() <= LONGEST_SHEET;
-    read.then(|| [vec![kept.len() as u32], kept, sheet].concat())
+/// The numbers of the two words.
+pub fn bytes_of(most: (usize, usize), first: &str, second: &str) -> Option<Vec<u32>> {
+    let (first, second) = (bytes(first)?, bytes(second)?);
+    let read = first.len() <= most.0 && second.len() <= most.1;
+    read.then(|| [vec![first.len() as u32], first, second].concat())
 }
 
 /// And back.
 pub fn words_of(numbers: &[u32]) -> String {
-    let (kept, sheet) = numbers[1..].split_at(numbers[0] as usize);
-    format!("{} {}", hex(kept), hex(sheet))
+    let (first, second) = numbers[1..].split_at(numbers[0] as usize);
+    format!("{} {}", hex(first), hex(second))
 }
 
 fn hex(bytes: &[u32]) -> String {
@@ -76,10 +84,20 @@ pub fn answer(kind: Kind, n: &[u32]) -> String {
 }
 
 /// POSITION POLLS TOTAL STOPPED F0 to F9.
-fn numbers_of(runner: &Runner) -> String {
+pub fn numbers_of(runner: &Runner) -> String {
     let Runner { position, lock_polls, total, stopped, frequencies, .. } = runner;
     let frequencies = frequencies.map(|hz| hz.to_string()).join(" ");
     format!("{position} {lock_polls} {total} {} {frequencies}", *stopped as u32)
+}
+
+/// A sheet of random steps.
+pub fn random_sheet(r: &mut Random) -> Vec<u32> {
+    let steps = r.between(1, MAX_STEPS as u32);
+    sheet_of(r, steps)
+}
+
+fn sheet_of(r: &mut Random, steps: u32) -> Vec<u32> {
+    (0..steps).flat_map(|_| step(r).to_be_bytes()).map(u32::from).collect()
 }
 
 /// Most calls meet a step that is one, near a limit or not, under the sheet that is kept.
@@ -102,7 +120,7 @@ pub fn numbers(kind: Kind, r: &mut Random) -> Vec<u32> {
     if kind == Kind::Run {
         numbers.push(r.between(0, 1));
     }
-    let mut sheet: Vec<u32> = (0..steps).flat_map(|_| step(r).to_be_bytes()).map(u32::from).collect();
+    let mut sheet = sheet_of(r, steps);
     if r.percent(3) {
         sheet.truncate(sheet.len().saturating_sub(r.between(1, 7) as usize));
     }

@@ -1,12 +1,14 @@
 //! Clock sheets for the RP2040 and the RP235x, from the proved library: safe calls of its static archive.
 #![no_std]
 
+mod bench;
 pub mod raw;
 mod sleep;
 
 use core::error::Error;
 use core::fmt::{self, Display, Formatter};
 
+pub use bench::{BENCH_NUMBERS, Bench};
 pub use sleep::{SleepStep, SleepSteps, Slots};
 
 /// The README's examples run as tests.
@@ -15,7 +17,7 @@ pub use sleep::{SleepStep, SleepSteps, Slots};
 struct Readme;
 
 /// A refusal, by its number in docs/FORMAT.md. What was lent is as it was before, but for the lock timeout of
-/// [`Runner::poll`].
+/// [`Runner::poll`] and [`Bench::poll`].
 #[derive(Clone, Copy, Debug, PartialEq, Eq)]
 pub struct Refused(pub u8);
 
@@ -256,6 +258,16 @@ pub enum Progress {
     Waiting,
 }
 
+/// What a call answered, or the number of a refusal.
+fn progress(number: u64) -> Result<Progress, Refused> {
+    answer(number).map(|number| match number {
+        0 => Progress::Done,
+        1 => Progress::Passed,
+        2 => Progress::Waiting,
+        word => Progress::Handed(word),
+    })
+}
+
 /// Takes one step after another of the sheet that it was started with.
 #[derive(Clone, Copy, Debug, PartialEq, Eq)]
 pub struct Runner {
@@ -308,12 +320,7 @@ impl Runner {
     pub fn poll(&mut self, sheet: &[u8], ready: bool) -> Result<Progress, Refused> {
         let number =
             unsafe { raw::dizbaral_run(&mut self.numbers, &self.kept, sheet.as_ptr(), sheet.len(), ready) };
-        answer(number).map(|number| match number {
-            0 => Progress::Done,
-            1 => Progress::Passed,
-            2 => Progress::Waiting,
-            word => Progress::Handed(word),
-        })
+        progress(number)
     }
 }
 

@@ -1,6 +1,6 @@
 //! The functions of the archive themselves; bindings/c/dizbaral.h says what each answers.
 
-use crate::SHEET_BYTES;
+use crate::{BENCH_NUMBERS, SHEET_BYTES};
 
 // A slice is a pointer and a length.
 unsafe extern "C" {
@@ -58,6 +58,20 @@ unsafe extern "C" {
         length: usize,
         ready: bool,
     ) -> u64;
+    pub fn dizbaral_bench_start(
+        bench: *mut [u32; BENCH_NUMBERS],
+        kept: *mut [u8; SHEET_BYTES],
+        sheet: *const u8,
+        length: usize,
+    ) -> u64;
+    pub fn dizbaral_bench_run(
+        bench: *mut [u32; BENCH_NUMBERS],
+        kept: *const [u8; SHEET_BYTES],
+        board: u8,
+        sheet: *const u8,
+        length: usize,
+        ready: bool,
+    ) -> u64;
     pub fn dizbaral_longest_wait(k: u32) -> u32;
     pub fn dizbaral_sleep(
         slots: *mut [u32; 48],
@@ -76,5 +90,5 @@ unsafe extern "C" {
 /// Refusal n is this and n.
 pub const REFUSAL: u64 = 1 << 48;
 
-/// The numbers given are of no plan, no runner or no slots.
+/// The numbers given are of no plan, no runner, no board or no slots.
 pub const MALFORMED: u64 = 1 << 49;

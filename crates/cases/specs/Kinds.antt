@@ -15,6 +15,7 @@ use Rattle.number_cases.specs.Numbers.{validText, outputText, searchText, usbPl
 use Rattle.sheet_cases.specs.Sheets.{crystalText, roscText, defaultText, systemText, systemFromText}
 use Rattle.sheet_cases.specs.Sheets.{manualText, planCount, planSheetText}
 use Rattle.run_cases.specs.Runs.{runText, startText}
+use Rattle.bench_cases.specs.Benches.{benchText}
 use Rattle.sleep_cases.specs.Sleeps.{sleepText, wakeText}
 use Rattle.cases.specs.Lists.{listText}
 use Rattle.cases.specs.declared.Kind.{Kind}
@@ -38,6 +39,7 @@ use Rattle.cases.specs.declared.Kind.the-variants.{
   Manual,
   Run,
   Start,
+  Bench,
   Sleep,
   Wake,
   Unknown,
@@ -125,6 +127,8 @@ rowOf Run =
     runText
 -- POSITION POLLS TOTAL STOPPED F0 to F9 LEN, then KEPT SHEET
 rowOf Start = worded "start" (u32 ∷ u32 ∷ u32 ∷ 1 ∷ replicate 11 u32) startText
+-- no number, then SHEET CALLS
+rowOf Bench = worded "bench" [] (λ n words. benchText words)
 -- SLOT W0 to W10, then four slots
 rowOf Sleep = plain "sleep" sleepLimits sleepText
 rowOf Wake = plain "wake" sleepLimits wakeText
@@ -135,7 +139,7 @@ kinds =
     Valid ∷ Output ∷ Search ∷ UsbPll ∷ Book ∷ Margin ∷ Settings ∷ Voltage Rp2040 ∷ Voltage Rp235x ∷ Pio ∷ Gpout Rp2040
     ∷ Gpout Rp235x ∷ Sheet Rp2040 ∷ Sheet Rp235x ∷ Crystal Rp2040 ∷ Crystal Rp235x ∷ Rosc Rp2040 ∷ Rosc Rp235x
     ∷ Default Rp2040 ∷ Default Rp235x ∷ System Rp2040 ∷ System Rp235x ∷ SystemFrom Rp2040 ∷ SystemFrom Rp235x
-    ∷ Manual ∷ Run ∷ Start ∷ Sleep ∷ Wake ∷ []
+    ∷ Manual ∷ Run ∷ Start ∷ Bench ∷ Sleep ∷ Wake ∷ []
 
 abbrev pub firstNamed : List ℕ → List Kind → Kind
 firstNamed name [] = Unknown

@@ -34,7 +34,8 @@ pub(crate) fn named(name: &[u8]) -> Kind
 {
     let from_wake = where_named(name, b"wake", Kind::Wake, Kind::Unknown);
     let from_sleep = where_named(name, b"sleep", Kind::Sleep, from_wake);
-    let from_start = where_named(name, b"start", Kind::Start, from_sleep);
+    let from_bench = where_named(name, b"bench", Kind::Bench, from_sleep);
+    let from_start = where_named(name, b"start", Kind::Start, from_bench);
     let from_run = where_named(name, b"run", Kind::Run, from_start);
     let from_manual = where_named(name, b"manual", Kind::Manual, from_run);
     let from_system_from235 = where_named(
@@ -175,6 +176,7 @@ pub(crate) fn read(kind: Kind, line: &[u8], at: usize, n: &mut [u32; 64]) -> Res
             limits[3] = 1;
             fields::read(line, at, &limits, n)
         }
+        Kind::Bench => fields::read(line, at, &[], n),
         Kind::Sleep => read_sleep(line, at, n),
         Kind::Wake => read_sleep(line, at, n),
         Kind::Unknown => Rest::Bad,

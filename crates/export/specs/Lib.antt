@@ -4,5 +4,6 @@ pub mod Numbers
 pub mod Sheet
 pub mod Demand3
 pub mod Run
+pub mod Bench
 pub mod Slots
 pub mod Ranges

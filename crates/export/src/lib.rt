@@ -1,4 +1,5 @@
 // The product for programs in C and Rust: numbers and slices alone. Each answer is one number, by specs/Numbers.
+mod bench;
 mod numbers;
 mod run;
 mod slots;

@@ -11,6 +11,7 @@ use Rattle.text.specs.Decimal.{decimalOf}
 use Rattle.text.specs.Words.{upTo}
 use Rattle.step.specs.declared.Step.{Step}
 use Rattle.step.specs.Sheet.{maxBytes}
+use Rattle.runner.specs.declared.Stepper.{Stepper}
 use Rattle.runner.specs.declared.Runner.{Runner}
 use Rattle.runner.specs.Run.{Progress, done, handed, passed, waiting, Outcome, advanceOf, Go, started, Begun, padded, startOf}
 use Rattle.text.specs.Ascii.{ascii}
@@ -34,10 +35,10 @@ runnerOfCase n at kept =
     }
 
 -- the fourteen numbers in the same order
-abbrev pub runnerText : Runner → List ℕ
-runnerText r =
-    let s = r .stepper .state in
-    rowText (s .position) (s .«lock_polls» ∷ s .total ∷ bit (s .stopped) ∷ tenAt (r .stepper .freqs) 0)
+abbrev pub stepperText : Stepper → List ℕ
+stepperText b =
+    let s = b .state in
+    rowText (s .position) (s .«lock_polls» ∷ s .total ∷ bit (s .stopped) ∷ tenAt (b .freqs) 0)
 
 -- `step` with KIND and the five fields, or a word
 abbrev pub progressText : Progress → List ℕ
@@ -48,7 +49,7 @@ progressText waiting = ascii "waiting"
 
 -- the answer, then the runner after it
 unfoldable pub outcomeText : Outcome Runner → List ℕ
-outcomeText o = answerText progressText (o .answer) ++ (ascii " / " ++ runnerText (o .next))
+outcomeText o = answerText progressText (o .answer) ++ (ascii " / " ++ stepperText (o .next .stepper))
 
 abbrev pub goText : Go → List ℕ
 goText started = ascii "started"
@@ -61,7 +62,7 @@ keptText len kept = 32 ∷ (decimalOf len ++ (32 ∷ hexOf (take len kept)))
 unfoldable pub begunText : Begun Runner → List ℕ
 begunText o =
     let r = o .next in
-    answerText goText (o .answer) ++ (ascii " / " ++ (runnerText r ++ keptText (r .len) (r .kept)))
+    answerText goText (o .answer) ++ (ascii " / " ++ (stepperText (r .stepper) ++ keptText (r .len) (r .kept)))
 
 abbrev pub askText : Ask → Runner → List ℕ → List ℕ
 askText Ask.Start r sheet = begunText (startOf r sheet)

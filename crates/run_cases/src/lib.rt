@@ -16,7 +16,7 @@ ghost use Rattle.base.specs.Placed.{Placed};
 ghost use Rattle.runner.specs.Run.{handed, replyIs, steppedIs, openingIs, openedIs};
 ghost use Rattle.fields.specs.Fields.{tailAt};
 ghost use Rattle.replies.specs.Reply.{answerText};
-ghost use Rattle.run_cases.specs.Runs.{runnerOfCase, runnerText, progressText, outcomeText, goText, keptText, begunText};
+ghost use Rattle.run_cases.specs.Runs.{runnerOfCase, stepperText, progressText, outcomeText, goText, keptText, begunText};
 ghost use Rattle.run_cases.specs.Runs.{askText, sheetText, behindText, wordsText, runText, startText};
 
 // What is asked of a runner.
@@ -41,10 +41,10 @@ fn runner_at(n: &[u32; 64], at: usize, kept: [u8; MAX_BYTES]) -> Runner
     Runner { kept, len, stepper }
 }
 
-fn put_runner(out: &mut [u8], at: usize, r: Runner) -> usize
-    ensures { λ x. ⌜ Placed (now (out .entry)) at (runnerText r) x (now (out .exit)) ⌝ }
+// POSITION POLLS TOTAL STOPPED F0 to F9.
+pub fn put_stepper(out: &mut [u8], at: usize, stepper: Stepper) -> usize
+    ensures { λ x. ⌜ Placed (now (out .entry)) at (stepperText stepper) x (now (out .exit)) ⌝ }
 {
-    let stepper = r.stepper;
     let s = stepper.state;
     let f = stepper.freqs;
     replies::put_row(
@@ -95,7 +95,8 @@ fn put_stepped(out: &mut [u8], s: Stepped) -> usize
     let next = s.runner;
     let answered = put_reply(out, reply);
     let end = text::put_bytes(out, answered, b" / ");
-    put_runner(out, end, next)
+    let stepper = next.stepper;
+    put_stepper(out, end, stepper)
 }
 
 fn put_opening(out: &mut [u8], reply: Opening) -> usize
@@ -125,7 +126,8 @@ fn put_opened(out: &mut [u8], o: Opened) -> usize
     let next = o.runner;
     let end = put_opening(out, reply);
     let end = text::put_bytes(out, end, b" / ");
-    let end = put_runner(out, end, next);
+    let stepper = next.stepper;
+    let end = put_stepper(out, end, stepper);
     let kept = next.kept;
     put_kept(out, end, next.len, &kept)
 }

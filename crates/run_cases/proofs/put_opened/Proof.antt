@@ -9,11 +9,11 @@ returns : tie.Need-returns
 unfolding begunText
 returns c =
     let put-kept = c .before .before in
-    let put-runner = put-kept .before .before .before .before .before .before in
-    let put-bytes = put-runner .before .before .before .before in
+    let put-stepper = put-kept .before .before .before .before .before .before in
+    let put-bytes = put-stepper .before .before .before .before .before in
     let put-opening = put-bytes .before .before .before .before .before in
     placed-append (put-opening .put-opening .ensures)
-    (placed-append (put-bytes .put-bytes .ensures) (placed-append (put-runner .put-runner .ensures) (put-kept .put-kept .ensures)))
+    (placed-append (put-bytes .put-bytes .ensures) (placed-append (put-stepper .put-stepper .ensures) (put-kept .put-kept .ensures)))
 
 pub put-opened-spec : {M : Type 1} → statement M
 put-opened-spec =

@@ -8,10 +8,10 @@ use Rattle.run_cases.proofs.put_stepped.Tie as tie
 returns : tie.Need-returns
 unfolding outcomeText
 returns c =
-    let put-runner = c .before .before in let put-bytes = put-runner .before .before .before .before in
+    let put-stepper = c .before .before in let put-bytes = put-stepper .before .before .before .before .before in
     let put-reply = put-bytes .before .before .before .before .before in
     placed-append (put-reply .put-reply .ensures)
-    (placed-append (put-bytes .put-bytes .ensures) (put-runner .put-runner .ensures))
+    (placed-append (put-bytes .put-bytes .ensures) (put-stepper .put-stepper .ensures))
 
 pub put-stepped-spec : {M : Type 1} → statement M
 put-stepped-spec =

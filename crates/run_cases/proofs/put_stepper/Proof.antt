@@ -1,7 +1,7 @@
--- `run_cases::put_runner` meets its contract. Assumes nothing.
+-- `run_cases::put_stepper` meets its contract. Assumes nothing.
 use borrow.Author.Needs.{needs}
-use Rattle.run_cases.proofs.put_runner.Statement.{statement}
-use Rattle.run_cases.proofs.put_runner.Tie as tie
+use Rattle.run_cases.proofs.put_stepper.Statement.{statement}
+use Rattle.run_cases.proofs.put_stepper.Tie as tie
 
 returns : tie.Need-returns
 returns c =
@@ -30,8 +30,8 @@ returns c =
       wide .wide .ensures .0,
     ) at half
 
-pub put-runner-spec : {M : Type 1} → statement M
-put-runner-spec =
+pub put-stepper-spec : {M : Type 1} → statement M
+put-stepper-spec =
     tie.close
     (tie.spec (λ c κs. search needs) (λ c κs. search needs) (λ c κs. search needs) (λ c κs. search needs) (λ c. search needs)
     (λ c κs. search needs) (λ c. search needs) (λ c κs. search needs) (λ c. search needs) (λ c κs. search needs)

@@ -1,0 +1,19 @@
+-- `boards::advance` meets its contract.
+-- Assumes nothing.
+use borrow.Author.Needs.{needs}
+use native.Mathlib.Omega.{arith}
+use Rattle.boards.proofs.Benches.{over-seven, of-moved}
+use Rattle.boards.proofs.advance.Statement.{statement}
+use Rattle.boards.proofs.advance.Tie as tie
+
+returns : tie.Need-returns
+returns c = over-seven _ _ _ _ (omega arith)
+
+returns-2 : tie.Need-returns-2
+returns-2 c = of-moved _ _ _ _ (c .before .move-stepper .ensures) (omega arith)
+
+pub advance-spec : {M : Type 1} → statement M
+advance-spec =
+    tie.close
+    (tie.spec returns (λ c. search needs) (λ c. search needs) (λ c κs. search needs) (λ c. search needs)
+    (λ c. search needs) returns-2)

@@ -1,0 +1,185 @@
+// The bench: eight boards under one kept sheet. A board steps as a runner does: `runner::move_stepper`.
+ghost use mathlib.Core.Path.{_≡_};
+ghost use Prim.Native.Nat.{_<_};
+ghost use Rattle.base.specs.Answer.{numberIs};
+ghost use Rattle.runner.specs.Run.{outcome, replyIs, begun, openingIs};
+ghost use Rattle.boards.specs.Bench.{benchedIs, allOpenedIs, freshBench, benchOf, startAllOf, boardHz};
+use base::Number;
+use runner::Opening;
+use runner::Reply;
+use runner::Runner;
+use runner::Stepper;
+use step::MAX_BYTES;
+
+// Eight boards, and the sheet that all were started with: `len` bytes, zeros past them.
+pub struct Bench {
+    pub boards: [Stepper; 8],
+    pub kept: [u8; MAX_BYTES],
+    pub len: usize,
+}
+
+pub struct Benched {
+    pub reply: Reply,
+    pub bench: Bench,
+}
+
+pub struct AllOpened {
+    pub reply: Opening,
+    pub bench: Bench,
+}
+
+impl Bench {
+    // Before any start.
+    pub fn new() -> Self
+        ensures { λ r. ⌜ r ≡ freshBench ⌝ }
+    {
+        let fresh = Stepper::new();
+        let boards = [fresh; 8];
+        Self {
+            boards,
+            kept: [0; MAX_BYTES],
+            len: 0,
+        }
+    }
+}
+
+// One call for a board, by value.
+pub fn advance(b: Bench, board: u8, sheet: &[u8], ready: bool) -> Benched
+    ensures { λ s. ⌜ benchedIs s ≡ benchOf b board (now (sheet .entry)) ready ⌝ }
+{
+    if board > 7 {
+        return Benched {
+            reply: Reply::Refused(28),
+            bench: b,
+        };
+    }
+    let i = board as usize;
+    let kept = b.kept;
+    let len = b.len;
+    let mut boards = b.boards;
+    let old = boards[i];
+    let m = runner::move_stepper(old, len, &kept, sheet, ready);
+    let reply = m.reply;
+    let next = m.stepper;
+    boards[i] = next;
+    Benched {
+        reply,
+        bench: Bench { boards, kept, len },
+    }
+}
+
+// The same in place.
+pub fn poll(b: &mut Bench, board: u8, sheet: &[u8], ready: bool) -> Reply
+    ensures { λ a. ⌜ outcome (replyIs a) (now (b .exit)) ≡ benchOf (now (b .entry)) board (now (sheet .entry)) ready ⌝ }
+{
+    let s = advance(*b, board, sheet, ready);
+    *b = s.bench;
+    s.reply
+}
+
+// A start of all eight, by value: a runner's start says whether it is taken, and what is kept.
+pub fn restarted(b: Bench, sheet: &[u8]) -> AllOpened
+    ensures { λ o. ⌜ allOpenedIs o ≡ startAllOf b (now (sheet .entry)) ⌝ }
+{
+    let o = runner::restarted(Runner::new(), sheet);
+    let reply = o.reply;
+    let one = o.runner;
+    match reply {
+        Opening::Refused(number) => AllOpened {
+            reply: Opening::Refused(number),
+            bench: b,
+        },
+        Opening::Started => {
+            let fresh = Bench::new();
+            let boards = fresh.boards;
+            let kept = one.kept;
+            let len = one.len;
+            AllOpened {
+                reply: Opening::Started,
+                bench: Bench { boards, kept, len },
+            }
+        }
+    }
+}
+
+// The same in place.
+pub fn start(b: &mut Bench, sheet: &[u8]) -> Opening
+    ensures { λ a. ⌜ begun (openingIs a) (now (b .exit)) ≡ startAllOf (now (b .entry)) (now (sheet .entry)) ⌝ }
+{
+    let o = restarted(*b, sheet);
+    *b = o.bench;
+    o.reply
+}
+
+fn hz_of(b: Bench, board: u8, clock: usize) -> Number
+    requires { ⌜ clock < 10 ⌝ }
+    ensures { λ r. ⌜ numberIs r ≡ boardHz b board clock ⌝ }
+{
+    if 7 < board {
+        return Number::Refused(28);
+    }
+    let at = board as usize;
+    let boards = b.boards;
+    let s = boards[at];
+    Number::Value(s.freqs[clock])
+}
+
+pub fn rosc_freq(b: Bench, board: u8) -> Number
+    ensures { λ r. ⌜ numberIs r ≡ boardHz b board 0 ⌝ }
+{
+    hz_of(b, board, 0)
+}
+
+pub fn xosc_freq(b: Bench, board: u8) -> Number
+    ensures { λ r. ⌜ numberIs r ≡ boardHz b board 1 ⌝ }
+{
+    hz_of(b, board, 1)
+}
+
+pub fn pll_sys_freq(b: Bench, board: u8) -> Number
+    ensures { λ r. ⌜ numberIs r ≡ boardHz b board 2 ⌝ }
+{
+    hz_of(b, board, 2)
+}
+
+pub fn pll_usb_freq(b: Bench, board: u8) -> Number
+    ensures { λ r. ⌜ numberIs r ≡ boardHz b board 3 ⌝ }
+{
+    hz_of(b, board, 3)
+}
+
+pub fn clk_ref_freq(b: Bench, board: u8) -> Number
+    ensures { λ r. ⌜ numberIs r ≡ boardHz b board 4 ⌝ }
+{
+    hz_of(b, board, 4)
+}
+
+pub fn clk_sys_freq(b: Bench, board: u8) -> Number
+    ensures { λ r. ⌜ numberIs r ≡ boardHz b board 5 ⌝ }
+{
+    hz_of(b, board, 5)
+}
+
+pub fn clk_peri_freq(b: Bench, board: u8) -> Number
+    ensures { λ r. ⌜ numberIs r ≡ boardHz b board 6 ⌝ }
+{
+    hz_of(b, board, 6)
+}
+
+pub fn clk_usb_freq(b: Bench, board: u8) -> Number
+    ensures { λ r. ⌜ numberIs r ≡ boardHz b board 7 ⌝ }
+{
+    hz_of(b, board, 7)
+}
+
+pub fn clk_adc_freq(b: Bench, board: u8) -> Number
+    ensures { λ r. ⌜ numberIs r ≡ boardHz b board 8 ⌝ }
+{
+    hz_of(b, board, 8)
+}
+
+pub fn clk_rtc_freq(b: Bench, board: u8) -> Number
+    ensures { λ r. ⌜ numberIs r ≡ boardHz b board 9 ⌝ }
+{
+    hz_of(b, board, 9)
+}

@@ -1,0 +1,44 @@
+-- `export::bench::dizbaral_bench_run` meets its contract. Assumes nothing.
+use borrow.Author.Needs.{needs}
+use mathlib.Core.List.{List}
+use mathlib.Core.Path.{ap, _∙_}
+use Prim.Native.Nat.{ℕ, _*_}
+use lib.Seq.{sets}
+use Rattle.export.specs.Bench.{fourteen}
+use Rattle.export.proofs.Boards.{over-number, over-leaves, bad-number, bad-leaves, board-number, board-leaves}
+use Rattle.export.proofs.bench.dizbaral_bench_run.Statement.{statement}
+use Rattle.export.proofs.bench.dizbaral_bench_run.Tie as tie
+
+returns : tie.Need-returns
+returns c =
+    let over = c .before .if1 .taken in
+    (c .refused .ensures ∙ over-number _ _ _ _ _ over, over-leaves _ _ _ _ _ over)
+
+returns-2 : tie.Need-returns-2
+returns-2 c =
+    let one = c .before in
+    let few = one .before .before .before .if1 .left in
+    let bad = rw (one .runner-at .ensures) at (c .if2 .taken) in
+    (bad-number _ _ _ _ _ few bad, bad-leaves _ _ _ _ _ few bad)
+
+returns-3 : tie.Need-returns-3
+returns-3 c =
+    let run = c .before .before .before in
+    let mark = run .before .before in
+    let one = mark .before in
+    let few = one .before .before .before .if1 .left in
+    let a = one .before .before .before .before .before .args in
+    let is = one .runner-at .ensures in
+    let good = rw is at (mark .if2 .left) in
+    let ns = a .bench .now in (
+      rw is at (run .dizbaral-run .ensures .0) ∙ board-number ns _ _ _ _ few good,
+      c .put-runner .ensures
+          ∙ ap (λ (l : List ℕ). sets ns (14 * a .board) (fourteen l)) (rw is at (run .dizbaral-run .ensures .1))
+          ∙ board-leaves ns _ _ _ _ few good,
+    )
+
+pub dizbaral-bench-run-spec : {M : Type 1} → statement M
+dizbaral-bench-run-spec =
+    tie.close
+    (tie.spec (λ c κs. search needs) returns (λ c κs. search needs) (λ c. search needs) returns-2
+    (λ c κs. search needs) (λ c κs. search needs) returns-3)
