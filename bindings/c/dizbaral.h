@@ -102,6 +102,11 @@ uint64_t dizbaral_system_sheet_from(uint8_t chip, uint32_t crystal_hz, uint32_t 
 uint64_t dizbaral_plan_sheet(uint8_t chip, const uint32_t *plan, size_t numbers, uint8_t reading, uint8_t *sheet,
                              size_t length);
 
+/* read_sheet: writes the numbers of the plan whose sheet at this reading is exactly these bytes, with the smallest delay
+ * multiplier and the smallest settling time, which is given. The plan's chip: DIZBARAL_RP2040 with 48 numbers,
+ * DIZBARAL_RP235X with 43; numbers past them keep their values. Refusals 18, 26. */
+uint64_t dizbaral_read_sheet(const uint8_t *sheet, size_t length, uint8_t reading, uint32_t plan[48]);
+
 /* Writes every setting that gives the target with no remainder, each once, two bytes each, most significant first:
  * feedback divider (9 bits), post dividers (3)(3), a zero bit. The lowest feedback divider comes first, then the
  * greatest post 1, then the greatest post 2. The length in bytes. Refusal 19. */

@@ -12,6 +12,7 @@ use crate::pac;
 use crate::panics::{Panic, catch};
 use crate::peripherals::PIN_21;
 use crate::pio_programs::clock_divider::calculate_pio_clock_divider_value;
+use crate::plain_reader;
 use crate::plan::{self, pll};
 use crate::recorder::{self, Record};
 use crate::rp235x;
@@ -59,6 +60,9 @@ impl Display for Answer {
 
 /// The answer to a line.
 pub fn answer_line(line: &str) -> String {
+    if let Some(words) = line.strip_prefix("read ") {
+        return plain_reader::answer_line(words);
+    }
     match Case::parse(line) {
         Some(case) => answer(&case).to_string(),
         None => "bad case".to_string(),
@@ -101,6 +105,7 @@ pub fn answer(case: &Case) -> Answer {
         Kind::List => Answer::Ruled(rules::list(n[0], n[1], n[2] as usize)),
         Kind::Run | Kind::Start => Answer::Ruled(crate::run::answer(case.kind, n)),
         Kind::Bench => Answer::Ruled(crate::bench::answer(n)),
+        Kind::Read => unreachable!("a `read` is answered by its line, not by its numbers"),
         Kind::Sleep | Kind::Wake => sleep::answer(case.kind, n),
         _ => rp235x::answer::answer(case),
     }

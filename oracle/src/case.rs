@@ -26,6 +26,7 @@ pub enum Kind {
     Bench,
     Sleep,
     Wake,
+    Read,
     Voltage235,
     Gpout235,
     Sheet235,
@@ -71,7 +72,7 @@ pub const ROOM: Fits = UpTo(1024);
 /// A line with more bytes is no case.
 const LONGEST: usize = 4096;
 
-pub const KINDS: [(&str, Kind); 30] = [
+pub const KINDS: [(&str, Kind); 31] = [
     ("valid", Kind::Valid),
     ("output", Kind::Output),
     ("search", Kind::Search),
@@ -94,6 +95,7 @@ pub const KINDS: [(&str, Kind); 30] = [
     ("bench", Kind::Bench),
     ("sleep", Kind::Sleep),
     ("wake", Kind::Wake),
+    ("read", Kind::Read),
     ("voltage235", Kind::Voltage235),
     ("gpout235", Kind::Gpout235),
     ("sheet235", Kind::Sheet235),
@@ -109,7 +111,7 @@ impl Kind {
         KINDS.iter().find(|(name, _)| *name == word).map(|&(_, kind)| kind)
     }
 
-    /// The numbers before a plan, or before words of hex.
+    /// The numbers before a plan, or before words of hex; `read` is not taken apart.
     pub fn numbers(self) -> &'static [Fits] {
         match self {
             Kind::Valid | Kind::Output => &[U32, U8, U16, U8, U8],
@@ -126,7 +128,7 @@ impl Kind {
             Kind::Manual => &[U8, ROOM, U32, U8, U16, U8, U8, Code],
             Kind::Run => &run::RUN_NUMBERS,
             Kind::Start => &run::START_NUMBERS,
-            Kind::Bench => &[],
+            Kind::Bench | Kind::Read => &[],
             Kind::Sleep | Kind::Wake => &SLEEP_NUMBERS,
         }
     }
@@ -220,6 +222,9 @@ impl Case {
         let mut words = line.split(' ');
         let word = words.next()?;
         let kind = Kind::of(word)?;
+        if kind == Kind::Read {
+            return Some(Case::new(kind, &[]));
+        }
         let mut words: Vec<&str> = words.collect();
         let mut bytes = Vec::new();
         if let Some(most) = run::two_words(kind) {

@@ -161,6 +161,7 @@ fn the_answers_of_limits_are_right() {
     for (line, stored) in cases.zip(include_str!("../../crates/limits/stdout").lines()) {
         match Case::parse(line) {
             None => assert_eq!(stored, "bad case", "{line}"),
+            Some(case) if case.kind == Kind::Read => assert_eq!(answer_line(line), stored, "{line}"),
             Some(case) => assert!(class(&case, &answer(&case), stored).is_some(), "{line}: {stored}"),
         }
     }
@@ -170,6 +171,18 @@ fn the_answers_of_limits_are_right() {
 fn the_book_begins_as_shown() {
     let shown = section("Program book").skip_while(|line| *line != "```").skip(1);
     assert!(shown.take(3).eq(crate::book::text().lines().take(3)));
+}
+
+#[test]
+fn the_example_of_explain_is_its_replay() {
+    let _alone = crate::tests::alone();
+    let shown = section("Program explain").skip_while(|line| *line != "```").skip(1);
+    let stored = include_str!("../../crates/explain/stdout");
+    assert!(shown.take_while(|line| *line != "```").eq(stored.lines()));
+    let (reading, hex) = include_str!("../../crates/explain/stdin").trim_end().split_once('\n').unwrap();
+    assert_eq!(answer_line(&format!("crystal {reading} 520 12000000")), format!("{} {hex}", hex.len() / 2));
+    let plan = stored.lines().last().unwrap().replace("plan", "rp2040");
+    assert_eq!(answer_line(&format!("read {reading} {hex}")), plan);
 }
 
 #[test]

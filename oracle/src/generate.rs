@@ -107,7 +107,7 @@ pub fn of_kind(r: &mut Random, kind: Kind) -> Case {
 }
 
 /// A reading and a buffer's length before the rest.
-fn with_buffer(r: &mut Random, rest: impl FnOnce(&mut Random) -> Vec<u32>) -> Vec<u32> {
+pub fn with_buffer(r: &mut Random, rest: impl FnOnce(&mut Random) -> Vec<u32>) -> Vec<u32> {
     let reading = match r.between(0, 49) {
         0..=15 => 11,
         16..=48 => r.between(0, 15),

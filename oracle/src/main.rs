@@ -22,10 +22,12 @@ mod load;
 mod margin;
 mod pac;
 mod panics;
+mod plain_reader;
 mod plain_runner;
 mod plan;
 mod random;
 mod random_plan;
+mod read;
 mod recorder;
 mod replay;
 #[cfg(test)]
@@ -66,6 +68,7 @@ mod pio_programs {
 const USAGE: &str = "oracle answer
 oracle cases SEED N
 oracle compare SEED N PROGRAM [WORD]
+oracle read SEED N PROGRAM
 oracle replay SEED N FOLDER
 oracle book
 oracle load SEED COUNT
@@ -92,6 +95,9 @@ fn main() -> ExitCode {
             })
         }
         ["book"] => print(&book::text()),
+        ["read", seed, count, program] => {
+            number(seed).zip(number(count)).map_or(usage(), |(seed, n)| read::read(seed, n as usize, program))
+        }
         ["replay", seed, count, folder] => number(seed)
             .zip(number(count))
             .map_or(usage(), |(seed, n)| replay::replay(seed, n as usize, Path::new(folder))),

@@ -3,12 +3,14 @@
 
 mod bench;
 pub mod raw;
+mod read;
 mod sleep;
 
 use core::error::Error;
 use core::fmt::{self, Display, Formatter};
 
 pub use bench::{BENCH_NUMBERS, Bench};
+pub use read::{Plan, read_sheet};
 pub use sleep::{SleepStep, SleepSteps, Slots};
 
 /// The README's examples run as tests.

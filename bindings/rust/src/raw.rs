@@ -44,6 +44,7 @@ unsafe extern "C" {
         sheet: *mut u8,
         length: usize,
     ) -> u64;
+    pub fn dizbaral_read_sheet(sheet: *const u8, length: usize, reading: u8, plan: *mut [u32; 48]) -> u64;
     pub fn dizbaral_list(input_hz: u32, target_hz: u32, list: *mut u8, length: usize) -> u64;
     pub fn dizbaral_start(
         runner: *mut [u32; 15],

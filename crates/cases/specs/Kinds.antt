@@ -17,6 +17,7 @@ use Rattle.sheet_cases.specs.Sheets.{manualText, planCount, planSheetText}
 use Rattle.run_cases.specs.Runs.{runText, startText}
 use Rattle.bench_cases.specs.Benches.{benchText}
 use Rattle.sleep_cases.specs.Sleeps.{sleepText, wakeText}
+use Rattle.read_cases.specs.Reads.{readText}
 use Rattle.cases.specs.Lists.{listText}
 use Rattle.cases.specs.declared.Kind.{Kind}
 use Rattle.cases.specs.declared.Kind.the-variants.{
@@ -42,6 +43,7 @@ use Rattle.cases.specs.declared.Kind.the-variants.{
   Bench,
   Sleep,
   Wake,
+  Read,
   Unknown,
 }
 
@@ -132,6 +134,8 @@ rowOf Bench = worded "bench" [] (λ n words. benchText words)
 -- SLOT W0 to W10, then four slots
 rowOf Sleep = plain "sleep" sleepLimits sleepText
 rowOf Wake = plain "wake" sleepLimits wakeText
+-- READING, then SHEET
+rowOf Read = worded "read" (u8 ∷ []) readText
 rowOf Unknown = nameless
 
 abbrev pub kinds : List Kind
@@ -139,7 +143,7 @@ kinds =
     Valid ∷ Output ∷ Search ∷ UsbPll ∷ Book ∷ Margin ∷ Settings ∷ Voltage Rp2040 ∷ Voltage Rp235x ∷ Pio ∷ Gpout Rp2040
     ∷ Gpout Rp235x ∷ Sheet Rp2040 ∷ Sheet Rp235x ∷ Crystal Rp2040 ∷ Crystal Rp235x ∷ Rosc Rp2040 ∷ Rosc Rp235x
     ∷ Default Rp2040 ∷ Default Rp235x ∷ System Rp2040 ∷ System Rp235x ∷ SystemFrom Rp2040 ∷ SystemFrom Rp235x
-    ∷ Manual ∷ Run ∷ Start ∷ Bench ∷ Sleep ∷ Wake ∷ []
+    ∷ Manual ∷ Run ∷ Start ∷ Bench ∷ Sleep ∷ Wake ∷ Read ∷ []
 
 abbrev pub firstNamed : List ℕ → List Kind → Kind
 firstNamed name [] = Unknown

@@ -32,7 +32,8 @@ fn where_named(name: &[u8], word: &[u8], kind: Kind, other: Kind) -> Kind
 pub(crate) fn named(name: &[u8]) -> Kind
     ensures { λ r. ⌜ r ≡ kindNamed (now (name .entry)) ⌝ }
 {
-    let from_wake = where_named(name, b"wake", Kind::Wake, Kind::Unknown);
+    let from_read = where_named(name, b"read", Kind::Read, Kind::Unknown);
+    let from_wake = where_named(name, b"wake", Kind::Wake, from_read);
     let from_sleep = where_named(name, b"sleep", Kind::Sleep, from_wake);
     let from_bench = where_named(name, b"bench", Kind::Bench, from_sleep);
     let from_start = where_named(name, b"start", Kind::Start, from_bench);
@@ -179,6 +180,7 @@ pub(crate) fn read(kind: Kind, line: &[u8], at: usize, n: &mut [u32; 64]) -> Res
         Kind::Bench => fields::read(line, at, &[], n),
         Kind::Sleep => read_sleep(line, at, n),
         Kind::Wake => read_sleep(line, at, n),
+        Kind::Read => fields::read(line, at, &[U8], n),
         Kind::Unknown => Rest::Bad,
     }
 }

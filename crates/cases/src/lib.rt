@@ -32,6 +32,7 @@ pub enum Kind {
     Bench,
     Sleep,
     Wake,
+    Read,
     Unknown,
 }
 
@@ -62,6 +63,7 @@ fn put_case(kind: Kind, n: &[u32; 64], word: &[u8], out: &mut [u8]) -> usize
         Kind::Bench => bench_cases::put_bench(word, out),
         Kind::Sleep => sleep_cases::put_sleep(n, out),
         Kind::Wake => sleep_cases::put_wake(n, out),
+        Kind::Read => read_cases::put_read(n, word, out),
         Kind::Unknown => replies::put_bad(out),
     }
 }

@@ -7,3 +7,4 @@ pub mod Run
 pub mod Bench
 pub mod Slots
 pub mod Ranges
+pub mod Read

@@ -1,6 +1,7 @@
 // The product for programs in C and Rust: numbers and slices alone. Each answer is one number, by specs/Numbers.
 mod bench;
 mod numbers;
+mod read;
 mod run;
 mod slots;
 

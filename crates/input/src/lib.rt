@@ -1,6 +1,10 @@
-// The first line of standard input, for the programs that read one.
+// The first lines of standard input, for the programs that read them.
 use libc::STDIN_FILENO;
+ghost use mathlib.Core.Path.{_≡_};
+ghost use Prim.Native.Nat.{_≤_};
+ghost use lib.Dec.{eqb};
 ghost use lib.ListN.{length};
+ghost use Rattle.base.specs.Choice.{pick};
 ghost use Rattle.input.specs.Line.{Fits};
 
 // What reading finds: so many bytes, or an error.
@@ -9,14 +13,25 @@ pub enum Line {
     Unread,
 }
 
-// Reads up to a newline, the end of the input or a full buffer, and answers how many bytes it put there. What they are
-// no contract can say.
-pub fn read_line(line: &mut [u8]) -> Line
-    ensures { λ r. ⌜ Fits r (length (now (line .exit))) ⌝ }
+// How many lines a byte ends.
+fn ends(b: u8) -> usize
+    ensures { λ r. ⌜ (r ≡ pick (eqb b 10) 1 0) × (r ≤ 1) ⌝ }
+{
+    if b == b'\n' { 1 } else { 0 }
+}
+
+// Reads so many lines, or up to the end of the input or a full buffer, and answers how many bytes it put there. What they
+// are no contract can say.
+pub fn read_lines(buffer: &mut [u8], lines: usize) -> Line
+    ensures { λ r. ⌜ Fits r (length (now (buffer .exit))) ⌝ }
 {
     let mut byte = [0u8; 1];
     let mut n = 0;
-    while n < line.len() {
+    let mut left = lines;
+    while n < buffer.len() {
+        if left == 0 {
+            return Line::Bytes(n);
+        }
         let got = libc::read(STDIN_FILENO, &mut byte);
         if got < 0 {
             return Line::Unread;
@@ -24,11 +39,15 @@ pub fn read_line(line: &mut [u8]) -> Line
         if got == 0 {
             return Line::Bytes(n);
         }
-        line[n] = byte[0];
+        buffer[n] = byte[0];
         n += 1;
-        if byte[0] == b'\n' {
-            return Line::Bytes(n);
-        }
+        left -= ends(byte[0]);
     }
     Line::Bytes(n)
+}
+
+pub fn read_line(line: &mut [u8]) -> Line
+    ensures { λ r. ⌜ Fits r (length (now (line .exit))) ⌝ }
+{
+    read_lines(line, 1)
 }

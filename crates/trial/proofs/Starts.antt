@@ -17,7 +17,7 @@ take-none : (m : ℕ) → _≡_ {A = List ℕ} [] (take m [])
 take-none zero = refl
 take-none (suc m) = refl
 
-drop-take : (k n : ℕ) (s : List ℕ) → drop k (take n s) ≡ take (n - k) (drop k s)
+pub drop-take : (k n : ℕ) (s : List ℕ) → drop k (take n s) ≡ take (n - k) (drop k s)
 drop-take zero n s = let same : n ≡ n - 0 = omega arith in ap (λ (m : ℕ). take m s) same
 drop-take (suc k) zero s =
     let same : 0 ≡ 0 - suc k = omega arith in ap (λ (m : ℕ). take m (drop (suc k) s)) same

@@ -22,6 +22,7 @@ use Rattle.cases.specs.declared.Kind.the-variants.{
   Start,
   Bench,
   Sleep,
+  Wake,
 }
 use Rattle.cases.proofs.Named.{or-named}
 use borrow.Author.Needs.{needs}
@@ -43,38 +44,39 @@ returns c =
     let system-235 = system .before .before in let system-from = system-235 .before .before in
     let system-from-235 = system-from .before .before in let manual = system-from-235 .before .before in
     let run = manual .before .before in let start = run .before .before in let bench = start .before .before in
-    let sleep = bench .before .before in let wake = sleep .before .before in
-    let name = wake .before .before .before .args .name .now in
-    or-named name Valid (c .where-named30 .ensures)
-    (or-named name Output (output .where-named29 .ensures)
-    (or-named name Search (search .where-named28 .ensures)
-    (or-named name UsbPll (usb-pll .where-named27 .ensures)
-    (or-named name Book (book .where-named26 .ensures)
-    (or-named name Margin (margin .where-named25 .ensures)
-    (or-named name Settings (settings .where-named24 .ensures)
-    (or-named name (Voltage Rp2040) (voltage .where-named23 .ensures)
-    (or-named name (Voltage Rp235x) (voltage-235 .where-named22 .ensures)
-    (or-named name Pio (pio .where-named21 .ensures)
-    (or-named name (Gpout Rp2040) (gpout .where-named20 .ensures)
-    (or-named name (Gpout Rp235x) (gpout-235 .where-named19 .ensures)
-    (or-named name (Sheet Rp2040) (sheet .where-named18 .ensures)
-    (or-named name (Sheet Rp235x) (sheet-235 .where-named17 .ensures)
-    (or-named name (Crystal Rp2040) (crystal .where-named16 .ensures)
-    (or-named name (Crystal Rp235x) (crystal-235 .where-named15 .ensures)
-    (or-named name (Rosc Rp2040) (rosc .where-named14 .ensures)
-    (or-named name (Rosc Rp235x) (rosc-235 .where-named13 .ensures)
-    (or-named name (Default Rp2040) (default .where-named12 .ensures)
-    (or-named name (Default Rp235x) (default-235 .where-named11 .ensures)
-    (or-named name (System Rp2040) (system .where-named10 .ensures)
-    (or-named name (System Rp235x) (system-235 .where-named9 .ensures)
-    (or-named name (SystemFrom Rp2040) (system-from .where-named8 .ensures)
-    (or-named name (SystemFrom Rp235x) (system-from-235 .where-named7 .ensures)
-    (or-named name Manual (manual .where-named6 .ensures)
-    (or-named name Run (run .where-named5 .ensures)
-    (or-named name Start (start .where-named4 .ensures)
-    (or-named name Bench (bench .where-named3 .ensures)
-    (or-named name Sleep (sleep .where-named2 .ensures)
-    (wake .where-named .ensures)))))))))))))))))))))))))))))
+    let sleep = bench .before .before in let wake = sleep .before .before in let read = wake .before .before in
+    let name = read .before .before .before .args .name .now in
+    or-named name Valid (c .where-named31 .ensures)
+    (or-named name Output (output .where-named30 .ensures)
+    (or-named name Search (search .where-named29 .ensures)
+    (or-named name UsbPll (usb-pll .where-named28 .ensures)
+    (or-named name Book (book .where-named27 .ensures)
+    (or-named name Margin (margin .where-named26 .ensures)
+    (or-named name Settings (settings .where-named25 .ensures)
+    (or-named name (Voltage Rp2040) (voltage .where-named24 .ensures)
+    (or-named name (Voltage Rp235x) (voltage-235 .where-named23 .ensures)
+    (or-named name Pio (pio .where-named22 .ensures)
+    (or-named name (Gpout Rp2040) (gpout .where-named21 .ensures)
+    (or-named name (Gpout Rp235x) (gpout-235 .where-named20 .ensures)
+    (or-named name (Sheet Rp2040) (sheet .where-named19 .ensures)
+    (or-named name (Sheet Rp235x) (sheet-235 .where-named18 .ensures)
+    (or-named name (Crystal Rp2040) (crystal .where-named17 .ensures)
+    (or-named name (Crystal Rp235x) (crystal-235 .where-named16 .ensures)
+    (or-named name (Rosc Rp2040) (rosc .where-named15 .ensures)
+    (or-named name (Rosc Rp235x) (rosc-235 .where-named14 .ensures)
+    (or-named name (Default Rp2040) (default .where-named13 .ensures)
+    (or-named name (Default Rp235x) (default-235 .where-named12 .ensures)
+    (or-named name (System Rp2040) (system .where-named11 .ensures)
+    (or-named name (System Rp235x) (system-235 .where-named10 .ensures)
+    (or-named name (SystemFrom Rp2040) (system-from .where-named9 .ensures)
+    (or-named name (SystemFrom Rp235x) (system-from-235 .where-named8 .ensures)
+    (or-named name Manual (manual .where-named7 .ensures)
+    (or-named name Run (run .where-named6 .ensures)
+    (or-named name Start (start .where-named5 .ensures)
+    (or-named name Bench (bench .where-named4 .ensures)
+    (or-named name Sleep (sleep .where-named3 .ensures)
+    (or-named name Wake (wake .where-named2 .ensures)
+    (read .where-named .ensures))))))))))))))))))))))))))))))
 
 pub named-spec : {M : Type 1} → statement M
 named-spec =
@@ -91,4 +93,4 @@ named-spec =
     (λ c. search needs) (λ c κs. search needs) (λ c. search needs) (λ c κs. search needs) (λ c. search needs)
     (λ c κs. search needs) (λ c. search needs) (λ c κs. search needs) (λ c. search needs) (λ c κs. search needs)
     (λ c. search needs) (λ c κs. search needs) (λ c. search needs) (λ c κs. search needs) (λ c. search needs)
-    (λ c κs. search needs) returns)
+    (λ c κs. search needs) (λ c. search needs) (λ c κs. search needs) returns)

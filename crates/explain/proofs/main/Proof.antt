@@ -1,0 +1,15 @@
+-- `explain::main` meets its contract. Assumes nothing.
+use mathlib.Core.Path.{sym}
+use borrow.Author.Needs.{needs}
+use lib.Seq.{length-take-le}
+use Rattle.explain.proofs.main.Statement.{statement}
+use Rattle.explain.proofs.main.Tie as tie
+
+pub main-spec : {M : Type 1} → statement M
+main-spec =
+    tie.close
+    (tie.spec (λ c. search needs) (λ c κs. search needs) (λ c. search needs) (λ c κs. search needs) (λ c. search needs)
+    (λ c. sym (length-take-le _ _ (c .before .explain .ensures .fits))) (λ c κs. search needs) (λ c. search needs)
+    (λ c κs. search needs) (λ c. search needs)
+    (λ c. sym (length-take-le _ _ (c .before .unread .ensures .fits))) (λ c κs. search needs) (λ c. search needs)
+    (λ c. search needs))

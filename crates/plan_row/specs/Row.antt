@@ -1,0 +1,94 @@
+-- A plan as numbers in a row, as cases have it (docs/CASES.md): each part's in order, those of a part that may be absent
+-- behind a flag, 0 where it is absent.
+-- Assumes nothing.
+use mathlib.Core.List.{List, [], _∷_, _++_}
+use Prim.Native.Nat.{ℕ}
+use Rattle.config.specs.declared.OptionRosc.{OptionRosc}
+use Rattle.config.specs.declared.OptionXosc.{OptionXosc}
+use Rattle.config.specs.declared.OptionPll.{OptionPll}
+use Rattle.config.specs.declared.OptionU32.{OptionU32}
+use Rattle.config.specs.declared.OptionPeri.{OptionPeri}
+use Rattle.config.specs.declared.OptionAux.{OptionAux}
+use Rattle.config.specs.declared.OptionRtc.{OptionRtc}
+use Rattle.config.specs.declared.RefClkConfig.{RefClkConfig}
+use Rattle.config.specs.declared.SysClkSrc.{SysClkSrc}
+use Rattle.config.specs.declared.ChipConfig.{ChipConfig}
+use Rattle.config.specs.declared.ClockConfig.{ClockConfig}
+use Rattle.config.specs.Board.{boardOf}
+use Rattle.settings.specs.Codes.{rangeCode, refCode, periAux, auxCode}
+
+-- Hz, range, eight strengths, divider
+abbrev pub ringRow : OptionRosc → List ℕ
+ringRow (OptionRosc.Some r) =
+    1 ∷ r .hz ∷ rangeCode (r .range)
+    ∷ r .«drive_strength» .s0 ∷ r .«drive_strength» .s1 ∷ r .«drive_strength» .s2 ∷ r .«drive_strength» .s3
+    ∷ r .«drive_strength» .s4 ∷ r .«drive_strength» .s5 ∷ r .«drive_strength» .s6 ∷ r .«drive_strength» .s7
+    ∷ r .div ∷ []
+ringRow OptionRosc.None = 0 ∷ 0 ∷ 0 ∷ 0 ∷ 0 ∷ 0 ∷ 0 ∷ 0 ∷ 0 ∷ 0 ∷ 0 ∷ 0 ∷ []
+
+-- Hz, multiplier
+abbrev pub crystalRow : OptionXosc → List ℕ
+crystalRow (OptionXosc.Some x) = 1 ∷ x .hz ∷ x .«delay_multiplier» ∷ []
+crystalRow OptionXosc.None = 0 ∷ 0 ∷ 0 ∷ []
+
+-- with no crystal there is no PLL
+abbrev pub sysPllIn : OptionXosc → OptionPll
+sysPllIn (OptionXosc.Some x) = x .«sys_pll»
+sysPllIn OptionXosc.None = OptionPll.None
+
+abbrev pub usbPllIn : OptionXosc → OptionPll
+usbPllIn (OptionXosc.Some x) = x .«usb_pll»
+usbPllIn OptionXosc.None = OptionPll.None
+
+-- four dividers
+abbrev pub pllRow : OptionPll → List ℕ
+pllRow (OptionPll.Some p) = 1 ∷ p .refdiv ∷ p .fbdiv ∷ p .«post_div1» ∷ p .«post_div2» ∷ []
+pllRow OptionPll.None = 0 ∷ 0 ∷ 0 ∷ 0 ∷ 0 ∷ []
+
+unfoldable pub oscillatorRow : OptionRosc → OptionXosc → List ℕ
+oscillatorRow r x = ringRow r ++ (crystalRow x ++ (pllRow (sysPllIn x) ++ pllRow (usbPllIn x)))
+
+-- voltage code; whether a settling time is given, and it; source and divider of the reference
+abbrev pub firstRow : ℕ → OptionU32 → RefClkConfig → List ℕ
+firstRow code (OptionU32.Some time) c = code ∷ 1 ∷ time ∷ refCode (c .src) ∷ c .div ∷ []
+firstRow code OptionU32.None c = code ∷ 0 ∷ 0 ∷ refCode (c .src) ∷ c .div ∷ []
+
+-- 0 is the reference, then the auxiliary sources
+abbrev pub sysCode : SysClkSrc → ℕ
+sysCode SysClkSrc.Ref = 0
+sysCode SysClkSrc.PllSys = 1
+sysCode SysClkSrc.PllUsb = 2
+sysCode SysClkSrc.Rosc = 3
+sysCode SysClkSrc.Xosc = 4
+
+-- source, whole part, fraction
+abbrev pub sysRow : SysClkSrc → ℕ → ℕ → List ℕ
+sysRow src whole fraction = sysCode src ∷ whole ∷ fraction ∷ []
+
+abbrev pub periRow : OptionPeri → List ℕ
+periRow (OptionPeri.Some src) = 1 ∷ periAux src ∷ []
+periRow OptionPeri.None = 0 ∷ 0 ∷ []
+
+-- source, divider, phase
+abbrev pub auxRow : OptionAux → List ℕ
+auxRow (OptionAux.Some a) = 1 ∷ auxCode (a .src) ∷ a .div ∷ a .phase ∷ []
+auxRow OptionAux.None = 0 ∷ 0 ∷ 0 ∷ 0 ∷ []
+
+unfoldable pub clockRow : ClockConfig → List ℕ
+clockRow p =
+    firstRow (boardOf (p .chip) .code) (p .«voltage_stabilization_delay_us») (p .«ref_clk»)
+    ++ (sysRow (p .«sys_clk_src») (boardOf (p .chip) .whole) (boardOf (p .chip) .fraction)
+    ++ (periRow (p .«peri_clk_src») ++ (auxRow (p .«usb_clk») ++ auxRow (p .«adc_clk»))))
+
+-- source, whole part, fraction, phase
+abbrev pub rtcRow : OptionRtc → List ℕ
+rtcRow (OptionRtc.Some r) = 1 ∷ auxCode (r .src) ∷ r .«div_int» ∷ r .«div_frac» ∷ r .phase ∷ []
+rtcRow OptionRtc.None = 0 ∷ 0 ∷ 0 ∷ 0 ∷ 0 ∷ []
+
+-- a plan of the RP235x has none
+abbrev pub rtcNumbers : ChipConfig → List ℕ
+rtcNumbers (ChipConfig.Rp2040 c) = rtcRow (c .«rtc_clk»)
+rtcNumbers (ChipConfig.Rp235x c) = []
+
+unfoldable pub planRow : ClockConfig → List ℕ
+planRow p = oscillatorRow (p .rosc) (p .xosc) ++ (clockRow p ++ rtcNumbers (p .chip))

@@ -1,0 +1,11 @@
+pub mod Same
+pub mod Voltages
+pub mod Numbers
+pub mod Unique
+pub mod Decoded
+pub mod Fixed
+pub mod Canonical
+pub mod Parts
+pub mod Kept
+pub mod Right
+pub mod Examples

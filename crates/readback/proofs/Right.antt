@@ -1,0 +1,166 @@
+-- What is answered is what the law asks for, and nothing else is: `readback-one`.
+-- Assumes nothing.
+use mathlib.Core.Path.{_≡_, refl, sym, ap, _∙_}
+use mathlib.Core.Bool.{Bool, true, false}
+use mathlib.Core.List.{List, _++_}
+use Prim.Native.Nat.{ℕ, _%_, _^_, _≤_, _<_}
+use native.Mathlib.Nat.{mod-lt}
+use lib.Pow.{pow-pos}
+use native.Mathlib.Omega.{arith}
+use lib.Dec.{eqb, ltb}
+use borrow.Author.Tests.{eqb-true, eq-eqb, ltb-true, ltb-false}
+use Rattle.base.specs.Choice.{pick}
+use Rattle.base.specs.Answer.{Answer, value, refusal}
+use Rattle.base.proofs.Bools.{both-true}
+use Rattle.text.specs.Ascii.{same}
+use Rattle.text.proofs.Same.{same-true}
+use Rattle.readback.proofs.Same.{same-refl}
+use Rattle.config.specs.declared.ClockConfig.{ClockConfig}
+use Rattle.config.specs.declared.OptionRosc.{OptionRosc}
+use Rattle.config.specs.declared.OptionRosc.the-variants.{Some as ring, None as noRing}
+use Rattle.chip.specs.declared.Chip.{Chip}
+use Rattle.chip.specs.declared.Chip.the-variants.{Rp2040, Rp235x}
+use Rattle.chip.specs.Chips.{factsOf}
+use Rattle.config.specs.Board.{boardOf}
+use Rattle.config.specs.declared.ChipConfig.{ChipConfig}
+use Rattle.config.specs.declared.ChipConfig.the-variants.{Rp2040 as on2040, Rp235x as on235x}
+use Rattle.config.specs.declared.OptionRtc.{OptionRtc}
+use Rattle.config.specs.declared.OptionRtc.the-variants.{Some as rtc, None as noRtc}
+use Rattle.settings.specs.declared.OptionCrystal.{OptionCrystal}
+use Rattle.settings.specs.declared.OptionCrystal.the-variants.{Some as crystal, None as noCrystal}
+use Rattle.settings.specs.declared.Settings.{Settings}
+use Rattle.settings.specs.Settings.{crystalOf, ringHz, settingsOf}
+use Rattle.settings.specs.Frequencies.{sourcesOf, boardIn}
+use Rattle.settings.specs.Typed.{RtcTyped, Typed}
+use Rattle.refusals.proofs.Accepted.{accepted-by}
+use Rattle.sheet.proofs.Stores.{ring-source}
+use Rattle.refusals.specs.Refusals.{Accepted}
+use Rattle.step.specs.declared.Step.{Step}
+use Rattle.sheet.specs.Steps.{markSteps, headPart, stepsWith, stepsOf}
+use Rattle.sheet.specs.Read.{readChip}
+use Rattle.sheet.specs.Writer.{sheetBytes, refusalIn}
+use Rattle.sheet.proofs.Demand3.{same-sheets}
+use Rattle.readback.specs.Steps.{valueIn, stepsIn, topReading}
+use Rattle.readback.specs.Cut.{cutRing, cutCrystal, cutRtc, cutChip, cutSettings}
+use Rattle.readback.specs.Plan.{xoscFor, planOf}
+use Rattle.readback.specs.Law.{Gives, ReadBack, over, none, back}
+use Rattle.readback.specs.Read.{planIn, gives, readOf}
+use Rattle.readback.proofs.Canonical.{steps-in, plan-in, gives-in, back-in}
+use Rattle.readback.proofs.Unique.{readback-one}
+
+-- the numbers that were cut are of their types
+few : (w x : ℕ) → x % 2 ^ w < 2 ^ w
+few w x = mod-lt x (pow-pos w)
+
+ring-typed : (o : OptionRosc) → ringHz (cutRing o) < 2 ^ 32
+ring-typed (ring r) = few 32 (r .hz)
+ring-typed noRing = omega arith
+
+crystal-typed : (r : OptionRosc) (o : OptionCrystal) → sourcesOf r (crystalOf (xoscFor (cutCrystal o))) .xosc < 2 ^ 32
+unfolding sourcesOf
+crystal-typed r (crystal x) = few 32 (x .hz)
+crystal-typed r noCrystal = omega arith
+
+rtc-typed : (o : OptionRtc) → RtcTyped (cutRtc o)
+rtc-typed (rtc r) = few 8 (r .«div_frac»)
+rtc-typed noRtc = tt
+
+chip-typed : (c : ChipConfig) → (boardOf (cutChip c) .fraction < factsOf (boardOf (cutChip c) .chip) .scale)
+    × RtcTyped (boardOf (cutChip c) .rtc)
+chip-typed (on2040 c) = (few 8 (c .«div_frac»), rtc-typed (c .«rtc_clk»))
+chip-typed (on235x c) = (few 16 (c .«div_frac»), tt)
+
+plan-typed : (s : Settings) (reading : ℕ) → Typed (settingsOf (planOf (cutSettings s)) reading)
+unfolding planOf cutSettings
+plan-typed s reading =
+    record {
+      rosc = rw (ring-source (cutRing (s .rosc)) (crystalOf (xoscFor (cutCrystal (s .xosc))))) (ring-typed (s .rosc));
+      xosc = crystal-typed (cutRing (s .rosc)) (s .xosc);
+      fraction = chip-typed (s .chip) .0;
+      rtc = chip-typed (s .chip) .1;
+    }
+
+module _ (sheet : List ℕ) (reading : ℕ) where
+  typed-in : Typed (settingsOf (planIn sheet reading) reading)
+  unfolding planIn
+  typed-in = plan-typed _ reading
+
+  gives-true : (p : ClockConfig) → Typed (settingsOf p reading) → gives sheet reading p ≡ true → Gives sheet reading p
+  unfolding gives
+  gives-true p t e =
+      let both = both-true _ _ e in
+      record {
+        typed = t;
+        accepted = eqb-true (refusalIn p reading) 0 (both .0);
+        bytes = same-true (sheetBytes p reading) sheet (both .1);
+      }
+
+  true-gives : (p : ClockConfig) → Gives sheet reading p → gives sheet reading p ≡ true
+  unfolding gives
+  true-gives p g = rw (eq-eqb _ _ (g .accepted), g .bytes) (same-refl sheet)
+
+  -- the answer is what the request asks for
+  pub read-right : ReadBack sheet reading (readOf sheet reading)
+  unfolding readOf
+  read-right = go (ltb (topReading sheet) reading) (gives sheet reading (planIn sheet reading)) refl refl
+    where
+      go : (b g : Bool) → ltb (topReading sheet) reading ≡ b → gives sheet reading (planIn sheet reading) ≡ g
+          → ReadBack sheet reading (pick b (refusal 18) (pick g (value (planIn sheet reading)) (refusal 26)))
+      go true g e h = over (ltb-true (topReading sheet) reading e)
+      go false true e h = back (planIn sheet reading) (ltb-false (topReading sheet) reading e) (back-in (gives-true (planIn sheet reading) typed-in h))
+      go false false e h =
+          none (ltb-false (topReading sheet) reading e)
+          (λ q g.
+          let t : gives sheet reading (planIn sheet reading) ≡ true = true-gives (planIn sheet reading) (gives-in q g) in
+          let z : _≡_ {A = ℕ} 0 1 = cc in
+          omega arith)
+
+  -- and nothing else is
+  pub read-only : (a : Answer ClockConfig) → ReadBack sheet reading a → a ≡ readOf sheet reading
+  read-only a l = readback-one l read-right
+
+mark-there : (chip : Chip) (ys : List Step) → valueIn (readChip (markSteps chip ++ (headPart chip ++ ys))) ≡ chip
+unfolding headPart
+mark-there Rp2040 ys = refl
+mark-there Rp235x ys = refl
+
+chip-there : (reading : ℕ) (s : Settings) → valueIn (readChip (stepsOf reading s)) ≡ boardIn s .chip
+unfolding stepsWith
+chip-there reading s = mark-there (boardIn s .chip) _
+
+top-there : {sheet : List ℕ} {reading : ℕ} {q : ClockConfig} → Gives sheet reading q
+    → topReading sheet ≡ factsOf (boardOf (q .chip) .chip) .«top_reading»
+unfolding topReading
+top-there {sheet} {reading} {q} g =
+    ap (λ (xs : List Step). factsOf (valueIn (readChip xs)) .«top_reading») (steps-in g)
+    ∙ ap (λ (k : Chip). factsOf k .«top_reading») (chip-there reading (settingsOf q reading))
+
+-- a sheet that an accepted plan gives is never answered with 18
+in-reach : {sheet : List ℕ} {reading : ℕ} {q : ClockConfig} → Gives sheet reading q → reading ≤ topReading sheet
+in-reach {sheet} {reading} {q} g =
+    let s : Settings = settingsOf q reading in
+    rw (top-there g) (ltb-false (factsOf (boardIn s .chip) .«top_reading») reading (accepted-by s reading (g .accepted) 18))
+
+-- the sheet of an accepted plan is read back to the plan of its settings
+pub written-read : (q : ClockConfig) (reading : ℕ) → Typed (settingsOf q reading) → Accepted q reading
+    → readOf (sheetBytes q reading) reading ≡ value (planOf (settingsOf q reading))
+written-read q reading t ok =
+    let g : Gives (sheetBytes q reading) reading q = record { typed = t; accepted = ok; bytes = refl } in
+    sym (read-only (sheetBytes q reading) reading _ (back _ (in-reach g) (back-in (gives-in q g)))) ∙ ap value (plan-in g)
+
+-- a plan that is answered gives the sheet
+pub read-gives : {sheet : List ℕ} {reading : ℕ} {p : ClockConfig} → readOf sheet reading ≡ value p → Gives sheet reading p
+read-gives {sheet} {reading} {p} e = of-back (rw e at (read-right sheet reading))
+  where
+    of-back : ReadBack sheet reading (value p) → Gives sheet reading p
+    of-back (back p h b) = b .gives
+
+-- so a sheet that differs anywhere is read back to a plan of other settings, or refused: plans of the same settings come
+-- from the same bytes
+pub other-bytes : (sheet other : List ℕ) (reading : ℕ) (p q : ClockConfig)
+    → readOf sheet reading ≡ value p → readOf other reading ≡ value q
+    → settingsOf p reading ≡ settingsOf q reading → sheet ≡ other
+other-bytes sheet other reading p q e f s =
+    let g = read-gives e in
+    let h = read-gives f in
+    sym (g .bytes) ∙ same-sheets p q reading (g .typed) (h .typed) (g .accepted) (h .accepted) .1 s ∙ h .bytes

@@ -1,0 +1,82 @@
+-- The law of reading back leaves no choice.
+-- Assumes nothing.
+use mathlib.Core.Path.{_≡_, refl, sym, ap, _∙_}
+use mathlib.Core.List.{List}
+use Prim.Native.Nat.{ℕ, _≤_, _<_}
+use native.Mathlib.Omega.{arith}
+use Rattle.base.specs.Answer.{Answer, value, refusal}
+use Rattle.config.specs.declared.ClockConfig.{ClockConfig}
+use Rattle.config.specs.declared.OptionXosc.{OptionXosc}
+use Rattle.config.specs.declared.OptionXosc.the-variants.{Some as xosc, None as noXosc}
+use Rattle.config.specs.declared.OptionU32.{OptionU32}
+use Rattle.config.specs.declared.OptionPll.{OptionPll}
+use Rattle.config.specs.declared.OptionPll.the-variants.{None as noPll}
+use Rattle.settings.specs.declared.Crystal.{Crystal}
+use Rattle.settings.specs.declared.OptionCrystal.{OptionCrystal}
+use Rattle.settings.specs.declared.OptionCrystal.the-variants.{Some as crystal, None as noCrystal}
+use Rattle.settings.specs.declared.Settings.{Settings}
+use Rattle.config.specs.declared.OptionU32.the-variants.{Some as given}
+use Rattle.settings.specs.Settings.{crystalOf, settingsOf}
+use Rattle.sheet.proofs.Demand3.{same-sheets}
+use Rattle.readback.specs.Law.{Gives, multiplierIn, timeOf, Back, ReadBack, over, none, back}
+
+-- the crystal that is there; any where there is none
+crystalIn : OptionCrystal → Crystal
+crystalIn (crystal x) = x
+crystalIn noCrystal = record { hz = 0; delay = 0; sys = noPll; usb = noPll }
+
+made : ℕ → OptionPll → OptionPll → ℕ → OptionXosc
+made hz sys usb m = xosc (record { hz = hz; «sys_pll» = sys; «usb_pll» = usb; «delay_multiplier» = m })
+
+made-same : {a b m n : ℕ} {s t u v : OptionPll} → a ≡ b → s ≡ t → u ≡ v → m ≡ n → made a s u m ≡ made b t v n
+made-same h i j k = cc
+
+same-xosc : (x y : OptionXosc) → crystalOf x ≡ crystalOf y → multiplierIn x ≡ multiplierIn y → x ≡ y
+unfolding crystalIn made
+same-xosc (xosc x) (xosc y) e m =
+    made-same (ap (λ (o : OptionCrystal). crystalIn o .hz) e) (ap (λ (o : OptionCrystal). crystalIn o .sys) e)
+    (ap (λ (o : OptionCrystal). crystalIn o .usb) e) m
+same-xosc (xosc x) noXosc e m = let z : _≡_ {A = ℕ} 0 1 = cc in absurd (omega arith)
+same-xosc noXosc (xosc y) e m = let z : _≡_ {A = ℕ} 0 1 = cc in absurd (omega arith)
+same-xosc noXosc noXosc e m = refl
+
+-- a plan of its settings, its crystal and its time
+planned : Settings → OptionXosc → OptionU32 → ClockConfig
+planned s x t =
+    record {
+      chip = s .chip;
+      rosc = s .rosc;
+      xosc = x;
+      «ref_clk» = s .reference;
+      «sys_clk_src» = s .sys;
+      «peri_clk_src» = s .peri;
+      «usb_clk» = s .usb;
+      «adc_clk» = s .adc;
+      «voltage_stabilization_delay_us» = t;
+    }
+
+planned-same : {r s : Settings} {x y : OptionXosc} {t u : OptionU32} → r ≡ s → x ≡ y → t ≡ u → planned r x t ≡ planned s y u
+planned-same h i j = cc
+
+one-plan : {sheet : List ℕ} {reading : ℕ} {p q : ClockConfig} → Back sheet reading p → Back sheet reading q → p ≡ q
+unfolding planned
+one-plan {sheet} {reading} {p} {q} a b =
+    let s : settingsOf p reading ≡ settingsOf q reading =
+    same-sheets p q reading (a .gives .typed) (b .gives .typed) (a .gives .accepted) (b .gives .accepted) .0
+    (a .gives .bytes ∙ sym (b .gives .bytes)) in
+    let time : timeOf p ≡ timeOf q = omega (arith, a .time q (b .gives), b .time p (a .gives)) in
+    let x : p .xosc ≡ q .xosc =
+    same-xosc (p .xosc) (q .xosc) (ap (λ (s : Settings). s .xosc) s)
+    (omega (arith, a .multiplier q (b .gives), b .multiplier p (a .gives))) in
+    planned-same s x (a .is-given ∙ ap given time ∙ sym (b .is-given))
+
+pub readback-one : {sheet : List ℕ} {reading : ℕ} {a b : Answer ClockConfig} → ReadBack sheet reading a → ReadBack sheet reading b → a ≡ b
+readback-one (over h) (over l) = refl
+readback-one (over h) (none l n) = absurd (omega arith)
+readback-one (over h) (back q l b) = absurd (omega arith)
+readback-one (none h n) (over l) = absurd (omega arith)
+readback-one (none h n) (none l m) = refl
+readback-one (none h n) (back q l b) = absurd (n q (b .gives))
+readback-one (back p h a) (over l) = absurd (omega arith)
+readback-one (back p h a) (none l n) = absurd (n p (a .gives))
+readback-one (back p h a) (back q l b) = ap value (one-plan a b)

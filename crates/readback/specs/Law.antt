@@ -1,0 +1,50 @@
+-- What reading a sheet back answers, in the request's words. The law leaves no choice: `readback-one` in the proofs.
+-- Assumes nothing.
+use mathlib.Core.Path.{_≡_}
+use mathlib.Core.List.{List}
+use Prim.Native.Nat.{ℕ, _≤_, _<_}
+use Rattle.base.specs.Answer.{Answer, value, refusal}
+use Rattle.config.specs.declared.ClockConfig.{ClockConfig}
+use Rattle.config.specs.declared.OptionXosc.{OptionXosc}
+use Rattle.config.specs.declared.OptionXosc.the-variants.{Some as xosc, None as noXosc}
+use Rattle.config.specs.declared.OptionU32.the-variants.{Some as given}
+use Rattle.settings.specs.declared.OptionCycles.the-variants.{None as noCycles}
+use Rattle.config.specs.Board.{boardOf}
+use Rattle.settings.specs.Settings.{settlingTime, settingsOf}
+use Rattle.settings.specs.Typed.{Typed}
+use Rattle.refusals.specs.Refusals.{Accepted}
+use Rattle.sheet.specs.Writer.{sheetBytes}
+use Rattle.readback.specs.Steps.{topReading}
+
+-- a plan, with numbers of their types, that is accepted at the reading and written to exactly these bytes
+pub record Gives (sheet : List ℕ) (reading : ℕ) (p : ClockConfig) : Type 0 where
+  pub typed : Typed (settingsOf p reading)
+  pub accepted : Accepted p reading
+  pub bytes : sheetBytes p reading ≡ sheet
+
+-- a plan's delay multiplier; with no crystal there is none, which counts as 0
+abbrev pub multiplierIn : OptionXosc → ℕ
+multiplierIn (xosc x) = x .«delay_multiplier»
+multiplierIn noXosc = 0
+
+abbrev pub multiplierOf : ClockConfig → ℕ
+multiplierOf p = multiplierIn (p .xosc)
+
+-- a plan's settling time, given or the voltage's
+abbrev pub timeOf : ClockConfig → ℕ
+timeOf p = settlingTime (p .«voltage_stabilization_delay_us») (boardOf (p .chip) .«settling_us»)
+
+-- the plan that comes back: it gives the bytes, with the smallest multiplier and the smallest time of all plans that do.
+-- The time is a given one, 0 where there is no settling step
+pub record Back (sheet : List ℕ) (reading : ℕ) (p : ClockConfig) : Type 0 where
+  pub gives : Gives sheet reading p
+  pub multiplier : (q : ClockConfig) → Gives sheet reading q → multiplierOf p ≤ multiplierOf q
+  pub time : (q : ClockConfig) → Gives sheet reading q → timeOf p ≤ timeOf q
+  pub is-given : p .«voltage_stabilization_delay_us» ≡ given (timeOf p)
+  pub still : settingsOf p reading .settling ≡ noCycles → timeOf p ≡ 0
+
+-- 18: reading over the greatest of the sheet's chip, 15 or 31; 26: no accepted plan gives these bytes for this reading; else the plan
+pub data ReadBack (sheet : List ℕ) (reading : ℕ) : Answer ClockConfig → Type 0 where
+  over : topReading sheet < reading → ReadBack sheet reading (refusal 18)
+  none : reading ≤ topReading sheet → ((p : ClockConfig) → Gives sheet reading p → ⊥) → ReadBack sheet reading (refusal 26)
+  back : (p : ClockConfig) → reading ≤ topReading sheet → Back sheet reading p → ReadBack sheet reading (value p)

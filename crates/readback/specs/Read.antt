@@ -1,0 +1,29 @@
+-- What reading a sheet back answers, as it is found: the plan that the bytes would be of, kept where it is written to them.
+-- That it is what the law asks for is `read-right` in the proofs.
+-- Assumes nothing.
+use mathlib.Core.Bool.{Bool, _&&_}
+use mathlib.Core.List.{List}
+use Prim.Native.Nat.{ℕ}
+use lib.Dec.{eqb, ltb}
+use Rattle.base.specs.Choice.{pick}
+use Rattle.base.specs.Answer.{Answer, value, refusal}
+use Rattle.text.specs.Ascii.{same}
+use Rattle.config.specs.declared.ClockConfig.{ClockConfig}
+use Rattle.sheet.specs.Read.{settingsFrom}
+use Rattle.sheet.specs.Writer.{sheetBytes, refusalIn}
+use Rattle.readback.specs.Steps.{stepsIn, topReading}
+use Rattle.readback.specs.Cut.{cutSettings}
+use Rattle.readback.specs.Plan.{planOf}
+
+-- the plan made of what the bytes hold
+unfoldable pub planIn : List ℕ → ℕ → ClockConfig
+planIn sheet reading = planOf (cutSettings (settingsFrom reading (stepsIn sheet)))
+
+-- a plan is accepted and written to the bytes
+unfoldable pub gives : List ℕ → ℕ → ClockConfig → Bool
+gives sheet reading p = eqb (refusalIn p reading) 0 && same (sheetBytes p reading) sheet
+
+unfoldable pub readOf : List ℕ → ℕ → Answer ClockConfig
+readOf sheet reading =
+    pick (ltb (topReading sheet) reading) (refusal 18)
+    (pick (gives sheet reading (planIn sheet reading)) (value (planIn sheet reading)) (refusal 26))

@@ -1,0 +1,13 @@
+-- `wording::form::put_bytes` meets its contract. Assumes nothing.
+use native.Mathlib.Omega.{arith}
+use borrow.Author.Needs.{needs}
+use Rattle.wording.proofs.form.put_bytes.Statement.{statement}
+use Rattle.wording.proofs.form.put_bytes.Tie as tie
+
+returns : tie.Need-returns
+returns c = record { placed = c .before .before .put-bytes .ensures; short = omega arith }
+
+pub put-bytes-spec : {M : Type 1} → statement M
+put-bytes-spec =
+    tie.close
+    (tie.spec (λ c κs. search needs) (λ c. search needs) returns)

@@ -1,0 +1,5 @@
+pub mod Form
+pub mod Names
+pub mod Lines
+pub mod Words
+pub mod Explain
