@@ -41,3 +41,7 @@ placed-append {xs} {ys} {zs} {at} {n} {m} {cs} {bs} p q = record {
       simp length-append (omega arith);
   bytes = rw (q .bytes, p .bytes, p .index) (sets-run cs xs at bs);
 }
+
+-- where the buffer has ended a byte is dropped
+pub placed-none : {xs : List ℕ} {at b : ℕ} → length xs ≤ at → Placed xs at (b ∷ []) (length xs) xs
+placed-none {xs} {at} {b} out = record { index = omega arith; bytes = sym (set-out xs at b out) }

@@ -1,7 +1,11 @@
-// What the crates share: answers, division and subtraction that always answer, a range test, and the choice of a refusal's number.
+// What the crates share: answers, division and subtraction that always answer, a range test, the choice of a refusal's number,
+// the start of a slice, and numbers put into a row.
+ghost use mathlib.Core.List.{[], _∷_};
 ghost use mathlib.Core.Path.{_≡_};
 ghost use Prim.Native.Nat.{_/_, _-_, _≤_, min};
+ghost use lib.ListN.{take};
 ghost use Rattle.base.specs.Choice.{pick, bit, inRange};
+ghost use Rattle.base.specs.Placed.{Placed};
 
 // A number, or a refusal by its number.
 pub enum Number {
@@ -75,4 +79,38 @@ pub fn number_when(test: bool, number: u8, rest: u8) -> u8
     ensures { λ r. ⌜ r ≡ pick test number rest ⌝ }
 {
     if test { number } else { rest }
+}
+
+// The first n bytes, or all where there are no more.
+pub fn first(s: &[u8], n: usize) -> &[u8]
+    ensures { λ r. ⌜ now r ≡ take n (now (s .entry)) ⌝ }
+{
+    if n < s.len() {
+        return &s[..n];
+    }
+    s
+}
+
+// A number at a place, if the row reaches that far, and the place behind it.
+pub fn put_number(row: &mut [u32], at: usize, n: u32) -> usize
+    ensures { λ r. ⌜ Placed (now (row .entry)) at (n ∷ []) r (now (row .exit)) ⌝ }
+{
+    if at < row.len() {
+        row[at] = n;
+        return at + 1;
+    }
+    row.len()
+}
+
+// Numbers from a place on.
+pub fn put_numbers(row: &mut [u32], at: usize, ns: &[u32]) -> usize
+    ensures { λ r. ⌜ Placed (now (row .entry)) at (now (ns .entry)) r (now (row .exit)) ⌝ }
+{
+    let mut end = least(at, row.len());
+    let mut i = 0;
+    while i < ns.len() {
+        end = put_number(row, end, ns[i]);
+        i += 1;
+    }
+    end
 }

@@ -1,6 +1,5 @@
 -- What the case `bench` answers: the letters of its calls, then the eight boards.
 -- Assumes nothing.
-use mathlib.Core.Bool.{Bool}
 use mathlib.Core.List.{List, [], _∷_, _++_}
 use Prim.Native.Nat.{ℕ, zero, suc, _%_}
 use lib.Dec.{leb}

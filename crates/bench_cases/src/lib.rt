@@ -4,7 +4,7 @@ use runner::Reply;
 use runner::Stepper;
 use text::HexRead;
 ghost use mathlib.Core.Path.{_≡_};
-ghost use mathlib.Core.List.{_∷_, _++_};
+ghost use mathlib.Core.List.{_∷_};
 ghost use Rattle.base.specs.Placed.{Placed};
 ghost use Rattle.base.specs.Answer.{refusal};
 ghost use Rattle.runner.specs.Run.{replyIs};

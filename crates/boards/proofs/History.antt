@@ -3,19 +3,19 @@
 use mathlib.Core.Bool.{Bool, true, false}
 use mathlib.Core.List.{List, [], _∷_, _++_}
 use mathlib.Core.Path.{_≡_, refl, sym, ap, _∙_}
-use Prim.Native.Nat.{ℕ, suc, _<_, _≤_}
+use Prim.Native.Nat.{ℕ, _≤_}
 use native.Mathlib.Omega.{arith}
 use borrow.Author.Tests.{eqb-true, eqb-false, ltb-true, ltb-false}
 use lib.Dec.{eqb, ltb}
-use lib.ListN.{length, set, length-set, getD-replicate}
+use lib.ListN.{length, length-set, getD-replicate}
 use lib.Seq.{getD-set-same, getD-set-other}
-use Rattle.base.specs.Answer.{Answer, value, refusal}
+use Rattle.base.specs.Answer.{Answer}
 use Rattle.runner.specs.declared.Stepper.{Stepper}
 use Rattle.runner.specs.declared.Runner.{Runner}
 use Rattle.boards.specs.declared.Bench.{Bench}
-use Rattle.runner.specs.Run.{Progress, Outcome, outcome, freshStepper, fresh, stepperOf, advanceOf, Begun, badSize, startedWith, startOf}
-use Rattle.boards.specs.Bench.{freshBench, noBoard, boardIn, boardHz, eightOf, inBench, benchOf, startAllOf}
-use Rattle.boards.specs.History.{Event, start, poll, Own, ownOf, benchAfter, answersFor, singleAfter, singleAnswers}
+use Rattle.runner.specs.Run.{Progress, Outcome, freshStepper, fresh, stepperOf, advanceOf, Begun, badSize, startedWith, startOf}
+use Rattle.boards.specs.Bench.{freshBench, noBoard, boardIn, boardHz, eightOf, benchOf, startAllOf}
+use Rattle.boards.specs.History.{Event, start, poll, Own, ownOf, benchAfter, singleAfter, singleAnswers}
 use Rattle.boards.specs.History.{Alike, AsSingle, SameBoard}
 use Rattle.runner.proofs.Starts.{start-refused, start-kept}
 use Rattle.boards.proofs.Benches.{all-refused, all-kept, over-seven, of-eight}

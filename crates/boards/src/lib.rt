@@ -18,16 +18,6 @@ pub struct Bench {
     pub len: usize,
 }
 
-pub struct Benched {
-    pub reply: Reply,
-    pub bench: Bench,
-}
-
-pub struct AllOpened {
-    pub reply: Opening,
-    pub bench: Bench,
-}
-
 impl Bench {
     // Before any start.
     pub fn new() -> Self
@@ -41,6 +31,16 @@ impl Bench {
             len: 0,
         }
     }
+}
+
+pub struct Benched {
+    pub reply: Reply,
+    pub bench: Bench,
+}
+
+pub struct AllOpened {
+    pub reply: Opening,
+    pub bench: Bench,
 }
 
 // One call for a board, by value.

@@ -20,32 +20,10 @@ use Rattle.sleep_cases.specs.Sleeps.{sleepText, wakeText}
 use Rattle.read_cases.specs.Reads.{readText}
 use Rattle.cases.specs.Lists.{listText}
 use Rattle.cases.specs.declared.Kind.{Kind}
-use Rattle.cases.specs.declared.Kind.the-variants.{
-  Valid,
-  Output,
-  Search,
-  UsbPll,
-  Book,
-  Margin,
-  Settings,
-  Voltage,
-  Pio,
-  Gpout,
-  Sheet,
-  Crystal,
-  Rosc,
-  Default,
-  System,
-  SystemFrom,
-  Manual,
-  Run,
-  Start,
-  Bench,
-  Sleep,
-  Wake,
-  Read,
-  Unknown,
-}
+use Rattle.cases.specs.declared.Kind.the-variants.{Valid, Output, Search, UsbPll, Book, Margin, Settings}
+use Rattle.cases.specs.declared.Kind.the-variants.{Voltage, Pio, Gpout, Sheet, Crystal, Rosc, Default, System}
+use Rattle.cases.specs.declared.Kind.the-variants.{SystemFrom, Manual, Run, Start, Bench, Sleep, Wake, Read}
+use Rattle.cases.specs.declared.Kind.the-variants.{Unknown}
 
 pub record Row : Type 0 where
   pub name : List ℕ

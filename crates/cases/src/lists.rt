@@ -1,6 +1,5 @@
 // The `list` case.
 use base::Length;
-ghost use mathlib.Core.Path.{_≡_};
 ghost use lib.ListN.{length};
 ghost use Rattle.base.specs.Placed.{Placed};
 ghost use Rattle.base.specs.Answer.{lengthIs};

@@ -7,21 +7,15 @@ fn show(start: &[u8; 11], n: usize) {
     io::write_all(STDOUT_FILENO, &out[..size]);
 }
 
-fn show_unread() {
-    let mut out = [0u8; 256];
-    let size = report::unread(&mut out);
-    io::write_all(STDOUT_FILENO, &out[..size]);
-}
-
 fn show_load(start: &[u8; 22], n: usize) {
     let mut out = [0u8; 80012];
     let size = trial::load(start, n, &mut out);
     io::write_all(STDOUT_FILENO, &out[..size]);
 }
 
-fn show_load_unread() {
-    let mut out = [0u8; 80012];
-    let size = trial::unread(&mut out);
+fn show_unread() {
+    let mut out = [0u8; 11];
+    let size = replies::put_unread(&mut out);
     io::write_all(STDOUT_FILENO, &out[..size]);
 }
 
@@ -50,5 +44,5 @@ fn main() {
     show_load(b"1  1\n.................", 5);
     show_load(b"1\n....................", 2);
     show_load(b"......................", 0);
-    show_load_unread();
+    show_unread();
 }

@@ -15,7 +15,7 @@ use Rattle.settings.specs.Settings.{settingsOf}
 use Rattle.sheet.specs.Writer.{initAnswer, InitCall}
 use Rattle.sheet.specs.Demand3.{SameUpTo}
 use Rattle.sheet.proofs.Demand3.{demand-3}
-use Rattle.export.specs.Numbers.{answerNumber, itself, refusals, malformed, chipNumbered}
+use Rattle.export.specs.Numbers.{answerNumber, itself, refusals, chipNumbered}
 use Rattle.export.specs.Sheet.{planIn, SheetCall, presetOn, planOn}
 use Rattle.export.specs.Demand3.{settingsIn, Sheets, PlanSheets, SystemSheets, SystemSheetsFrom}
 

@@ -4,7 +4,7 @@ use mathlib.Core.Bool.{Bool, _||_, _&&_, not}
 use mathlib.Core.Path.{_≡_}
 use mathlib.Core.List.{List, [], _∷_, _++_}
 use Prim.Native.Nat.{ℕ, zero, suc, _+_, _*_}
-use lib.Dec.{leb, ltb}
+use lib.Dec.{ltb}
 use lib.ListN.{replicate}
 use lib.Seq.{sets}
 use Rattle.base.specs.Answer.{Answer, value, refusal}

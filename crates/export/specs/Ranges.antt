@@ -1,9 +1,8 @@
 -- The ranges by which a caller tells exported answers apart, as bindings/c/dizbaral.h lists them.
 -- Assumes nothing.
 use Prim.Native.Nat.{ℕ, _^_, _≤_, _<_}
-use Rattle.base.specs.Answer.{Answer, refusal}
+use Rattle.base.specs.Answer.{refusal}
 use Rattle.pll.specs.declared.PllConfig.{PllConfig}
-use Rattle.step.specs.declared.Step.{Step}
 use Rattle.step.specs.Steps.{WellFormed}
 use Rattle.runner.specs.Run.{Progress, done, handed, passed, waiting}
 use Rattle.export.specs.Numbers.{refusals, malformed, itself, answerNumber, settingNumber, levelNumber}

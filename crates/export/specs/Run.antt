@@ -11,7 +11,7 @@ use Rattle.step.specs.Steps.{packOf}
 use Rattle.runner.specs.declared.State.{State}
 use Rattle.runner.specs.declared.Runner.{Runner}
 use Rattle.base.specs.Answer.{Answer, value, refusal}
-use Rattle.runner.specs.Run.{Progress, done, handed, passed, waiting, Outcome, advanceOf, Go, started, startOf}
+use Rattle.runner.specs.Run.{Progress, done, handed, passed, waiting, advanceOf, Go, started, startOf}
 use Rattle.export.specs.Numbers.{answerNumber, malformed}
 
 -- position, lock polls, total, stopped mark

@@ -53,7 +53,7 @@ fn put_runner(n: &mut [u32], board: u8, r: &[u32; 15])
         r[13],
         r[14],
     ];
-    let _n = sleep_numbers::put_numbers(n, 14 * (board as usize), &numbers);
+    let _n = base::put_numbers(n, 14 * (board as usize), &numbers);
 }
 
 // Any numbers may be given: a start makes a bench of them.

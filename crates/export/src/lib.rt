@@ -18,6 +18,7 @@ use step::MAX_BYTES;
 ghost use mathlib.Core.Path.{_≡_};
 ghost use lib.ListN.{length};
 ghost use mathlib.Core.Option.{some};
+ghost use Rattle.base.specs.Answer.{value};
 ghost use Rattle.divider.specs.Pio.{pioOf};
 ghost use Rattle.pll.specs.Setting.{validOf, outputOf};
 ghost use Rattle.pll.specs.Search.{searchOf};
@@ -32,9 +33,7 @@ ghost use Rattle.plan_numbers.specs.Plan.{planReadIs};
 ghost use Rattle.export.specs.Numbers.{answerNumber, itself, settingNumber, dividersAre, done, limitsAfter, chipNumbered, onChip};
 ghost use Rattle.export.specs.Numbers.{voltageNumber, dividerNumbered, gpoutNumber};
 ghost use Rattle.export.specs.Sheet.{SheetCall, presetOn, given, planOn};
-ghost use Rattle.sleep.specs.Sleep.{sleepOf, wakeOf};
 ghost use Rattle.export.specs.Run.{runNumber, runLeaves, StartCall};
-ghost use Rattle.export.specs.Slots.{askedWith, SlotsCall};
 
 #[no_mangle]
 pub extern "C" fn dizbaral_search(input_hz: u32, target_hz: u32) -> u64
@@ -160,11 +159,17 @@ pub extern "C" fn dizbaral_gpout_frequency(
     }
 }
 
+fn write(plan: ClockConfig, reading: u8, sheet: &mut [u8]) -> u64
+    ensures { λ r. ⌜ SheetCall (some (value plan)) reading (now (sheet .entry)) r (now (sheet .exit)) ⌝ }
+{
+    numbers::length(sheet::init(plan, reading, sheet))
+}
+
 fn write_planned(plan: Planned, reading: u8, sheet: &mut [u8]) -> u64
     ensures { λ r. ⌜ SheetCall (some (plannedIs plan)) reading (now (sheet .entry)) r (now (sheet .exit)) ⌝ }
 {
     match plan {
-        Planned::Plan(config) => numbers::length(sheet::init(config, reading, sheet)),
+        Planned::Plan(config) => write(config, reading, sheet),
         Planned::Refused(number) => numbers::refused(number),
     }
 }
@@ -173,7 +178,7 @@ fn write_given(plan: PlanRead, reading: u8, sheet: &mut [u8]) -> u64
     ensures { λ r. ⌜ SheetCall (given (planReadIs plan)) reading (now (sheet .entry)) r (now (sheet .exit)) ⌝ }
 {
     match plan {
-        PlanRead::Plan(config) => numbers::length(sheet::init(config, reading, sheet)),
+        PlanRead::Plan(config) => write(config, reading, sheet),
         PlanRead::Bad => numbers::MALFORMED,
     }
 }
@@ -278,38 +283,4 @@ pub extern "C" fn dizbaral_longest_wait(k: u32) -> u32
     ensures { λ r. ⌜ r ≡ longestWait k ⌝ }
 {
     up::longest_wait(k)
-}
-
-#[no_mangle]
-pub extern "C" fn dizbaral_sleep(
-    slots: &mut [u32; 48],
-    slot: u8,
-    words: &mut [u32; 11],
-    steps: &mut [u32; 28],
-) -> u64
-    ensures { λ r. ⌜ SlotsCall (askedWith sleepOf (now (slots .entry)) slot (now (words .entry))) (now (slots .entry)) (now (words .entry)) (now (steps .entry)) r (now (slots .exit)) (now (words .exit)) (now (steps .exit)) ⌝ }
-{
-    if slots::are_slots(slots) {
-        let held = sleep_numbers::slots_at(slots, 0);
-        let handed = sleep_numbers::words_at(words, 0);
-        return slots::leave(sleep::sleep(held, slot, handed), slots, words, steps);
-    }
-    numbers::MALFORMED
-}
-
-#[no_mangle]
-pub extern "C" fn dizbaral_wake(
-    slots: &mut [u32; 48],
-    slot: u8,
-    words: &mut [u32; 11],
-    steps: &mut [u32; 28],
-) -> u64
-    ensures { λ r. ⌜ SlotsCall (askedWith wakeOf (now (slots .entry)) slot (now (words .entry))) (now (slots .entry)) (now (words .entry)) (now (steps .entry)) r (now (slots .exit)) (now (words .exit)) (now (steps .exit)) ⌝ }
-{
-    if slots::are_slots(slots) {
-        let held = sleep_numbers::slots_at(slots, 0);
-        let handed = sleep_numbers::words_at(words, 0);
-        return slots::leave(sleep::wake(held, slot, handed), slots, words, steps);
-    }
-    numbers::MALFORMED
 }

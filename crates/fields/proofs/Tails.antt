@@ -3,13 +3,13 @@
 use mathlib.Core.Path.{_≡_, refl, sym, ap, _∙_}
 use mathlib.Core.Bool.{Bool, true, false}
 use mathlib.Core.List.{List, [], _∷_}
-use Prim.Native.Nat.{ℕ, zero, suc, _+_, _-_, _≤_, _<_, max}
+use Prim.Native.Nat.{ℕ, suc, _+_, _-_, _≤_, _<_, max}
 use native.Mathlib.Omega.{arith}
 use borrow.Author.Tests.{lt-ltb, le-ltb, le-leb, lt-leb, ltb-true, ltb-false}
 use lib.Dec.{eqb, ltb, leb·suc-suc}
 use lib.ListN.{length, take, drop, getD, set, length-drop, drop-of-length-le}
 use lib.Seq.{drop-cons, drop-drop}
-use Rattle.base.specs.Answer.{Answer, value, refusal}
+use Rattle.base.specs.Answer.{value, refusal}
 use Rattle.base.specs.Choice.{pick}
 use lib.Seq.{sets}
 use Rattle.text.specs.Decimal.{numberOf}

@@ -5,20 +5,17 @@ use Prim.Native.Nat.{ℕ, _+_, min}
 use lib.ListN.{getD}
 use Rattle.pll.specs.declared.PllConfig.{PllConfig}
 
--- the greatest numbers of 8, 16 and 32 bits
+abbrev pub nth : List ℕ → ℕ → ℕ
+nth row i = getD row i 0
+
+-- the greatest numbers of 8 and of 16 bits
 abbrev pub u8 : ℕ
 u8 = 255
 
 abbrev pub u16 : ℕ
 u16 = 65535
 
-abbrev pub u32 : ℕ
-u32 = 4294967295
-
-abbrev pub nth : List ℕ → ℕ → ℕ
-nth row i = getD row i 0
-
--- the same as a number of 8 and of 16 bits; a row is read where its limits hold, and there nothing is cut
+-- a number of a row as a number of 8 and of 16 bits; a row is read where its limits hold, and there nothing is cut
 abbrev pub byteAt : List ℕ → ℕ → ℕ
 byteAt row i = min (nth row i) u8
 
@@ -47,3 +44,7 @@ abbrev pub tenAt : List ℕ → ℕ → List ℕ
 tenAt row i =
     nth row i ∷ nth row (i + 1) ∷ nth row (i + 2) ∷ nth row (i + 3) ∷ nth row (i + 4)
     ∷ nth row (i + 5) ∷ nth row (i + 6) ∷ nth row (i + 7) ∷ nth row (i + 8) ∷ nth row (i + 9) ∷ []
+
+-- the greatest number of 32 bits, which any number of a row may be
+abbrev pub u32 : ℕ
+u32 = 4294967295

@@ -14,7 +14,7 @@ use Rattle.text.specs.Words.{upTo}
 use Rattle.base.specs.Placed.{Placed}
 use Rattle.lines.specs.declared.Held.{Held}
 use Rattle.lines.specs.Held.{Holding, heldText}
-use Rattle.lines.specs.Lines.{Holds, lineText, closes, Taking, AnsweredIf, begun}
+use Rattle.lines.specs.Lines.{Holds, lineText, closes, Taking, begun}
 
 or-true : (t : Bool) → (t || true) ≡ true
 or-true true = refl

@@ -15,7 +15,7 @@ use Rattle.pll.specs.declared.PllConfig.{PllConfig}
 use Rattle.pll.proofs.Right.{LowestOf, search-lowest, search-right}
 use Rattle.lister.specs.Lister.{remainderFree, times, listOf, lengthOf}
 use Rattle.lister.proofs.Once.{Hit, hit-free, free-hit, list-once}
-use Rattle.lister.proofs.Times.{same-self}
+use Rattle.pll.proofs.Same.{same-self}
 
 module _ (input target : ℕ) where
   -- what stands in the list is a candidate of the search, and exact
@@ -72,4 +72,4 @@ module _ (input target : ℕ) where
       go : (cs : List PllConfig)
           → ((d : PllConfig) → 0 < times d cs → 0 < times d (listOf input target)) → 2 * length cs ≡ 0
       go [] in-list = refl
-      go (d ∷ ds) in-list = absurd (none d (in-list d (rw (same-self d) (omega arith))))
+      go (d ∷ ds) in-list = absurd (none d (in-list d (rw (same-self d d refl) (omega arith))))

@@ -7,6 +7,7 @@ use lib.Dec.{leb, eqb}
 use lib.ListN.{length, drop}
 use Rattle.base.specs.Choice.{pick, inRange}
 use Rattle.base.specs.Answer.{Answer, value, refusal}
+use Rattle.pll.specs.Setting.{sameSetting}
 use Rattle.pll.specs.Ranges.{feedbackMin, feedbackMax}
 use Rattle.pll.specs.Search.{falling, rising, setting, keep, permitted, exact}
 use Rattle.pll.specs.declared.PllConfig.{PllConfig}
@@ -35,14 +36,6 @@ meets input target c = permitted input c && exact input target c
 -- the settings listed
 unfoldable pub listOf : ℕ → ℕ → List PllConfig
 listOf input target = keep (meets input target) inOrder
-
--- c and d have the same four dividers
-abbrev pub sameSetting : PllConfig → PllConfig → Bool
-sameSetting c d =
-    eqb (c .refdiv) (d .refdiv)
-    && eqb (c .fbdiv) (d .fbdiv)
-    && eqb (c .«post_div1») (d .«post_div1»)
-    && eqb (c .«post_div2») (d .«post_div2»)
 
 -- how often c stands in the list
 unfoldable pub times : PllConfig → List PllConfig → ℕ

@@ -6,7 +6,7 @@ ghost use Prim.Native.Nat.{_+_, _≤_};
 ghost use mathlib.Core.List.{[], _∷_};
 ghost use lib.ListN.{length, set};
 ghost use Rattle.base.specs.Answer.{lengthIs};
-ghost use Rattle.pll.specs.Ranges.{referenceMin, feedbackMin, feedbackMax};
+ghost use Rattle.pll.specs.Ranges.{referenceMin, feedbackMax};
 ghost use Rattle.pll.specs.Law.{VcoPermits};
 ghost use Rattle.pll.specs.Search.{setting, keep};
 ghost use Rattle.lister.specs.Lister.{meets, listOf, listedOf, listedIn};

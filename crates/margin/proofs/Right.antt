@@ -2,7 +2,7 @@
 -- Assumes nothing.
 use mathlib.Core.Path.{_≡_, refl, sym, ap, _∙_}
 use mathlib.Core.Bool.{Bool, true, false}
-use mathlib.Core.Option.{Option, none, some}
+use mathlib.Core.Option.{some}
 use Prim.Native.Nat.{ℕ, zero, suc, _+_, _-_, _≤_, _<_}
 use native.Mathlib.Omega.{arith}
 use native.Mathlib.Nat.{eq-or-lt-of-le}
@@ -11,9 +11,10 @@ use Rattle.base.specs.Answer.{Answer, value, refusal}
 use Rattle.base.specs.Choice.{pick}
 use Rattle.pll.specs.Search.{searchOf}
 use Rattle.pll.specs.declared.PllConfig.{PllConfig}
-use Rattle.margin.specs.Margin.{Sides, same, isSetting, lowerFrom, higherFrom, marginAt, marginOf}
+use Rattle.margin.specs.Margin.{Sides, isSetting, lowerFrom, higherFrom, marginAt, marginOf}
 use Rattle.margin.specs.Law.{RightLower, RightHigher, RightMargin}
-use Rattle.margin.proofs.Sides.{no, same-path, same-self, value-same, refused-not, refused-15}
+use Rattle.pll.proofs.Same.{same-path, same-self}
+use Rattle.margin.proofs.Sides.{no, value-same, refused-not, refused-15}
 use Rattle.margin.proofs.Unique.{margin-unique}
 
 -- the test says whether the answer is the setting

@@ -1,50 +1,23 @@
 -- Two settings that agree or not, and the two sides of a target.
 -- Assumes nothing.
-use mathlib.Core.Path.{_≡_, refl, sym, ap, subst, _∙_}
-use mathlib.Core.Bool.{Bool, true, false, _&&_}
+use mathlib.Core.Path.{_≡_, sym, ap, subst, _∙_}
+use mathlib.Core.Bool.{Bool, true, false}
 use mathlib.Core.Option.{Option, none, some}
-use Prim.Native.Nat.{ℕ, _+_, _≤_, _<_}
+use Prim.Native.Nat.{ℕ, _≤_, _<_}
 use native.Mathlib.Omega.{arith}
-use lib.Dec.{eqb}
-use borrow.Author.Tests.{eqb-true, eq-eqb}
 use Rattle.base.specs.Answer.{Answer, value, refusal}
-use Rattle.base.proofs.Bools.{both-true}
 use Rattle.pll.specs.Search.{searchOf}
 use Rattle.pll.specs.Law.{RightAnswer}
 use Rattle.pll.specs.declared.PllConfig.{PllConfig}
 use Rattle.pll.proofs.Right.{search-right}
 use Rattle.near.proofs.Near.{search-between}
-use Rattle.margin.specs.Margin.{same}
+use Rattle.pll.specs.Setting.{sameSetting}
+use Rattle.pll.proofs.Same.{same-path, same-self}
 use Rattle.margin.specs.Law.{RightLower, RightHigher}
 use Rattle.margin.specs.Walk.{Has, Tells, Lowest, Highest, JustBelow, JustAbove}
 
 pub no : {A : Type 0} → false ≡ true → A
 no e = let z : _≡_ {A = ℕ} 0 1 = cc in absurd (omega arith)
-
-pub same-path : (c d : PllConfig) → same c d ≡ true → c ≡ d
-same-path c d e =
-    let a = eqb (c .refdiv) (d .refdiv) in
-    let b = eqb (c .fbdiv) (d .fbdiv) in
-    let f = eqb (c .«post_div1») (d .«post_div1») in
-    let p = both-true (a && b && f) (eqb (c .«post_div2») (d .«post_div2»)) e in
-    let q = both-true (a && b) f (p .0) in
-    let r = both-true a b (q .0) in
-    λ i. record {
-      refdiv = eqb-true (c .refdiv) (d .refdiv) (r .0) i;
-      fbdiv = eqb-true (c .fbdiv) (d .fbdiv) (r .1) i;
-      «post_div1» = eqb-true (c .«post_div1») (d .«post_div1») (q .1) i;
-      «post_div2» = eqb-true (c .«post_div2») (d .«post_div2») (p .1) i;
-    }
-
-pub same-self : (c d : PllConfig) → c ≡ d → same c d ≡ true
-same-self c d e =
-    rw (
-      e,
-      eq-eqb (d .refdiv) (d .refdiv) refl,
-      eq-eqb (d .fbdiv) (d .fbdiv) refl,
-      eq-eqb (d .«post_div1») (d .«post_div1») refl,
-      eq-eqb (d .«post_div2») (d .«post_div2») refl,
-    )
 
 pub value-same : (c d : PllConfig) → _≡_ {A = Answer PllConfig} (value c) (value d) → c ≡ d
 value-same c d e = cc
@@ -53,7 +26,7 @@ pub refused-not : (n : ℕ) (c : PllConfig) → _≡_ {A = Answer PllConfig} (re
 refused-not n c e = let z : _≡_ {A = ℕ} 0 1 = cc in omega arith
 
 -- what two settings tell of the search that gave the first
-pub found-tells : (input t : ℕ) (d c : PllConfig) (r : Bool) → searchOf input t ≡ value d → r ≡ same d c
+pub found-tells : (input t : ℕ) (d c : PllConfig) (r : Bool) → searchOf input t ≡ value d → r ≡ sameSetting d c
     → Tells input t c r
 found-tells input t d c r e s =
     record {

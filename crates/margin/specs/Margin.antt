@@ -1,12 +1,12 @@
 -- How far a target may be moved until the search gives another setting: step by step to either side.
 -- Assumes nothing.
-use mathlib.Core.Bool.{Bool, false, _&&_}
+use mathlib.Core.Bool.{Bool, false}
 use mathlib.Core.Option.{Option, none, some}
 use Prim.Native.Nat.{ℕ, zero, suc, _-_}
-use lib.Dec.{eqb}
 use Rattle.base.specs.Answer.{Answer, value, refusal}
 use Rattle.base.specs.Choice.{pick}
 use Rattle.pll.specs.Search.{searchOf}
+use Rattle.pll.specs.Setting.{sameSetting}
 use Rattle.pll.specs.declared.PllConfig.{PllConfig}
 use Rattle.margin.specs.declared.Limit.{Limit}
 use Rattle.margin.specs.declared.Limit.the-variants.{At, Nothing}
@@ -18,17 +18,9 @@ pub record Sides : Type 0 where
   pub lower : Option ℕ
   pub higher : Option ℕ
 
--- c and d have the same four dividers
-abbrev pub same : PllConfig → PllConfig → Bool
-same c d =
-    eqb (c .refdiv) (d .refdiv)
-    && eqb (c .fbdiv) (d .fbdiv)
-    && eqb (c .«post_div1») (d .«post_div1»)
-    && eqb (c .«post_div2») (d .«post_div2»)
-
 -- an answer is the setting c
 abbrev pub isSetting : PllConfig → Answer PllConfig → Bool
-isSetting c (value d) = same d c
+isSetting c (value d) = sameSetting d c
 isSetting c (refusal n) = false
 
 -- below t, the greatest that does not pass the test

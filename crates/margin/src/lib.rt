@@ -2,7 +2,8 @@
 use pll::Found;
 use pll::PllConfig;
 ghost use mathlib.Core.Path.{_≡_};
-ghost use Rattle.margin.specs.Margin.{same, limitIs, marginIs, marginOf};
+ghost use Rattle.margin.specs.Margin.{limitIs, marginIs, marginOf};
+ghost use Rattle.pll.specs.Setting.{sameSetting};
 ghost use Rattle.margin.specs.Walk.{Has, Tells, Lowest, Highest, JustBelow, JustAbove};
 
 // The greatest target of 32 bits.
@@ -22,7 +23,7 @@ pub enum Margin {
 
 // Whether two settings are the same.
 fn same_setting(c: PllConfig, d: PllConfig) -> bool
-    ensures { λ r. ⌜ r ≡ same c d ⌝ }
+    ensures { λ r. ⌜ r ≡ sameSetting c d ⌝ }
 {
     (c.refdiv == d.refdiv)
         & (c.fbdiv == d.fbdiv)

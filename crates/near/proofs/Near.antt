@@ -1,19 +1,19 @@
 -- The search's answer is the nearest by whole hertz, and of equals the first: settings of one whole-hertz output have
 -- no remainder together, so one with no remainder is only the nearest. And the targets of one answer lie side by side.
 -- Assumes nothing.
-use mathlib.Core.Path.{_≡_, refl, sym, ap, subst, _∙_}
-use mathlib.Core.Logic.{inl, inr, ⊎-elim}
-use Prim.Native.Nat.{ℕ, _+_, _-_, _*_, _/_, _%_, _≤_, _<_, _∣_}
+use mathlib.Core.Path.{_≡_, sym, ap, subst, _∙_}
+use mathlib.Core.Logic.{⊎-elim}
+use Prim.Native.Nat.{ℕ, _+_, _-_, _*_, _%_, _≤_, _<_, _∣_}
 use native.Mathlib.Omega.{arith}
 use native.Mathlib.Decide.{decLe}
 use native.Mathlib.Nat.{mul-le-mul, mul-pos, mod-lt, div-add-mod', add-mul, mul-assoc, mul-right-comm}
 use native.Mathlib.Nat.{dvd-add-iff-right, dvd-mul-right, le-of-dvd, div-eq-of-eq-mul-left}
 use native.Mathlib.Nat.{eq-zero-or-pos, eq-or-lt-of-le, le-refl}
-use Rattle.base.specs.Answer.{Answer, value, refusal}
+use Rattle.base.specs.Answer.{value}
 use Rattle.pll.specs.Setting.{vcoOf, postsOf, outputHz}
 use Rattle.pll.specs.Search.{apart, distance, searchOf}
 use Rattle.pll.specs.Law.{Candidate, Exact}
-use Rattle.pll.specs.Walk.{key, rankOf}
+use Rattle.pll.specs.Walk.{key}
 use Rattle.pll.specs.declared.PllConfig.{PllConfig}
 use Rattle.near.specs.Near.{NearestOutput, SideBySide}
 use Rattle.pll.proofs.Candidates.{vco-is}

@@ -3,7 +3,6 @@
 use mathlib.Core.List.{List, [], _∷_, _++_}
 use mathlib.Core.Option.{Option, none, some}
 use Prim.Native.Nat.{ℕ}
-use Rattle.base.specs.Answer.{Answer, value, refusal}
 use Rattle.text.specs.Decimal.{decimalOf}
 use Rattle.text.specs.Ascii.{ascii}
 use Rattle.chip.specs.declared.Chip.{Chip}

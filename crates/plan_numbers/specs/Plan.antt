@@ -1,10 +1,10 @@
 -- A plan as numbers in a row, 48 for the RP2040 and 43, without the RTC's five, for the RP235x: each part's numbers in
 -- order, those of a part that may be absent behind a flag.
 -- Assumes nothing.
-use mathlib.Core.Bool.{Bool, _&&_}
+use mathlib.Core.Bool.{Bool, true, _&&_}
 use mathlib.Core.List.{List, [], _∷_}
 use mathlib.Core.Option.{Option, none, some}
-use Prim.Native.Nat.{ℕ, _+_, _-_}
+use Prim.Native.Nat.{ℕ, _+_}
 use lib.Dec.{eqb, leb}
 use lib.ListN.{length}
 use Rattle.base.specs.Answer.{Answer, value, refusal}
@@ -30,12 +30,11 @@ use Rattle.config.specs.declared.OptionRtc.the-variants.{Some as rtc, None as n
 use Rattle.config.specs.declared.OptionU32.{OptionU32}
 use Rattle.config.specs.declared.OptionU32.the-variants.{Some as time, None as noTime}
 use Rattle.config.specs.declared.RefClkConfig.{RefClkConfig}
-use Rattle.config.specs.declared.SysClkSrc.{SysClkSrc}
-use Rattle.config.specs.declared.SysClkSrc.the-variants.{Ref as sysRef}
+use Rattle.config.specs.declared.DriveStrength.{DriveStrength}
 use Rattle.config.specs.declared.ChipConfig.{ChipConfig}
 use Rattle.config.specs.declared.ChipConfig.the-variants.{Rp2040 as on2040, Rp235x as on235x}
 use Rattle.config.specs.declared.ClockConfig.{ClockConfig}
-use Rattle.settings.specs.Codes.{rangeFrom, refFrom, sysFrom, periFrom, auxFrom}
+use Rattle.settings.specs.Codes.{rangeFrom, refFrom, sysSourceFrom, periFrom, auxFrom}
 use Rattle.fields.specs.Row.{nth, byteAt, halfAt, pllAt, u8, u16, u32}
 use Rattle.plan_numbers.specs.Rows.{fitFrom, isPart}
 use Rattle.plan_numbers.specs.declared.ChipRead.{ChipRead}
@@ -54,10 +53,10 @@ wholeOscillators n =
 
 unfoldable pub wholeClocks : List ℕ → Bool
 wholeClocks n =
-    fitFrom n 25 (15 ∷ [])  -- voltage code
+    fitFrom true n 25 (15 ∷ [])  -- voltage code
     && (isPart n 26 (1 ∷ u32 ∷ [])  -- settling time
-    && (fitFrom n 28 (2 ∷ u8 ∷ [])  -- reference
-    && (fitFrom n 30 (4 ∷ [])  -- system source
+    && (fitFrom true n 28 (2 ∷ u8 ∷ [])  -- reference
+    && (fitFrom true n 30 (4 ∷ [])  -- system source
     && (isPart n 33 (1 ∷ 4 ∷ [])  -- peripheral
     && (isPart n 35 (1 ∷ 3 ∷ u8 ∷ u8 ∷ [])  -- USB
     && isPart n 39 (1 ∷ 3 ∷ u8 ∷ u8 ∷ []))))))  -- ADC
@@ -65,8 +64,8 @@ wholeClocks n =
 -- what the chips have apart: the system divider's whole part and fraction, and the RTC
 unfoldable pub wholeChip : Chip → List ℕ → Bool
 wholeChip Rp2040 n =
-    eqb (length n) 48 && (fitFrom n 31 (u32 ∷ u8 ∷ []) && isPart n 43 (1 ∷ 3 ∷ u32 ∷ u8 ∷ u8 ∷ []))
-wholeChip Rp235x n = eqb (length n) 43 && fitFrom n 31 (u16 ∷ u16 ∷ [])
+    eqb (length n) 48 && (fitFrom true n 31 (u32 ∷ u8 ∷ []) && isPart n 43 (1 ∷ 3 ∷ u32 ∷ u8 ∷ u8 ∷ []))
+wholeChip Rp235x n = eqb (length n) 43 && fitFrom true n 31 (u16 ∷ u16 ∷ [])
 
 abbrev pub wholePlan : Chip → List ℕ → Bool
 wholePlan chip n = wholeChip chip n && (wholeOscillators n && wholeClocks n)
@@ -75,27 +74,24 @@ wholePlan chip n = wholeChip chip n && (wholeOscillators n && wholeClocks n)
 abbrev pub flagged : {A : Type 0} → List ℕ → ℕ → A → A → A
 flagged n i there absent = pick (eqb (nth n i) 1) there absent
 
+unfoldable pub strengthsAt : List ℕ → DriveStrength
+strengthsAt n =
+    record {
+      s0 = byteAt n 3;
+      s1 = byteAt n 4;
+      s2 = byteAt n 5;
+      s3 = byteAt n 6;
+      s4 = byteAt n 7;
+      s5 = byteAt n 8;
+      s6 = byteAt n 9;
+      s7 = byteAt n 10;
+    }
+
 -- Hz, range, eight strengths, divider
 unfoldable pub ringAt : List ℕ → OptionRosc
 ringAt n =
     flagged n 0
-    (ring
-    (record {
-      hz = nth n 1;
-      range = rangeFrom (nth n 2);
-      «drive_strength» =
-          record {
-            s0 = byteAt n 3;
-            s1 = byteAt n 4;
-            s2 = byteAt n 5;
-            s3 = byteAt n 6;
-            s4 = byteAt n 7;
-            s5 = byteAt n 8;
-            s6 = byteAt n 9;
-            s7 = byteAt n 10;
-          };
-      div = halfAt n 11;
-    }))
+    (ring (record { hz = nth n 1; range = rangeFrom (nth n 2); «drive_strength» = strengthsAt n; div = halfAt n 11 }))
     noRing
 
 -- a PLL from place i on: four dividers
@@ -122,10 +118,6 @@ settlingAt n = flagged n 26 (time (nth n 27)) noTime
 -- source, divider
 unfoldable pub referenceAt : List ℕ → RefClkConfig
 referenceAt n = record { src = refFrom (nth n 28); div = byteAt n 29 }
-
--- 0 is the reference, then the auxiliary sources
-abbrev pub systemSourceOf : ℕ → SysClkSrc
-systemSourceOf n = pick (eqb n 0) sysRef (sysFrom (n - 1))
 
 unfoldable pub peripheralAt : List ℕ → OptionPeri
 peripheralAt n = flagged n 33 (peri (periFrom (nth n 34))) noPeri
@@ -166,7 +158,7 @@ planAt c n =
       rosc = ringAt n;
       xosc = crystalAt n;
       «ref_clk» = referenceAt n;
-      «sys_clk_src» = systemSourceOf (nth n 30);
+      «sys_clk_src» = sysSourceFrom (nth n 30);
       «peri_clk_src» = peripheralAt n;
       «usb_clk» = dividedAt n 35;
       «adc_clk» = dividedAt n 39;

@@ -1,7 +1,6 @@
 // A plan from the numbers of a case: 48 for the RP2040, 43 for the RP235x.
 mod part;
 mod rows;
-mod sources;
 
 use chip::Chip;
 use config::ChipConfig;
@@ -45,10 +44,10 @@ fn whole_oscillators(n: &[u32]) -> bool
 fn whole_clocks(n: &[u32]) -> bool
     ensures { λ r. ⌜ r ≡ wholeClocks (now (n .entry)) ⌝ }
 {
-    let voltage = fits(n, 25, &[15]);
+    let voltage = fits(n, 25, &[15], true);
     let settling = is_part(n, 26, &[1, U32]);
-    let reference = fits(n, 28, &[2, U8]);
-    let system = fits(n, 30, &[4]);
+    let reference = fits(n, 28, &[2, U8], true);
+    let system = fits(n, 30, &[4], true);
     let peripheral = is_part(n, 33, &[1, 4]);
     let usb = is_part(n, 35, &[1, 3, U8, U8]);
     let adc = is_part(n, 39, &[1, 3, U8, U8]);
@@ -64,7 +63,7 @@ fn whole_chip(chip: Chip, n: &[u32]) -> bool
             if n.len() != 48 {
                 return false;
             }
-            let divider = fits(n, 31, &[U32, U8]);
+            let divider = fits(n, 31, &[U32, U8], true);
             let rtc = is_part(n, 43, &[1, 3, U32, U8, U8]);
             divider & rtc
         }
@@ -72,7 +71,7 @@ fn whole_chip(chip: Chip, n: &[u32]) -> bool
             if n.len() != 43 {
                 return false;
             }
-            fits(n, 31, &[U16, U16])
+            fits(n, 31, &[U16, U16], true)
         }
     }
 }
@@ -94,7 +93,7 @@ fn plan_at(chip: ChipConfig, n: &[u32]) -> ClockConfig
         rosc: part::ring(n),
         xosc: part::crystal(n),
         ref_clk: part::reference(n),
-        sys_clk_src: sources::system(fields::number_at(n, 30)),
+        sys_clk_src: settings::sys_source_from(fields::number_at(n, 30) as u64),
         peri_clk_src: part::peripheral(n),
         usb_clk: part::divided(n, 35),
         adc_clk: part::divided(n, 39),

@@ -1,6 +1,5 @@
 // The parts of a plan, each from its place in the row n. A part that may be absent is there where its flag is 1.
 use crate::ChipRead;
-use crate::sources;
 use chip::Chip;
 use config::AuxClkConfig;
 use config::ChipConfig;
@@ -24,7 +23,7 @@ use fields::number_at;
 use voltage::VoltageRead;
 use voltage::VoltageRead235;
 ghost use mathlib.Core.Path.{_≡_};
-ghost use Rattle.plan_numbers.specs.Plan.{ringAt, optionPllAt, crystalAt, settlingAt};
+ghost use Rattle.plan_numbers.specs.Plan.{strengthsAt, ringAt, optionPllAt, crystalAt, settlingAt};
 ghost use Rattle.voltage.specs.Answers.{voltageReadIs, voltageRead235Is};
 ghost use Rattle.plan_numbers.specs.Plan.{referenceAt, peripheralAt, dividedAt, rtcAt};
 ghost use Rattle.plan_numbers.specs.Plan.{with2040, with235x, chipAt, chipReadIs};
@@ -35,7 +34,19 @@ pub(crate) fn ring(n: &[u32]) -> OptionRosc
     if number_at(n, 0) != 1 {
         return OptionRosc::None;
     }
-    let drive_strength = DriveStrength {
+    let drive_strength = strengths(n);
+    OptionRosc::Some(RoscConfig {
+        hz: number_at(n, 1),
+        range: settings::range_from(number_at(n, 2) as u64),
+        drive_strength,
+        div: half_at(n, 11),
+    })
+}
+
+fn strengths(n: &[u32]) -> DriveStrength
+    ensures { λ r. ⌜ r ≡ strengthsAt (now (n .entry)) ⌝ }
+{
+    DriveStrength {
         s0: byte_at(n, 3),
         s1: byte_at(n, 4),
         s2: byte_at(n, 5),
@@ -44,13 +55,7 @@ pub(crate) fn ring(n: &[u32]) -> OptionRosc
         s5: byte_at(n, 8),
         s6: byte_at(n, 9),
         s7: byte_at(n, 10),
-    };
-    OptionRosc::Some(RoscConfig {
-        hz: number_at(n, 1),
-        range: sources::range(number_at(n, 2)),
-        drive_strength,
-        div: half_at(n, 11),
-    })
+    }
 }
 
 // The PLL from place i on.
@@ -90,7 +95,7 @@ pub(crate) fn reference(n: &[u32]) -> RefClkConfig
     ensures { λ r. ⌜ r ≡ referenceAt (now (n .entry)) ⌝ }
 {
     RefClkConfig {
-        src: sources::reference(number_at(n, 28)),
+        src: settings::ref_from(number_at(n, 28) as u64),
         div: byte_at(n, 29),
     }
 }
@@ -101,7 +106,7 @@ pub(crate) fn peripheral(n: &[u32]) -> OptionPeri
     if number_at(n, 33) != 1 {
         return OptionPeri::None;
     }
-    OptionPeri::Some(sources::peripheral(number_at(n, 34)))
+    OptionPeri::Some(settings::peri_from(number_at(n, 34) as u64))
 }
 
 // The USB or the ADC clock, from place i on.
@@ -113,7 +118,7 @@ pub(crate) fn divided(n: &[u32], i: u8) -> OptionAux
         return OptionAux::None;
     }
     OptionAux::Some(AuxClkConfig {
-        src: sources::aux(number_at(n, at + 1)),
+        src: settings::aux_from(number_at(n, at + 1) as u64),
         div: byte_at(n, at + 2),
         phase: byte_at(n, at + 3),
     })
@@ -126,7 +131,7 @@ fn rtc(n: &[u32]) -> OptionRtc
         return OptionRtc::None;
     }
     OptionRtc::Some(RtcClkConfig {
-        src: sources::aux(number_at(n, 44)),
+        src: settings::aux_from(number_at(n, 44) as u64),
         div_int: number_at(n, 45),
         div_frac: byte_at(n, 46),
         phase: byte_at(n, 47),
@@ -154,10 +159,12 @@ fn with_235x(voltage: VoltageRead235, n: &[u32]) -> ChipRead
 {
     match voltage {
         VoltageRead235::Voltage(core_voltage) => {
+            let div_int = half_at(n, 31);
+            let div_frac = half_at(n, 32);
             ChipRead::Config(ChipConfig::Rp235x(Rp235xConfig {
                 core_voltage,
-                div_int: half_at(n, 31),
-                div_frac: half_at(n, 32),
+                div_int,
+                div_frac,
             }))
         }
         VoltageRead235::Refused(_) => ChipRead::None,

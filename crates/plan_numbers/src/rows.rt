@@ -2,32 +2,23 @@
 ghost use mathlib.Core.Path.{_≡_};
 ghost use lib.Dec.{leb};
 ghost use Rattle.fields.specs.Row.{nth};
-ghost use Rattle.plan_numbers.specs.Rows.{fitFrom, zeroFrom, isPart};
+ghost use Rattle.base.specs.Choice.{pick};
+ghost use Rattle.plan_numbers.specs.Rows.{fitFrom, isPart};
 
-// Whether each number is up to its limit.
-pub(crate) fn fits(n: &[u32], i: u8, limits: &[u32]) -> bool
-    ensures { λ r. ⌜ r ≡ fitFrom (now (n .entry)) i (now (limits .entry)) ⌝ }
+fn top(there: bool, limit: u32) -> u32
+    ensures { λ r. ⌜ r ≡ pick there limit 0 ⌝ }
 {
-    let mut at = i as usize;
-    let mut k = 0;
-    while k < limits.len() {
-        if limits[k] < fields::number_at(n, at) {
-            return false;
-        }
-        at += 1;
-        k += 1;
-    }
-    true
+    if there { limit } else { 0 }
 }
 
-// Whether there is a 0 for each limit.
-fn zeros(n: &[u32], i: u8, limits: &[u32]) -> bool
-    ensures { λ r. ⌜ r ≡ zeroFrom (now (n .entry)) i (now (limits .entry)) ⌝ }
+// Whether each number is up to its limit; 0 of a part that is not there.
+pub(crate) fn fits(n: &[u32], i: u8, limits: &[u32], there: bool) -> bool
+    ensures { λ r. ⌜ r ≡ fitFrom there (now (n .entry)) i (now (limits .entry)) ⌝ }
 {
     let mut at = i as usize;
     let mut k = 0;
     while k < limits.len() {
-        if fields::number_at(n, at) != 0 {
+        if top(there, limits[k]) < fields::number_at(n, at) {
             return false;
         }
         at += 1;
@@ -40,7 +31,7 @@ fn zeros(n: &[u32], i: u8, limits: &[u32]) -> bool
 pub(crate) fn is_part(n: &[u32], i: u8, limits: &[u32]) -> bool
     ensures { λ r. ⌜ r ≡ isPart (now (n .entry)) i (now (limits .entry)) ⌝ }
 {
-    fits(n, i, limits) & ((fields::number_at(n, i as usize) == 1) | zeros(n, i, limits))
+    fits(n, i, limits, fields::number_at(n, i as usize) == 1)
 }
 
 pub(crate) fn at_most(n: &[u32], i: usize, j: usize) -> bool

@@ -1,10 +1,10 @@
 -- A row of 48 has place for every plan's numbers.
 -- Assumes nothing.
 use mathlib.Core.Path.{_≡_, refl}
-use mathlib.Core.List.{List, _++_}
+use mathlib.Core.List.{List}
 use Prim.Native.Nat.{ℕ, _+_, _≤_}
 use native.Mathlib.Omega.{arith}
-use lib.ListN.{length, take, drop, replicate, length-append}
+use lib.ListN.{length, take, drop, length-append}
 use lib.Seq.{take-append-seam, length-sets, sets-eq}
 use Rattle.base.specs.Placed.{Placed}
 use Rattle.config.specs.declared.OptionRosc.{OptionRosc}
@@ -26,16 +26,8 @@ use Rattle.config.specs.declared.ChipConfig.{ChipConfig}
 use Rattle.config.specs.declared.ChipConfig.the-variants.{Rp2040 as on2040, Rp235x as on235x}
 use Rattle.config.specs.declared.ClockConfig.{ClockConfig}
 use Rattle.config.specs.Board.{boardOf}
-use Rattle.plan_row.specs.Row.{ringRow, crystalRow, sysPllIn, usbPllIn, pllRow, oscillatorRow, firstRow, sysRow, periRow}
+use Rattle.plan_row.specs.Row.{pllRow, oscillatorRow, firstRow, periRow}
 use Rattle.plan_row.specs.Row.{auxRow, rtcRow, clockRow, rtcNumbers, planRow}
-
-ring-long : (o : OptionRosc) → length (ringRow o) ≡ 12
-ring-long (ring r) = refl
-ring-long noRing = refl
-
-crystal-long : (o : OptionXosc) → length (crystalRow o) ≡ 3
-crystal-long (crystal x) = refl
-crystal-long noCrystal = refl
 
 pll-long : (o : OptionPll) → length (pllRow o) ≡ 5
 pll-long (pll p) = refl
@@ -63,8 +55,12 @@ rtc-most (on235x c) = omega arith
 
 oscillators-long : (r : OptionRosc) (x : OptionXosc) → length (oscillatorRow r x) ≡ 25
 unfolding oscillatorRow
-oscillators-long r x =
-    simp length-append (omega (arith, ring-long r, crystal-long x, pll-long (sysPllIn x), pll-long (usbPllIn x)))
+oscillators-long (ring r) (crystal x) =
+    simp length-append (omega (arith, pll-long (x .«sys_pll»), pll-long (x .«usb_pll»)))
+oscillators-long (ring r) noCrystal = refl
+oscillators-long noRing (crystal x) =
+    simp length-append (omega (arith, pll-long (x .«sys_pll»), pll-long (x .«usb_pll»)))
+oscillators-long noRing noCrystal = refl
 
 clocks-long : (p : ClockConfig) → length (clockRow p) ≡ 18
 unfolding clockRow

@@ -15,7 +15,7 @@ use Rattle.config.specs.declared.SysClkSrc.{SysClkSrc}
 use Rattle.config.specs.declared.ChipConfig.{ChipConfig}
 use Rattle.config.specs.declared.ClockConfig.{ClockConfig}
 use Rattle.config.specs.Board.{boardOf}
-use Rattle.settings.specs.Codes.{rangeCode, refCode, periAux, auxCode}
+use Rattle.settings.specs.Codes.{rangeCode, refCode, sysCode, periAux, auxCode}
 
 -- Hz, range, eight strengths, divider
 abbrev pub ringRow : OptionRosc → List ℕ
@@ -52,14 +52,6 @@ oscillatorRow r x = ringRow r ++ (crystalRow x ++ (pllRow (sysPllIn x) ++ pllRow
 abbrev pub firstRow : ℕ → OptionU32 → RefClkConfig → List ℕ
 firstRow code (OptionU32.Some time) c = code ∷ 1 ∷ time ∷ refCode (c .src) ∷ c .div ∷ []
 firstRow code OptionU32.None c = code ∷ 0 ∷ 0 ∷ refCode (c .src) ∷ c .div ∷ []
-
--- 0 is the reference, then the auxiliary sources
-abbrev pub sysCode : SysClkSrc → ℕ
-sysCode SysClkSrc.Ref = 0
-sysCode SysClkSrc.PllSys = 1
-sysCode SysClkSrc.PllUsb = 2
-sysCode SysClkSrc.Rosc = 3
-sysCode SysClkSrc.Xosc = 4
 
 -- source, whole part, fraction
 abbrev pub sysRow : SysClkSrc → ℕ → ℕ → List ℕ

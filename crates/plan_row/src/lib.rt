@@ -7,33 +7,8 @@ use config::OptionRosc;
 use config::OptionXosc;
 pub use rows::sys_pll;
 pub use rows::usb_pll;
-ghost use mathlib.Core.List.{[], _∷_};
 ghost use Rattle.base.specs.Placed.{Placed};
 ghost use Rattle.plan_row.specs.Row.{oscillatorRow, clockRow, rtcNumbers, planRow};
-
-// A number at a place, if the row reaches that far.
-fn put_one(row: &mut [u32], at: usize, n: u32) -> usize
-    ensures { λ r. ⌜ Placed (now (row .entry)) at (n ∷ []) r (now (row .exit)) ⌝ }
-{
-    if at < row.len() {
-        row[at] = n;
-        return at + 1;
-    }
-    row.len()
-}
-
-// Numbers from a place on.
-fn put_all(row: &mut [u32], at: usize, ns: &[u32]) -> usize
-    ensures { λ r. ⌜ Placed (now (row .entry)) at (now (ns .entry)) r (now (row .exit)) ⌝ }
-{
-    let mut end = base::least(at, row.len());
-    let mut i = 0;
-    while i < ns.len() {
-        end = put_one(row, end, ns[i]);
-        i += 1;
-    }
-    end
-}
 
 // Ring, crystal and PLLs.
 fn put_oscillators(row: &mut [u32], ring: OptionRosc, crystal: OptionXosc) -> usize
@@ -43,10 +18,10 @@ fn put_oscillators(row: &mut [u32], ring: OptionRosc, crystal: OptionXosc) -> us
     let crystal_row = rows::crystal(crystal);
     let sys_row = rows::pll(rows::sys_pll(crystal));
     let usb_row = rows::pll(rows::usb_pll(crystal));
-    let at = put_all(row, 0, &ring_row);
-    let at = put_all(row, at, &crystal_row);
-    let at = put_all(row, at, &sys_row);
-    put_all(row, at, &usb_row)
+    let at = base::put_numbers(row, 0, &ring_row);
+    let at = base::put_numbers(row, at, &crystal_row);
+    let at = base::put_numbers(row, at, &sys_row);
+    base::put_numbers(row, at, &usb_row)
 }
 
 // Voltage, settling time and clocks.
@@ -57,20 +32,20 @@ fn put_clocks(row: &mut [u32], at: usize, plan: ClockConfig) -> usize
     let board = chip.board();
     let given = plan.voltage_stabilization_delay_us;
     let reference = plan.ref_clk;
-    let src = plan.sys_clk_src;
-    let peri_clk = plan.peri_clk_src;
-    let usb_clk = plan.usb_clk;
-    let adc_clk = plan.adc_clk;
     let first = rows::first(board.code, given, reference);
+    let src = plan.sys_clk_src;
     let sys = rows::sys(src, board.whole, board.fraction);
+    let peri_clk = plan.peri_clk_src;
     let peri = rows::peri(peri_clk);
+    let usb_clk = plan.usb_clk;
     let usb = rows::aux(usb_clk);
+    let adc_clk = plan.adc_clk;
     let adc = rows::aux(adc_clk);
-    let at = put_all(row, at, &first);
-    let at = put_all(row, at, &sys);
-    let at = put_all(row, at, &peri);
-    let at = put_all(row, at, &usb);
-    put_all(row, at, &adc)
+    let at = base::put_numbers(row, at, &first);
+    let at = base::put_numbers(row, at, &sys);
+    let at = base::put_numbers(row, at, &peri);
+    let at = base::put_numbers(row, at, &usb);
+    base::put_numbers(row, at, &adc)
 }
 
 // The RTC's; a plan of the RP235x has none.
@@ -81,7 +56,7 @@ fn put_rtc(row: &mut [u32], at: usize, chip: ChipConfig) -> usize
         ChipConfig::Rp2040(on) => {
             let clock = on.rtc_clk;
             let rtc = rows::rtc(clock);
-            put_all(row, at, &rtc)
+            base::put_numbers(row, at, &rtc)
         }
         ChipConfig::Rp235x(_) => base::least(at, row.len()),
     }

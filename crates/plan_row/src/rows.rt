@@ -9,7 +9,7 @@ use config::OptionXosc;
 use config::RefClkConfig;
 use config::SysClkSrc;
 ghost use mathlib.Core.Path.{_≡_};
-ghost use Rattle.plan_row.specs.Row.{ringRow, crystalRow, sysPllIn, usbPllIn, pllRow, firstRow, sysCode, sysRow, periRow};
+ghost use Rattle.plan_row.specs.Row.{ringRow, crystalRow, sysPllIn, usbPllIn, pllRow, firstRow, sysRow, periRow};
 ghost use Rattle.plan_row.specs.Row.{auxRow, rtcRow};
 
 pub(crate) fn ring(ring: OptionRosc) -> [u32; 12]
@@ -93,23 +93,10 @@ pub(crate) fn first(code: u8, given: OptionU32, reference: RefClkConfig) -> [u32
     }
 }
 
-// 0 is the reference, then the auxiliary sources.
-fn sys_code(src: SysClkSrc) -> u8
-    ensures { λ r. ⌜ r ≡ sysCode src ⌝ }
-{
-    match src {
-        SysClkSrc::Ref => 0,
-        SysClkSrc::PllSys => 1,
-        SysClkSrc::PllUsb => 2,
-        SysClkSrc::Rosc => 3,
-        SysClkSrc::Xosc => 4,
-    }
-}
-
 pub(crate) fn sys(src: SysClkSrc, whole: u32, fraction: u16) -> [u32; 3]
     ensures { λ r. ⌜ r ≡ sysRow src whole fraction ⌝ }
 {
-    [sys_code(src) as u32, whole, fraction as u32]
+    [settings::sys_code(src) as u32, whole, fraction as u32]
 }
 
 pub(crate) fn peri(peri: OptionPeri) -> [u32; 2]
@@ -144,13 +131,8 @@ pub(crate) fn rtc(rtc: OptionRtc) -> [u32; 5]
     match rtc {
         OptionRtc::Some(on) => {
             let src = on.src;
-            [
-                1,
-                settings::aux_code(src) as u32,
-                on.div_int,
-                on.div_frac as u32,
-                on.phase as u32,
-            ]
+            let code = settings::aux_code(src) as u32;
+            [1, code, on.div_int, on.div_frac as u32, on.phase as u32]
         }
         OptionRtc::None => [0, 0, 0, 0, 0],
     }

@@ -3,7 +3,7 @@
 use mathlib.Core.List.{List, _++_}
 use Prim.Native.Nat.{ℕ, _+_, _≤_}
 use native.Mathlib.Omega.{arith}
-use lib.ListN.{length, length-append}
+use lib.ListN.{length-append}
 use Rattle.base.proofs.Placing.{placed-append}
 use Rattle.plan_text.specs.Put.{Put}
 

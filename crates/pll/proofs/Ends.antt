@@ -2,7 +2,6 @@
 -- Assumes nothing.
 use mathlib.Core.Path.{_≡_, refl, sym, ap, subst, _∙_}
 use mathlib.Core.Logic.{_⊎_, ⊎-elim}
-use mathlib.Core.List.{List, [], _∷_}
 use mathlib.Core.Bool.{Bool, true, false}
 use Prim.Native.Nat.{ℕ, zero, suc, _+_, _-_, _*_, _/_, _≤_, _<_}
 use native.Mathlib.Omega.{arith}
@@ -15,7 +14,7 @@ use Rattle.base.proofs.Bools.{never-true, in-range, range-true}
 use Rattle.pll.specs.Ranges.{referenceMin, feedbackMin, feedbackMax, vcoMin, vcoMax}
 use Rattle.pll.specs.Search.{falling, rising, setting, permitted}
 use Rattle.pll.specs.Ends.{firstPermitted, highestOf, lowestOf}
-use Rattle.pll.specs.Law.{VcoPermits, HighestPermitted, LowestPermitted, Candidate}
+use Rattle.pll.specs.Law.{VcoPermits, HighestPermitted, LowestPermitted}
 use Rattle.pll.proofs.Candidates.{a-candidate, candidate-permits, candidate-permitted, permitted-candidate}
 
 module _ (input : ℕ) where

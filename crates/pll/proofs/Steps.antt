@@ -2,7 +2,7 @@
 -- Assumes nothing.
 use mathlib.Core.Path.{_≡_, refl, _∙_}
 use mathlib.Core.Logic.{_⊎_, inl, inr, ⊎-elim}
-use Prim.Native.Nat.{ℕ, min, _-_, _*_, _≤_, _<_}
+use Prim.Native.Nat.{ℕ, min, _-_, _≤_, _<_}
 use native.Mathlib.Omega.{arith, min-cases}
 use native.Mathlib.Nat.{eq-or-lt-of-le}
 use Rattle.pll.specs.Law.{HighestPermitted, LowestPermitted, Candidate}

@@ -6,7 +6,7 @@ use base::Number;
 ghost use mathlib.Core.Path.{_≡_};
 ghost use Prim.Native.Nat.{_*_, _≤_, _<_, min};
 ghost use Rattle.base.specs.Answer.{numberIs};
-ghost use Rattle.pll.specs.Ranges.{referenceMin, feedbackMin, feedbackMax, vcoMax};
+ghost use Rattle.pll.specs.Ranges.{referenceMin, feedbackMax, vcoMax};
 ghost use Rattle.pll.specs.Setting.{postsOf, vcoOf, outputHz, dividersOf, validOf, outputOf};
 ghost use Rattle.pll.specs.Search.{searchOf, foundIs};
 ghost use Rattle.pll.specs.Law.{VcoPermits, LowestPermitted};

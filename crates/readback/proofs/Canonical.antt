@@ -3,32 +3,28 @@
 use mathlib.Core.Path.{_≡_, refl, sym, ap, _∙_}
 use mathlib.Core.Bool.{Bool, true, false}
 use mathlib.Core.List.{List}
-use Prim.Native.Nat.{ℕ, _/_, _%_, _^_, _≤_, _<_}
+use Prim.Native.Nat.{ℕ, _%_, _^_, _≤_}
 use native.Mathlib.Nat.{mod-eq-of-lt}
 use native.Mathlib.Omega.{arith}
 use lib.Dec.{eqb}
-use borrow.Author.Tests.{eqb-true, eq-eqb, ne-eqb, eqb-false, ltb-false}
-use Rattle.base.specs.Choice.{pick}
-use Rattle.divider.specs.Delay.{cyclesPerUs, settlingCycles, delayOf}
+use borrow.Author.Tests.{ltb-false}
+use Rattle.divider.specs.Delay.{settlingCycles, delayOf}
 use Rattle.config.specs.Board.{boardOf}
 use Rattle.config.specs.declared.ClockConfig.{ClockConfig}
 use Rattle.config.specs.declared.OptionXosc.{OptionXosc}
 use Rattle.config.specs.declared.OptionXosc.the-variants.{Some as xosc, None as noXosc}
 use Rattle.config.specs.declared.OptionU32.the-variants.{Some as given}
-use Rattle.settings.specs.declared.OptionCycles.{OptionCycles}
-use Rattle.settings.specs.declared.OptionCycles.the-variants.{Some as cycles, None as noCycles}
+use Rattle.settings.specs.declared.OptionCycles.the-variants.{None as noCycles}
 use Rattle.settings.specs.declared.Settings.{Settings}
-use Rattle.settings.specs.Settings.{crystalOf, ringHz, settlingTime, settlingStep, settingsOf}
+use Rattle.settings.specs.Settings.{crystalOf, ringHz, settlingStep, settingsOf}
 use Rattle.refusals.specs.Refusals.{startupOver, settlingOver, Accepted}
 use Rattle.refusals.proofs.Accepted.{accepted-by}
 use Rattle.step.specs.Sheet.{encoded}
 use Rattle.sheet.specs.Steps.{stepsOf}
-use Rattle.sheet.specs.Read.{settingsFrom}
 use Rattle.sheet.proofs.Sheets.{settings-back, steps-formed}
 use Rattle.sheet.specs.Writer.{sheetBytes}
 use Rattle.readback.specs.Steps.{stepsIn}
-use Rattle.readback.specs.Cut.{cutSettings}
-use Rattle.readback.specs.Plan.{multiplierFor, xoscFor, timeFor, planOf}
+use Rattle.readback.specs.Plan.{xoscFor, timeFor, planOf}
 use Rattle.readback.specs.Read.{planIn}
 use Rattle.readback.specs.Law.{Gives, multiplierIn, multiplierOf, timeOf, Back}
 use Rattle.readback.proofs.Numbers.{smallest, time-back}

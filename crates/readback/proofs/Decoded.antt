@@ -1,17 +1,15 @@
 -- The steps in a sheet's bytes: at each place what the unpacker reads there, and of a plan's sheet the plan's steps.
 -- Assumes nothing.
-use mathlib.Core.Path.{_≡_, refl, sym, ap, _∙_}
+use mathlib.Core.Path.{_≡_, refl, ap, _∙_}
 use mathlib.Core.List.{List, [], _∷_}
 use Prim.Native.Nat.{ℕ, zero, suc, _+_, _*_, _/_, _≤_, _<_}
 use native.Mathlib.Nat.{add-zero, zero-add}
 use native.Mathlib.Omega.{arith}
-use native.Mathlib.Decide.{decLe}
-use lib.ListN.{length, getD}
+use lib.ListN.{length}
 use lib.Seq.{ext-getD}
 use Rattle.step.specs.declared.Step.{Step}
 use Rattle.step.specs.Sheet.{encoded, AllFormed}
 use Rattle.step.specs.Access.{readAt}
-use Rattle.step.proofs.Accesses.{read-short}
 use Rattle.step.proofs.Sheets.{length-encoded, read-encoded}
 use Rattle.sheet.specs.Steps.{step0}
 use Rattle.sheet.specs.Read.{stepAt}

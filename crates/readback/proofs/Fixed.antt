@@ -1,8 +1,8 @@
 -- The settings of an accepted plan are not cut.
 -- Assumes nothing.
 use mathlib.Core.Path.{_≡_, refl}
-use mathlib.Core.Bool.{Bool, true, false, _||_}
-use Prim.Native.Nat.{ℕ, _+_, _%_, _^_, _≤_, _<_}
+use mathlib.Core.Bool.{Bool, false, _||_}
+use Prim.Native.Nat.{ℕ, _+_, _%_, _^_, _<_}
 use native.Mathlib.Nat.{mod-eq-of-lt}
 use native.Mathlib.Omega.{arith}
 use lib.Dec.{eqb, ltb}
@@ -30,7 +30,7 @@ use Rattle.settings.specs.Settings.{ringHz}
 use Rattle.settings.specs.Frequencies.{auxSource, sourcesOf, sourcesIn, frequenciesOf, boardIn}
 use Rattle.settings.specs.Typed.{RtcTyped, Typed}
 use Rattle.refusals.specs.Refusals.{strengthsOver, ringDividerOver, pllInvalid, sysPllInvalid, usbPllInvalid, wholeBad, rtcBad, refusalOf}
-use Rattle.refusals.proofs.Accepted.{accepted-by, divider-good, whole-good}
+use Rattle.refusals.proofs.Accepted.{accepted-by, strengths-few, divider-good, whole-good}
 use Rattle.sheet.proofs.Facts.{none-more, AuxFits, aux-fits}
 use Rattle.sheet.proofs.Stores.{ring-source}
 use Rattle.readback.specs.Cut.{cutRing, cutPll, cutCrystal, cutAux, cutRtc, cutChip, cutSettings}
@@ -43,14 +43,7 @@ ring-fixed : (pass : ℕ) (o : OptionRosc) → ringHz o < 2 ^ 32 → strengthsOv
 unfolding strengthsOver ringDividerOver
 ring-fixed pass (ring r) t s d =
     let g = r .«drive_strength» in
-    let h7 = none-more _ 7 (g .s7) s in
-    let h6 = none-more _ 7 (g .s6) (h7 .0) in
-    let h5 = none-more _ 7 (g .s5) (h6 .0) in
-    let h4 = none-more _ 7 (g .s4) (h5 .0) in
-    let h3 = none-more _ 7 (g .s3) (h4 .0) in
-    let h2 = none-more _ 7 (g .s2) (h3 .0) in
-    let h1 = none-more _ 7 (g .s1) (h2 .0) in
-    let h0 = ltb-false 7 (g .s0) (h1 .0) in
+    let few = strengths-few g s in
     let d′ = ltb-false 65535 (r .div + pass) d in
     rw (
       fits 32 (r .hz) t,

@@ -1,12 +1,11 @@
 -- What the writer leaves in the greatest number of bytes of a sheet: the plan's sheet where the plan is accepted.
 -- Assumes nothing.
-use mathlib.Core.Path.{_≡_, refl, sym, ap, _∙_}
-use mathlib.Core.List.{List, _++_}
+use mathlib.Core.Path.{_≡_, sym, ap, _∙_}
+use mathlib.Core.List.{List}
 use Prim.Native.Nat.{ℕ, _≤_}
 use native.Mathlib.Omega.{arith}
-use lib.ListN.{length, take, drop, length-append, length-take}
+use lib.ListN.{length, take, drop, length-append}
 use lib.Seq.{take-at}
-use Rattle.base.specs.Answer.{Answer, value, refusal}
 use Rattle.config.specs.declared.ClockConfig.{ClockConfig}
 use Rattle.base.specs.Answer.{lengthIs}
 use Rattle.base.specs.declared.Length.{Length}

@@ -7,12 +7,11 @@ use Prim.Native.Nat.{ℕ, _%_, _^_, _≤_, _<_}
 use native.Mathlib.Nat.{mod-lt}
 use lib.Pow.{pow-pos}
 use native.Mathlib.Omega.{arith}
-use lib.Dec.{eqb, ltb}
+use lib.Dec.{ltb}
 use borrow.Author.Tests.{eqb-true, eq-eqb, ltb-true, ltb-false}
 use Rattle.base.specs.Choice.{pick}
 use Rattle.base.specs.Answer.{Answer, value, refusal}
 use Rattle.base.proofs.Bools.{both-true}
-use Rattle.text.specs.Ascii.{same}
 use Rattle.text.proofs.Same.{same-true}
 use Rattle.readback.proofs.Same.{same-refl}
 use Rattle.config.specs.declared.ClockConfig.{ClockConfig}
@@ -40,7 +39,7 @@ use Rattle.sheet.specs.Steps.{markSteps, headPart, stepsWith, stepsOf}
 use Rattle.sheet.specs.Read.{readChip}
 use Rattle.sheet.specs.Writer.{sheetBytes, refusalIn}
 use Rattle.sheet.proofs.Demand3.{same-sheets}
-use Rattle.readback.specs.Steps.{valueIn, stepsIn, topReading}
+use Rattle.readback.specs.Steps.{valueIn, topReading}
 use Rattle.readback.specs.Cut.{cutRing, cutCrystal, cutRtc, cutChip, cutSettings}
 use Rattle.readback.specs.Plan.{xoscFor, planOf}
 use Rattle.readback.specs.Law.{Gives, ReadBack, over, none, back}
@@ -107,7 +106,9 @@ module _ (sheet : List ℕ) (reading : ℕ) where
       go : (b g : Bool) → ltb (topReading sheet) reading ≡ b → gives sheet reading (planIn sheet reading) ≡ g
           → ReadBack sheet reading (pick b (refusal 18) (pick g (value (planIn sheet reading)) (refusal 26)))
       go true g e h = over (ltb-true (topReading sheet) reading e)
-      go false true e h = back (planIn sheet reading) (ltb-false (topReading sheet) reading e) (back-in (gives-true (planIn sheet reading) typed-in h))
+      go false true e h =
+          back (planIn sheet reading) (ltb-false (topReading sheet) reading e)
+          (back-in (gives-true (planIn sheet reading) typed-in h))
       go false false e h =
           none (ltb-false (topReading sheet) reading e)
           (λ q g.

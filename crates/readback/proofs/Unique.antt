@@ -2,9 +2,9 @@
 -- Assumes nothing.
 use mathlib.Core.Path.{_≡_, refl, sym, ap, _∙_}
 use mathlib.Core.List.{List}
-use Prim.Native.Nat.{ℕ, _≤_, _<_}
+use Prim.Native.Nat.{ℕ}
 use native.Mathlib.Omega.{arith}
-use Rattle.base.specs.Answer.{Answer, value, refusal}
+use Rattle.base.specs.Answer.{Answer, value}
 use Rattle.config.specs.declared.ClockConfig.{ClockConfig}
 use Rattle.config.specs.declared.OptionXosc.{OptionXosc}
 use Rattle.config.specs.declared.OptionXosc.the-variants.{Some as xosc, None as noXosc}
@@ -18,7 +18,8 @@ use Rattle.settings.specs.declared.Settings.{Settings}
 use Rattle.config.specs.declared.OptionU32.the-variants.{Some as given}
 use Rattle.settings.specs.Settings.{crystalOf, settingsOf}
 use Rattle.sheet.proofs.Demand3.{same-sheets}
-use Rattle.readback.specs.Law.{Gives, multiplierIn, timeOf, Back, ReadBack, over, none, back}
+use Rattle.readback.specs.Plan.{planWith}
+use Rattle.readback.specs.Law.{multiplierIn, timeOf, Back, ReadBack, over, none, back}
 
 -- the crystal that is there; any where there is none
 crystalIn : OptionCrystal → Crystal
@@ -40,26 +41,11 @@ same-xosc (xosc x) noXosc e m = let z : _≡_ {A = ℕ} 0 1 = cc in absurd (omeg
 same-xosc noXosc (xosc y) e m = let z : _≡_ {A = ℕ} 0 1 = cc in absurd (omega arith)
 same-xosc noXosc noXosc e m = refl
 
--- a plan of its settings, its crystal and its time
-planned : Settings → OptionXosc → OptionU32 → ClockConfig
-planned s x t =
-    record {
-      chip = s .chip;
-      rosc = s .rosc;
-      xosc = x;
-      «ref_clk» = s .reference;
-      «sys_clk_src» = s .sys;
-      «peri_clk_src» = s .peri;
-      «usb_clk» = s .usb;
-      «adc_clk» = s .adc;
-      «voltage_stabilization_delay_us» = t;
-    }
-
-planned-same : {r s : Settings} {x y : OptionXosc} {t u : OptionU32} → r ≡ s → x ≡ y → t ≡ u → planned r x t ≡ planned s y u
+planned-same : {r s : Settings} {x y : OptionXosc} {t u : OptionU32} → r ≡ s → x ≡ y → t ≡ u
+    → planWith r x t ≡ planWith s y u
 planned-same h i j = cc
 
 one-plan : {sheet : List ℕ} {reading : ℕ} {p q : ClockConfig} → Back sheet reading p → Back sheet reading q → p ≡ q
-unfolding planned
 one-plan {sheet} {reading} {p} {q} a b =
     let s : settingsOf p reading ≡ settingsOf q reading =
     same-sheets p q reading (a .gives .typed) (b .gives .typed) (a .gives .accepted) (b .gives .accepted) .0
@@ -70,7 +56,8 @@ one-plan {sheet} {reading} {p} {q} a b =
     (omega (arith, a .multiplier q (b .gives), b .multiplier p (a .gives))) in
     planned-same s x (a .is-given ∙ ap given time ∙ sym (b .is-given))
 
-pub readback-one : {sheet : List ℕ} {reading : ℕ} {a b : Answer ClockConfig} → ReadBack sheet reading a → ReadBack sheet reading b → a ≡ b
+pub readback-one : {sheet : List ℕ} {reading : ℕ} {a b : Answer ClockConfig} → ReadBack sheet reading a
+    → ReadBack sheet reading b → a ≡ b
 readback-one (over h) (over l) = refl
 readback-one (over h) (none l n) = absurd (omega arith)
 readback-one (over h) (back q l b) = absurd (omega arith)

@@ -1,15 +1,24 @@
--- A number of more than 8 bits is no voltage code.
+-- A number over 255 is no voltage code, as 255 is none.
 -- Assumes nothing.
-use mathlib.Core.Path.{_≡_, refl}
-use mathlib.Core.List.{List, [], _∷_}
-use Prim.Native.Nat.{ℕ, _<_}
+use mathlib.Core.Path.{_≡_, refl, sym, _∙_}
+use mathlib.Core.Bool.{Bool, true, false}
+use mathlib.Core.List.{List}
+use Prim.Native.Nat.{ℕ, _<_, min}
 use native.Mathlib.Omega.{arith}
-use borrow.Author.Tests.{ne-eqb}
-use Rattle.base.specs.Answer.{refusal}
+use lib.Dec.{ltb}
+use borrow.Author.Tests.{ltb-true, ltb-false}
 use Rattle.voltage.specs.Voltage.{withCode}
+use Rattle.voltage.proofs.Codes.{no-code}
 
-pub no-code : {A : Type 0} (codeOf : A → ℕ) → ((v : A) → codeOf v < 16) → (vs : List A) (code : ℕ) → 255 < code
-    → withCode codeOf code vs ≡ refusal 18
-no-code codeOf small [] code h = refl
-no-code codeOf small (v ∷ vs) code h =
-    rw (ne-eqb code (codeOf v) (λ e. omega (arith, small v))) (no-code codeOf small vs code h)
+pub least-code : {A : Type 0} (codeOf : A → ℕ) → ((v : A) → codeOf v < 16) → (vs : List A) (code : ℕ)
+    → withCode codeOf (min code 255) vs ≡ withCode codeOf code vs
+least-code codeOf small vs code = go (ltb 255 code) refl
+  where
+    go : (b : Bool) → ltb 255 code ≡ b → withCode codeOf (min code 255) vs ≡ withCode codeOf code vs
+    go true e =
+        let over = ltb-true 255 code e in
+        no-code codeOf small vs (min code 255) (omega arith) ∙ sym (no-code codeOf small vs code (omega arith))
+    go false e =
+        let under = ltb-false 255 code e in
+        let same : min code 255 ≡ code = omega arith in
+        rw same

@@ -16,24 +16,33 @@ use Rattle.settings.specs.declared.OptionCrystal.{OptionCrystal}
 use Rattle.settings.specs.declared.OptionCrystal.the-variants.{Some as crystal, None as noCrystal}
 use Rattle.settings.specs.declared.Settings.{Settings}
 
+abbrev pub byte : ℕ → ℕ
+byte n = n % 2 ^ 8
+
+abbrev pub half : ℕ → ℕ
+half n = n % 2 ^ 16
+
+abbrev pub word : ℕ → ℕ
+word n = n % 2 ^ 32
+
 abbrev pub cutRing : OptionRosc → OptionRosc
 cutRing (ring r) =
     ring
     (record {
-      hz = r .hz % 2 ^ 32;
+      hz = word (r .hz);
       range = r .range;
       «drive_strength» =
           record {
-            s0 = r .«drive_strength» .s0 % 2 ^ 8;
-            s1 = r .«drive_strength» .s1 % 2 ^ 8;
-            s2 = r .«drive_strength» .s2 % 2 ^ 8;
-            s3 = r .«drive_strength» .s3 % 2 ^ 8;
-            s4 = r .«drive_strength» .s4 % 2 ^ 8;
-            s5 = r .«drive_strength» .s5 % 2 ^ 8;
-            s6 = r .«drive_strength» .s6 % 2 ^ 8;
-            s7 = r .«drive_strength» .s7 % 2 ^ 8;
+            s0 = byte (r .«drive_strength» .s0);
+            s1 = byte (r .«drive_strength» .s1);
+            s2 = byte (r .«drive_strength» .s2);
+            s3 = byte (r .«drive_strength» .s3);
+            s4 = byte (r .«drive_strength» .s4);
+            s5 = byte (r .«drive_strength» .s5);
+            s6 = byte (r .«drive_strength» .s6);
+            s7 = byte (r .«drive_strength» .s7);
           };
-      div = r .div % 2 ^ 16;
+      div = half (r .div);
     })
 cutRing noRing = noRing
 
@@ -41,51 +50,48 @@ abbrev pub cutPll : OptionPll → OptionPll
 cutPll (pll p) =
     pll
     (record {
-      refdiv = p .refdiv % 2 ^ 8;
-      fbdiv = p .fbdiv % 2 ^ 16;
-      «post_div1» = p .«post_div1» % 2 ^ 8;
-      «post_div2» = p .«post_div2» % 2 ^ 8;
+      refdiv = byte (p .refdiv);
+      fbdiv = half (p .fbdiv);
+      «post_div1» = byte (p .«post_div1»);
+      «post_div2» = byte (p .«post_div2»);
     })
 cutPll noPll = noPll
 
 abbrev pub cutCrystal : OptionCrystal → OptionCrystal
-cutCrystal (crystal x) = crystal (record { hz = x .hz % 2 ^ 32; delay = x .delay; sys = cutPll (x .sys); usb = cutPll (x .usb) })
+cutCrystal (crystal x) =
+    crystal (record { hz = word (x .hz); delay = x .delay; sys = cutPll (x .sys); usb = cutPll (x .usb) })
 cutCrystal noCrystal = noCrystal
 
-abbrev pub cutRef : RefClkConfig → RefClkConfig
-cutRef c = record { src = c .src; div = c .div % 2 ^ 8 }
-
 abbrev pub cutAux : OptionAux → OptionAux
-cutAux (aux a) = aux (record { src = a .src; div = a .div % 2 ^ 8; phase = a .phase % 2 ^ 8 })
+cutAux (aux a) = aux (record { src = a .src; div = byte (a .div); phase = byte (a .phase) })
 cutAux noAux = noAux
 
 abbrev pub cutRtc : OptionRtc → OptionRtc
-cutRtc (rtc r) =
+cutRtc (rtc c) =
     rtc
     (record {
-      src = r .src;
-      «div_int» = r .«div_int» % 2 ^ 32;
-      «div_frac» = r .«div_frac» % 2 ^ 8;
-      phase = r .phase % 2 ^ 8;
+      src = c .src;
+      «div_int» = word (c .«div_int»);
+      «div_frac» = byte (c .«div_frac»);
+      phase = byte (c .phase);
     })
 cutRtc noRtc = noRtc
+
+abbrev pub cutRef : RefClkConfig → RefClkConfig
+cutRef c = record { src = c .src; div = byte (c .div) }
 
 abbrev pub cutChip : ChipConfig → ChipConfig
 cutChip (on2040 c) =
     on2040
     (record {
       «core_voltage» = c .«core_voltage»;
-      «div_int» = c .«div_int» % 2 ^ 32;
-      «div_frac» = c .«div_frac» % 2 ^ 8;
+      «div_int» = word (c .«div_int»);
+      «div_frac» = byte (c .«div_frac»);
       «rtc_clk» = cutRtc (c .«rtc_clk»);
     })
 cutChip (on235x c) =
     on235x
-    (record {
-      «core_voltage» = c .«core_voltage»;
-      «div_int» = c .«div_int» % 2 ^ 16;
-      «div_frac» = c .«div_frac» % 2 ^ 16;
-    })
+    (record { «core_voltage» = c .«core_voltage»; «div_int» = half (c .«div_int»); «div_frac» = half (c .«div_frac») })
 
 unfoldable pub cutSettings : Settings → Settings
 cutSettings s =

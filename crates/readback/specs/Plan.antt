@@ -4,6 +4,7 @@ use Prim.Native.Nat.{ℕ, _+_, _-_, _*_, _/_, _%_, _^_}
 use Rattle.divider.specs.Delay.{cyclesPerUs}
 use Rattle.config.specs.declared.OptionXosc.{OptionXosc}
 use Rattle.config.specs.declared.OptionXosc.the-variants.{Some as xosc, None as noXosc}
+use Rattle.config.specs.declared.OptionU32.{OptionU32}
 use Rattle.config.specs.declared.OptionU32.the-variants.{Some as given}
 use Rattle.config.specs.declared.ClockConfig.{ClockConfig}
 use Rattle.settings.specs.declared.OptionCrystal.{OptionCrystal}
@@ -34,16 +35,20 @@ unfoldable pub timeFor : ℕ → OptionCycles → ℕ
 timeFor hz (cycles n) = n % 2 ^ 32 / cyclesPerUs hz
 timeFor hz noCycles = 0
 
-unfoldable pub planOf : Settings → ClockConfig
-planOf s =
+-- a plan of its settings, its crystal and its time
+abbrev pub planWith : Settings → OptionXosc → OptionU32 → ClockConfig
+planWith s x time =
     record {
       chip = s .chip;
       rosc = s .rosc;
-      xosc = xoscFor (s .xosc);
+      xosc = x;
       «ref_clk» = s .reference;
       «sys_clk_src» = s .sys;
       «peri_clk_src» = s .peri;
       «usb_clk» = s .usb;
       «adc_clk» = s .adc;
-      «voltage_stabilization_delay_us» = given (timeFor (ringHz (s .rosc)) (s .settling));
+      «voltage_stabilization_delay_us» = time;
     }
+
+unfoldable pub planOf : Settings → ClockConfig
+planOf s = planWith s (xoscFor (s .xosc)) (given (timeFor (ringHz (s .rosc)) (s .settling)))

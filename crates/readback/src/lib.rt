@@ -1,5 +1,7 @@
 // A sheet's bytes read back: the plan that gives them.
+mod clocks;
 mod codes;
+mod oscillators;
 mod parse;
 mod plan;
 
@@ -96,7 +98,7 @@ fn gives(sheet: &[u8], reading: u8, plan: ClockConfig) -> bool
 fn top_reading(sheet: &[u8]) -> u8
     ensures { λ r. ⌜ r ≡ topReading (now (sheet .entry)) ⌝ }
 {
-    let mark = parse::read_chip(sheet);
+    let mark = oscillators::read_chip(sheet);
     let chip = mark.chip;
     let facts = chip.facts();
     facts.top_reading

@@ -1,5 +1,4 @@
 // The plan that has given settings, with the smallest delay multiplier and the smallest settling time.
-use crate::codes;
 use config::ClockConfig;
 use config::OptionRosc;
 use config::OptionU32;
@@ -18,9 +17,9 @@ ghost use Rattle.readback.specs.Plan.{multiplierFor, xoscFor, timeFor, p
 fn multiplier_for(hz: u32, delay: u64) -> u32
     ensures { λ r. ⌜ r ≡ multiplierFor hz (delay % 2 ^ 14) ⌝ }
 {
-    let khz = (hz / 1000) as u64;
-    let least = codes::less(256 * (delay % 16384), 128);
-    base::quotient(least + codes::less(khz, 1), khz) as u32
+    let khz = (hz / 1000) as usize;
+    let least = base::less(256 * (delay % 16384) as usize, 128);
+    base::quotient((least + base::less(khz, 1)) as u64, khz as u64) as u32
 }
 
 // Cycles have 32 bits. The time is always a given one.
@@ -42,13 +41,14 @@ fn xosc_for(crystal: OptionCrystal) -> OptionXosc
 {
     match crystal {
         OptionCrystal::Some(on) => {
+            let delay_multiplier = multiplier_for(on.hz, on.delay);
             let sys_pll = on.sys;
             let usb_pll = on.usb;
             OptionXosc::Some(XoscConfig {
                 hz: on.hz,
                 sys_pll,
                 usb_pll,
-                delay_multiplier: multiplier_for(on.hz, on.delay),
+                delay_multiplier,
             })
         }
         OptionCrystal::None => OptionXosc::None,
@@ -60,22 +60,24 @@ pub(crate) fn plan_of(s: Settings) -> ClockConfig
 {
     let chip = s.chip;
     let rosc = s.rosc;
-    let crystal = s.xosc;
     let ref_clk = s.reference;
     let sys_clk_src = s.sys;
+    let crystal = s.xosc;
+    let xosc = xosc_for(crystal);
+    let settling = s.settling;
+    let voltage_stabilization_delay_us = time_for(rosc, settling);
     let peri_clk_src = s.peri;
     let usb_clk = s.usb;
     let adc_clk = s.adc;
-    let settling = s.settling;
     ClockConfig {
         chip,
         rosc,
-        xosc: xosc_for(crystal),
+        xosc,
         ref_clk,
         sys_clk_src,
         peri_clk_src,
         usb_clk,
         adc_clk,
-        voltage_stabilization_delay_us: time_for(rosc, settling),
+        voltage_stabilization_delay_us,
     }
 }

@@ -1,17 +1,18 @@
 -- What acceptance says: none of the tests holds.
 -- Assumes nothing.
 use mathlib.Core.Path.{_≡_, refl}
-use mathlib.Core.Bool.{Bool, true, false}
+use mathlib.Core.Bool.{Bool, true, false, _||_}
 use mathlib.Core.List.{List, [], _∷_}
 use Prim.Native.Nat.{ℕ, _≤_, _<_}
 use native.Mathlib.Omega.{arith}
-use lib.Dec.{eqb, leb}
-use borrow.Author.Tests.{leb-false, not-false}
+use lib.Dec.{eqb, leb, ltb}
+use borrow.Author.Tests.{leb-false, ltb-false, not-false}
 use Rattle.base.specs.Choice.{pick, inRange}
 use Rattle.base.proofs.Bools.{both-false, in-range}
+use Rattle.config.specs.declared.DriveStrength.{DriveStrength}
 use Rattle.settings.specs.declared.Settings.{Settings}
 use Rattle.settings.specs.Frequencies.{boardIn, frequenciesOf}
-use Rattle.refusals.specs.Refusals.{dividerBad, referenceBad, wholeBad, testsOf, first, refusalOf}
+use Rattle.refusals.specs.Refusals.{strengthOver, dividerBad, referenceBad, wholeBad, testsOf, first, refusalOf}
 
 -- every number is from 1 on
 abbrev Positive : List (ℕ × Bool) → Type 0
@@ -51,6 +52,24 @@ unfolding refusalOf
 accepted-by s reading e n =
     test-false n (testsOf s (boardIn s) (frequenciesOf s) reading)
     (none-holds (testsOf s (boardIn s) (frequenciesOf s) reading) (positive s reading) e)
+
+-- no strength is over 7
+pub record Few (g : DriveStrength) : Type 0 where
+  pub low : (g .s0 ≤ 7) × (g .s1 ≤ 7) × (g .s2 ≤ 7) × (g .s3 ≤ 7)
+  pub high : (g .s4 ≤ 7) × (g .s5 ≤ 7) × (g .s6 ≤ 7) × (g .s7 ≤ 7)
+
+pub strengths-few : (g : DriveStrength) → strengthOver g ≡ false → Few g
+strengths-few g e =
+    let h7 = more (g .s7) e in let h6 = more (g .s6) (h7 .0) in let h5 = more (g .s5) (h6 .0) in
+    let h4 = more (g .s4) (h5 .0) in let h3 = more (g .s3) (h4 .0) in let h2 = more (g .s2) (h3 .0) in
+    let h1 = more (g .s1) (h2 .0) in
+    record {
+      low = (ltb-false 7 (g .s0) (h1 .0), h1 .1, h2 .1, h3 .1);
+      high = (h4 .1, h5 .1, h6 .1, h7 .1);
+    }
+  where
+    more : {others : Bool} (x : ℕ) → (others || ltb 7 x) ≡ false → (others ≡ false) × (x ≤ 7)
+    more {others} x e = let h = both-false others (ltb 7 x) e in (h .0, ltb-false 7 x (h .1))
 
 pub divider-good : (d : ℕ) → dividerBad d ≡ false → (1 ≤ d) × (d ≤ 4)
 unfolding dividerBad

@@ -84,27 +84,27 @@ fn pll_invalid(pll: OptionPll, pll_hz: u32) -> bool
     }
 }
 
-fn sys_pll_invalid(crystal: OptionCrystal, f: Sources) -> bool
-    ensures { λ r. ⌜ ((ring : OptionRosc) → f ≡ sourcesOf ring crystal → r ≡ sysPllInvalid crystal) ⌝ }
-{
-    match crystal {
-        OptionCrystal::Some(on) => {
-            let pll = on.sys;
-            pll_invalid(pll, f.pll_sys)
-        }
-        OptionCrystal::None => false,
-    }
+// Which of a crystal's PLLs are invalid.
+struct PllsBad {
+    sys: bool,
+    usb: bool,
 }
 
-fn usb_pll_invalid(crystal: OptionCrystal, f: Sources) -> bool
-    ensures { λ r. ⌜ ((ring : OptionRosc) → f ≡ sourcesOf ring crystal → r ≡ usbPllInvalid crystal) ⌝ }
+fn plls_invalid(crystal: OptionCrystal, f: Sources) -> PllsBad
+    ensures { λ r. ⌜ ((ring : OptionRosc) → f ≡ sourcesOf ring crystal → (r .sys ≡ sysPllInvalid crystal) × (r .usb ≡ usbPllInvalid crystal)) ⌝ }
 {
     match crystal {
         OptionCrystal::Some(on) => {
-            let pll = on.usb;
-            pll_invalid(pll, f.pll_usb)
+            let sys_pll = on.sys;
+            let usb_pll = on.usb;
+            let sys = pll_invalid(sys_pll, f.pll_sys);
+            let usb = pll_invalid(usb_pll, f.pll_usb);
+            PllsBad { sys, usb }
         }
-        OptionCrystal::None => false,
+        OptionCrystal::None => PllsBad {
+            sys: false,
+            usb: false,
+        },
     }
 }
 
@@ -182,8 +182,7 @@ fn refusal_of(s: Settings, b: Board, f: Frequencies, reading: u8) -> u8
     let ring_divider = ring_divider_over(on.pass, ring);
     let settling = settling_over(cycles);
     let startup = startup_over(crystal);
-    let sys_pll = sys_pll_invalid(crystal, sources);
-    let usb_pll = usb_pll_invalid(crystal, sources);
+    let plls = plls_invalid(crystal, sources);
     let divider = divider_bad(ref_clk.div);
     let reference = reference_bad(f.reference);
     let whole = whole_bad(on.top_whole, b.whole);
@@ -200,8 +199,8 @@ fn refusal_of(s: Settings, b: Board, f: Frequencies, reading: u8) -> u8
     let n = base::number_when(whole, 9, n);
     let n = base::number_when(reference, 8, n);
     let n = base::number_when(divider, 7, n);
-    let n = base::number_when(usb_pll, 6, n);
-    let n = base::number_when(sys_pll, 5, n);
+    let n = base::number_when(plls.usb, 6, n);
+    let n = base::number_when(plls.sys, 5, n);
     let n = base::number_when(startup, 4, n);
     let n = base::number_when(settling, 3, n);
     let n = base::number_when(ring_divider, 2, n);

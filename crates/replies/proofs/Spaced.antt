@@ -1,8 +1,8 @@
 -- One number more behind a space, and the first bytes of a buffer.
 -- Assumes nothing.
 use mathlib.Core.Path.{_≡_, refl, sym, ap, _∙_}
-use mathlib.Core.List.{List, [], _∷_, _++_, append-assoc}
-use Prim.Native.Nat.{ℕ, suc, _+_, _<_, min}
+use mathlib.Core.List.{List, [], _∷_, _++_, append-nil, append-assoc}
+use Prim.Native.Nat.{ℕ, _+_, _<_, min}
 use native.Mathlib.Decide.{decLe}
 use native.Mathlib.Numerals.{add-one}
 use native.Mathlib.Omega.{arith}
@@ -16,14 +16,10 @@ spaced-append [] ms = refl
 spaced-append (n ∷ ns) ms =
     ap (λ (l : List ℕ). 32 ∷ l) (rw (spaced-append ns ms, append-assoc))
 
-append-none : (xs : List ℕ) → xs ++ [] ≡ xs
-append-none [] = refl
-append-none (x ∷ xs) = ap (λ (l : List ℕ). x ∷ l) (append-none xs)
-
 pub spaced-step : (ns : List ℕ) (i : ℕ) → i < length ns
     → spaced (take (i + 1) ns) ≡ spaced (take i ns) ++ (32 ∷ decimalOf (getD ns i 0))
 spaced-step ns i h =
-    rw (add-one, take-suc ns i 0 h, spaced-append (take i ns) (getD ns i 0 ∷ []), append-none (decimalOf (getD ns i 0)))
+    rw (add-one, take-suc ns i 0 h, spaced-append (take i ns) (getD ns i 0 ∷ []), append-nil)
 
 -- more than there are is all of them
 pub take-least : (n : ℕ) (xs : List ℕ) → take (min n (length xs)) xs ≡ take n xs

@@ -21,6 +21,10 @@ yesNo test = pick test (ascii "yes") (ascii "no")
 abbrev pub refusedText : ℕ → List ℕ
 refusedText n = ascii "refused " ++ decimalOf n
 
+-- and closed by a newline
+abbrev pub refusedLine : ℕ → List ℕ
+refusedLine n = refusedText n ++ (10 ∷ [])
+
 -- the text of a value, or the refusal
 abbrev pub answerText : {A : Type 0} → (A → List ℕ) → Answer A → List ℕ
 answerText text (value a) = text a

@@ -1,9 +1,10 @@
 // The texts that answers are made of, each put into the caller's buffer.
-ghost use mathlib.Core.Path.{_≡_};
 ghost use mathlib.Core.List.{[], _∷_, _++_};
+ghost use lib.ListN.{length};
 ghost use Rattle.base.specs.Placed.{Placed};
 ghost use Rattle.text.specs.Decimal.{decimalOf};
-ghost use Rattle.replies.specs.Reply.{badCase, yesNo, refusedText, spaced, rowText, writtenText};
+ghost use Rattle.text.specs.Output.{Whole};
+ghost use Rattle.replies.specs.Reply.{badCase, yesNo, refusedText, refusedLine, spaced, rowText, writtenText};
 
 pub fn put_bad(out: &mut [u8]) -> usize
     ensures { λ r. ⌜ Placed (now (out .entry)) 0 badCase r (now (out .exit)) ⌝ }
@@ -25,6 +26,20 @@ pub fn put_refused(out: &mut [u8], number: u8) -> usize
 {
     let end = text::put_bytes(out, 0, b"refused ");
     text::put_decimal(out, end, number as u64)
+}
+
+pub fn put_refused_line(out: &mut [u8], number: u8) -> usize
+    ensures { λ r. ⌜ Placed (now (out .entry)) 0 (refusedLine number) r (now (out .exit)) ⌝ }
+{
+    let end = put_refused(out, number);
+    text::put_byte(out, end, b'\n')
+}
+
+// A program's whole output where its input cannot be read.
+pub fn put_unread(out: &mut [u8; 11]) -> usize
+    ensures { λ r. ⌜ Whole (refusedLine 24) (now (out .entry)) r (now (out .exit)) ⌝ }
+{
+    put_refused_line(out, 24)
 }
 
 // A space and a number.
@@ -61,8 +76,7 @@ pub fn put_written(out: &mut [u8], n: usize, buf: &[u8]) -> usize
     ensures { λ r. ⌜ Placed (now (out .entry)) 0 (writtenText (now (buf .entry)) n) r (now (out .exit)) ⌝ }
 {
     let end = put_length(out, n);
-    let shown = base::least(n, buf.len());
-    text::put_hex(out, end, &buf[..shown])
+    text::put_hex(out, end, base::first(buf, n))
 }
 
 // A number and a space.

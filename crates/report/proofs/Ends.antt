@@ -16,7 +16,8 @@ use Rattle.settings.specs.Settings.{settingsOf}
 use Rattle.sheet.specs.Writer.{sheetBytes, refusalIn, InitCall}
 use Rattle.sheet.proofs.Ends.{refused, sheet-most}
 use Rattle.sheet.proofs.Demand3.{answers, answered}
-use Rattle.report.specs.Lines.{linesOf, reportNames, refusedLine}
+use Rattle.replies.specs.Reply.{refusedLine}
+use Rattle.report.specs.Lines.{linesOf, reportNames}
 use Rattle.report.specs.Report.{reading, numbersOf, planReport}
 use Rattle.report.specs.Ran.{ranOf, reportNumbers}
 use Rattle.report.proofs.Runs.{run-numbers}

@@ -23,7 +23,9 @@ use Rattle.settings.proofs.Small.{Hz}
 use Rattle.refusals.proofs.Stored.{EachHz, ten-small}
 use Rattle.sheet.proofs.Formed.{masks}
 use Rattle.sheet.specs.Steps.{releaseMask}
-use Rattle.report.specs.Lines.{lineOf, linesOf, reportNames, refusedLine}
+use Rattle.replies.specs.Reply.{refusedLine}
+use Rattle.replies.proofs.Refused.{refused-most}
+use Rattle.report.specs.Lines.{lineOf, linesOf, reportNames}
 use Rattle.report.specs.Report.{reading, numbersOf, planReport, plannedReport, targetReport, reportOf}
 use Rattle.report.proofs.Systems.{Served, system-accepted}
 
@@ -88,7 +90,7 @@ unfolding room releaseMask
 report-most input = go (report-cases input)
   where
     go : (reportOf input ≡ refusedLine 24) ⊎ Reported input → length (reportOf input) ≤ 256
-    go (inl e) = rw e (omega (arith, line-most (ascii "refused") 24 (omega arith)))
+    go (inl e) = rw e (omega (arith, refused-most 1 24 (omega arith)))
     go (inr r) =
         let s = settingsOf (r .plan) reading in
         let mask : ℕ = releaseMask (boardIn s .chip) (s .peri) (s .usb) (s .adc) (boardIn s .rtc) in

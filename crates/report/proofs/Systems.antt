@@ -16,7 +16,7 @@ use Rattle.pll.specs.declared.PllConfig.{PllConfig}
 use Rattle.pll.specs.Setting.{validOf}
 use Rattle.pll.specs.Search.{setting, searchOf}
 use Rattle.pll.proofs.Inputs.{found-valid, search-finds}
-use Rattle.pll.proofs.UsbRows.{usb-rows}
+use Rattle.pll.proofs.UsbPreset.{usb-preset}
 use Rattle.config.specs.declared.RoscRange.the-variants.{Medium}
 use Rattle.config.specs.declared.ClockConfig.{ClockConfig}
 use Rattle.chip.specs.declared.Chip.the-variants.{Rp2040}
@@ -92,7 +92,7 @@ system-accepted hz = go (eqb hz 125000000) refl
     go false e = (
       plan (found .0) (systemVoltage hz),
       record {
-        planned = rw (e, found .1, usb-rows .0);
+        planned = rw (e, found .1, usb-preset);
         accepted = plan-accepted (found .0) (systemVoltage hz) valid (settles (ltb 133000000 hz) (found .0));
         typed = plan-typed (found .0) (systemVoltage hz);
       },

@@ -15,7 +15,8 @@ use Rattle.settings.specs.Settings.{settingsOf}
 use Rattle.settings.specs.Frequencies.{boardIn, tenOf}
 use Rattle.sheet.specs.Steps.{releaseMask}
 use Rattle.sheet.specs.Writer.{refusalIn}
-use Rattle.report.specs.Lines.{linesOf, reportNames, refusedLine}
+use Rattle.replies.specs.Reply.{refusedLine}
+use Rattle.report.specs.Lines.{linesOf, reportNames}
 
 -- the program's reading
 abbrev pub reading : ℕ

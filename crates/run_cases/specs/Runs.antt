@@ -1,6 +1,5 @@
 -- What the cases `run` and `start` answer, from their numbers n and the two words of hex behind them, KEPT and SHEET.
 -- Assumes nothing.
-use mathlib.Core.Bool.{Bool}
 use mathlib.Core.List.{List, [], _∷_, _++_}
 use Prim.Native.Nat.{ℕ}
 use lib.Dec.{eqb}
@@ -9,7 +8,6 @@ use lib.ListN.{take}
 use Rattle.text.specs.Hex.{isReadable, pairValues, hexOf}
 use Rattle.text.specs.Decimal.{decimalOf}
 use Rattle.text.specs.Words.{upTo}
-use Rattle.step.specs.declared.Step.{Step}
 use Rattle.step.specs.Sheet.{maxBytes}
 use Rattle.runner.specs.declared.Stepper.{Stepper}
 use Rattle.runner.specs.declared.Runner.{Runner}

@@ -10,11 +10,12 @@ use runner::Stepper;
 use step::MAX_BYTES;
 use step::Step;
 use text::HexRead;
+ghost use mathlib.Core.List.{_++_};
 ghost use mathlib.Core.Path.{_≡_};
-ghost use mathlib.Core.List.{[], _∷_, _++_};
 ghost use Rattle.base.specs.Placed.{Placed};
 ghost use Rattle.runner.specs.Run.{handed, replyIs, steppedIs, openingIs, openedIs};
 ghost use Rattle.fields.specs.Fields.{tailAt};
+ghost use Rattle.text.specs.Ascii.{ascii};
 ghost use Rattle.replies.specs.Reply.{answerText};
 ghost use Rattle.run_cases.specs.Runs.{runnerOfCase, stepperText, progressText, outcomeText, goText, keptText, begunText};
 ghost use Rattle.run_cases.specs.Runs.{askText, sheetText, behindText, wordsText, runText, startText};
@@ -88,15 +89,22 @@ fn put_reply(out: &mut [u8], reply: Reply) -> usize
     }
 }
 
+// A runner behind its answer.
+fn put_after(out: &mut [u8], at: usize, r: Runner) -> usize
+    ensures { λ x. ⌜ Placed (now (out .entry)) at (ascii " / " ++ stepperText (r .stepper)) x (now (out .exit)) ⌝ }
+{
+    let end = text::put_bytes(out, at, b" / ");
+    let stepper = r.stepper;
+    put_stepper(out, end, stepper)
+}
+
 fn put_stepped(out: &mut [u8], s: Stepped) -> usize
     ensures { λ r. ⌜ Placed (now (out .entry)) 0 (outcomeText (steppedIs s)) r (now (out .exit)) ⌝ }
 {
     let reply = s.reply;
     let next = s.runner;
-    let answered = put_reply(out, reply);
-    let end = text::put_bytes(out, answered, b" / ");
-    let stepper = next.stepper;
-    put_stepper(out, end, stepper)
+    let end = put_reply(out, reply);
+    put_after(out, end, next)
 }
 
 fn put_opening(out: &mut [u8], reply: Opening) -> usize
@@ -125,9 +133,7 @@ fn put_opened(out: &mut [u8], o: Opened) -> usize
     let reply = o.reply;
     let next = o.runner;
     let end = put_opening(out, reply);
-    let end = text::put_bytes(out, end, b" / ");
-    let stepper = next.stepper;
-    let end = put_stepper(out, end, stepper);
+    let end = put_after(out, end, next);
     let kept = next.kept;
     put_kept(out, end, next.len, &kept)
 }

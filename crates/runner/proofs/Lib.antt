@@ -1,5 +1,6 @@
 pub mod Same
 pub mod Calls
+pub mod Changed
 pub mod Starts
 pub mod Steps
 pub mod Untouched

@@ -11,7 +11,7 @@ use Rattle.runner.specs.declared.State.{State}
 use Rattle.runner.specs.declared.Stepper.{Stepper}
 use Rattle.runner.specs.declared.Runner.{Runner}
 use Rattle.runner.specs.Run.{Progress, Outcome, outcome, polled}
-use Rattle.runner.specs.Run.{outside, turnOf, joined, stepperOf, withStepper, inRunner, advanceOf}
+use Rattle.runner.specs.Run.{outside, turnOf, joined, stepperOf, inRunner, advanceOf}
 use Rattle.runner.specs.Calls.{after, Untouched, stepperTimedOut, timedOut}
 use Rattle.runner.proofs.Calls.{every-turn}
 

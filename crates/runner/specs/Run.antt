@@ -30,13 +30,26 @@ pub data Progress : Type 0 where
   passed : Progress
   waiting : Progress
 
--- what a call answers, and what it leaves
-pub record Outcome (A : Type 0) : Type 0 where
-  pub answer : Answer Progress
+-- what a start that is not refused answers
+pub data Go : Type 0 where
+  started : Go
+
+-- what a call or a start answers, and what it leaves
+pub record Leaves (P A : Type 0) : Type 0 where
+  pub answer : Answer P
   pub next : A
+
+abbrev pub Outcome : Type 0 → Type 0
+Outcome A = Leaves Progress A
+
+abbrev pub Begun : Type 0 → Type 0
+Begun A = Leaves Go A
 
 abbrev pub outcome : {A : Type 0} → Answer Progress → A → Outcome A
 outcome a x = record { answer = a; next = x }
+
+abbrev pub begun : {A : Type 0} → Answer Go → A → Begun A
+begun a x = record { answer = a; next = x }
 
 -- the code's answers
 abbrev pub replyIs : Reply → Answer Progress
@@ -46,6 +59,10 @@ replyIs Reply.Passed = value passed
 replyIs Reply.Waiting = value waiting
 replyIs (Reply.Refused n) = refusal n
 
+abbrev pub openingIs : Opening → Answer Go
+openingIs Opening.Started = value started
+openingIs (Opening.Refused n) = refusal n
+
 abbrev pub turnedIs : Turned → Outcome State
 turnedIs t = outcome (replyIs (t .reply)) (t .state)
 
@@ -54,6 +71,9 @@ movedIs m = outcome (replyIs (m .reply)) (m .stepper)
 
 abbrev pub steppedIs : Stepped → Outcome Runner
 steppedIs s = outcome (replyIs (s .reply)) (s .runner)
+
+abbrev pub openedIs : Opened → Begun Runner
+openedIs o = begun (openingIs (o .reply)) (o .runner)
 
 -- all numbers 0, and not stopped
 abbrev pub freshStepper : Stepper
@@ -170,25 +190,6 @@ inRunner r x = outcome (x .answer) (withStepper r (x .next))
 
 unfoldable pub advanceOf : Runner → List ℕ → Bool → Outcome Runner
 advanceOf r sheet ready = inRunner r (stepperOf (r .stepper) (r .len) (r .kept) sheet ready)
-
--- what a start that is not refused answers
-pub data Go : Type 0 where
-  started : Go
-
--- what a start answers, and what it leaves
-pub record Begun (A : Type 0) : Type 0 where
-  pub answer : Answer Go
-  pub next : A
-
-abbrev pub begun : {A : Type 0} → Answer Go → A → Begun A
-begun a x = record { answer = a; next = x }
-
-abbrev pub openingIs : Opening → Answer Go
-openingIs Opening.Started = value started
-openingIs (Opening.Refused n) = refusal n
-
-abbrev pub openedIs : Opened → Begun Runner
-openedIs o = begun (openingIs (o .reply)) (o .runner)
 
 -- what is kept of a sheet: its bytes, and zeros past them
 abbrev pub padded : List ℕ → List ℕ

@@ -158,10 +158,13 @@ pub fn advance(r: Runner, sheet: &[u8], ready: bool) -> Stepped
     let reply = m.reply;
     let stepper = m.stepper;
     let kept = r.kept;
-    let len = r.len;
     Stepped {
         reply,
-        runner: Runner { kept, len, stepper },
+        runner: Runner {
+            kept,
+            len: r.len,
+            stepper,
+        },
     }
 }
 

@@ -1,6 +1,6 @@
 -- The codes that steps hold for a plan's ranges and sources, and what each code stands for (docs/FORMAT.md, Codes).
 -- Assumes nothing.
-use Prim.Native.Nat.{ℕ}
+use Prim.Native.Nat.{ℕ, _-_}
 use lib.Dec.{eqb}
 use Rattle.base.specs.Choice.{pick}
 use Rattle.base.specs.Answer.{Answer, value, refusal}
@@ -31,21 +31,21 @@ refCode RefClkSrc.Rosc = 0
 refCode RefClkSrc.PllUsb = 1
 refCode RefClkSrc.Xosc = 2
 
+-- 0 the reference clock, then what aux may be: PLL sys, PLL USB, ring, crystal
+abbrev pub sysCode : SysClkSrc → ℕ
+sysCode SysClkSrc.Ref = 0
+sysCode SysClkSrc.PllSys = 1
+sysCode SysClkSrc.PllUsb = 2
+sysCode SysClkSrc.Rosc = 3
+sysCode SysClkSrc.Xosc = 4
+
 -- steps 5, 6 and 28: 0 the reference clock, 1 aux
 abbrev pub sysSelect : SysClkSrc → ℕ
-sysSelect SysClkSrc.Ref = 0
-sysSelect SysClkSrc.PllSys = 1
-sysSelect SysClkSrc.PllUsb = 1
-sysSelect SysClkSrc.Rosc = 1
-sysSelect SysClkSrc.Xosc = 1
+sysSelect src = pick (eqb (sysCode src) 0) 0 1
 
 -- step 28: 0 PLL sys, 1 PLL USB, 2 ring, 3 crystal; 0 too where aux is not selected
 abbrev pub sysAux : SysClkSrc → ℕ
-sysAux SysClkSrc.Ref = 0
-sysAux SysClkSrc.PllSys = 0
-sysAux SysClkSrc.PllUsb = 1
-sysAux SysClkSrc.Rosc = 2
-sysAux SysClkSrc.Xosc = 3
+sysAux src = sysCode src - 1
 
 -- step 30: 0 the system clock, then the same four
 abbrev pub periAux : PeriClkSrc → ℕ
@@ -78,8 +78,13 @@ refFrom n = choose4 n RefClkSrc.Rosc RefClkSrc.PllUsb RefClkSrc.Xosc RefClkSrc.X
 abbrev pub sysFrom : ℕ → SysClkSrc
 sysFrom n = choose4 n SysClkSrc.PllSys SysClkSrc.PllUsb SysClkSrc.Rosc SysClkSrc.Xosc
 
+-- by the code of `sysCode`
+abbrev pub sysSourceFrom : ℕ → SysClkSrc
+sysSourceFrom n = pick (eqb n 0) SysClkSrc.Ref (sysFrom (n - 1))
+
 abbrev pub periFrom : ℕ → PeriClkSrc
-periFrom n = pick (eqb n 4) PeriClkSrc.Xosc (choose4 n PeriClkSrc.Sys PeriClkSrc.PllSys PeriClkSrc.PllUsb PeriClkSrc.Rosc)
+periFrom n =
+    pick (eqb n 4) PeriClkSrc.Xosc (choose4 n PeriClkSrc.Sys PeriClkSrc.PllSys PeriClkSrc.PllUsb PeriClkSrc.Rosc)
 
 abbrev pub auxFrom : ℕ → AuxClkSrc
 auxFrom n = choose4 n AuxClkSrc.PllUsb AuxClkSrc.PllSys AuxClkSrc.Rosc AuxClkSrc.Xosc

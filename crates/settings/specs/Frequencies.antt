@@ -1,6 +1,7 @@
 -- The frequency of each clock in Hz, 0 where it is absent: the ten values that a sheet stores.
 -- Assumes nothing.
-use Prim.Native.Nat.{ℕ, _/_}
+use Prim.Native.Nat.{ℕ, _-_, _/_}
+use lib.Dec.{eqb}
 use mathlib.Core.List.{List, [], _∷_, _++_}
 use Rattle.base.specs.Choice.{pick}
 use Rattle.chip.specs.declared.Chip.{Chip}
@@ -26,6 +27,7 @@ use Rattle.settings.specs.declared.Settings.{Settings}
 use Rattle.settings.specs.declared.Sources.{Sources}
 use Rattle.settings.specs.declared.Frequencies.{Frequencies}
 use Rattle.settings.specs.Settings.{ringHz}
+use Rattle.settings.specs.Codes.{choose4, sysCode, periAux}
 
 -- a plan with an invalid PLL is refused: its 0 Hz reaches no sheet
 unfoldable pub pllHz : ℕ → OptionPll → ℕ
@@ -51,23 +53,19 @@ refSource f RefClkSrc.PllUsb = f .«pll_usb»
 unfoldable pub refHz : Sources → RefClkConfig → ℕ
 refHz f c = refSource f (c .src) / c .div
 
+-- by the codes of `sysCode` and `periAux`: the clock before it, then PLL sys, PLL USB, ring, crystal
+abbrev pub sourceAt : Sources → ℕ → ℕ → ℕ
+sourceAt f before code = pick (eqb code 0) before (choose4 (code - 1) (f .«pll_sys») (f .«pll_usb») (f .rosc) (f .xosc))
+
 abbrev pub sysSource : Sources → ℕ → SysClkSrc → ℕ
-sysSource f reference SysClkSrc.Ref = reference
-sysSource f reference SysClkSrc.PllSys = f .«pll_sys»
-sysSource f reference SysClkSrc.PllUsb = f .«pll_usb»
-sysSource f reference SysClkSrc.Rosc = f .rosc
-sysSource f reference SysClkSrc.Xosc = f .xosc
+sysSource f reference src = sourceAt f reference (sysCode src)
 
 -- the divider is the board's, in the chip's scale
 unfoldable pub sysHz : Board → Sources → ℕ → SysClkSrc → ℕ
 sysHz b f reference src = dividedHz (factsOf (b .chip) .scale) (sysSource f reference src) (b .whole) (b .fraction)
 
 abbrev pub periSource : Sources → ℕ → PeriClkSrc → ℕ
-periSource f system PeriClkSrc.Sys = system
-periSource f system PeriClkSrc.PllSys = f .«pll_sys»
-periSource f system PeriClkSrc.PllUsb = f .«pll_usb»
-periSource f system PeriClkSrc.Rosc = f .rosc
-periSource f system PeriClkSrc.Xosc = f .xosc
+periSource f system src = sourceAt f system (periAux src)
 
 abbrev pub periHz : Sources → ℕ → OptionPeri → ℕ
 periHz f system (OptionPeri.Some src) = periSource f system src

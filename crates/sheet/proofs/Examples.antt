@@ -53,53 +53,46 @@ longest235 =
       «voltage_stabilization_delay_us» = p .«voltage_stabilization_delay_us»;
     }
 
+counts : Gives (crystalPlan Rp2040 12000000) 11 62 × Gives (crystalPlan Rp235x 12000000) 11 63
+    × Gives longestPlan 11 65 × Gives longest235 11 maxSteps
+unfolding longestPlan longest235 startupSum cyclesPerUs settlingCycles dividedHz settlingStep pllHz sourcesOf refHz sysHz
+    strengthsOver ringDividerOver settlingOver startupOver sysPllInvalid usbPllInvalid dividerBad referenceBad wholeBad
+    periBad auxBad rtcBad refusalOf headPart ringPart voltagePart crystalPart switchSteps sysPart periPart auxPart rtcPart
+    clocksPart stepsWith
+counts = (
+  record {
+    typed = record { rosc = omega arith; xosc = omega arith; fraction = omega arith; rtc = omega arith };
+    accepted = refl;
+    count = refl;
+  },
+  record {
+    typed = record { rosc = omega arith; xosc = omega arith; fraction = omega arith; rtc = tt };
+    accepted = refl;
+    count = refl;
+  },
+  record {
+    typed = record { rosc = omega arith; xosc = omega arith; fraction = omega arith; rtc = omega arith };
+    accepted = refl;
+    count = refl;
+  },
+  record {
+    typed = record { rosc = omega arith; xosc = omega arith; fraction = omega arith; rtc = tt };
+    accepted = refl;
+    count = refl;
+  },
+)
+
 pub crystal-steps : Gives (crystalPlan Rp2040 12000000) 11 62
-unfolding startupSum cyclesPerUs settlingCycles dividedHz settlingStep pllHz sourcesOf refHz sysHz strengthsOver
-    ringDividerOver settlingOver startupOver sysPllInvalid usbPllInvalid dividerBad referenceBad wholeBad periBad auxBad rtcBad
-    refusalOf headPart ringPart voltagePart crystalPart switchSteps
-    sysPart periPart auxPart rtcPart clocksPart stepsWith
-crystal-steps =
-    record {
-      typed = record { rosc = omega arith; xosc = omega arith; fraction = omega arith; rtc = omega arith };
-      accepted = refl;
-      count = refl;
-    }
+crystal-steps = counts .0
 
 pub crystal-steps-235 : Gives (crystalPlan Rp235x 12000000) 11 63
-unfolding startupSum cyclesPerUs settlingCycles dividedHz settlingStep pllHz sourcesOf refHz sysHz strengthsOver
-    ringDividerOver settlingOver startupOver sysPllInvalid usbPllInvalid dividerBad referenceBad wholeBad periBad auxBad rtcBad
-    refusalOf headPart ringPart voltagePart crystalPart switchSteps
-    sysPart periPart auxPart rtcPart clocksPart stepsWith
-crystal-steps-235 =
-    record {
-      typed = record { rosc = omega arith; xosc = omega arith; fraction = omega arith; rtc = tt };
-      accepted = refl;
-      count = refl;
-    }
+crystal-steps-235 = counts .1
 
 pub longest-steps : Gives longestPlan 11 65
-unfolding longestPlan startupSum cyclesPerUs settlingCycles dividedHz settlingStep pllHz sourcesOf refHz sysHz strengthsOver
-    ringDividerOver settlingOver startupOver sysPllInvalid usbPllInvalid dividerBad referenceBad wholeBad periBad
-    auxBad rtcBad refusalOf headPart ringPart voltagePart crystalPart
-    switchSteps sysPart periPart auxPart rtcPart clocksPart stepsWith
-longest-steps =
-    record {
-      typed = record { rosc = omega arith; xosc = omega arith; fraction = omega arith; rtc = omega arith };
-      accepted = refl;
-      count = refl;
-    }
+longest-steps = counts .2
 
 pub longest-steps-235 : Gives longest235 11 maxSteps
-unfolding longest235 startupSum cyclesPerUs settlingCycles dividedHz settlingStep pllHz sourcesOf refHz sysHz strengthsOver
-    ringDividerOver settlingOver startupOver sysPllInvalid usbPllInvalid dividerBad referenceBad wholeBad periBad auxBad rtcBad
-    refusalOf headPart ringPart voltagePart crystalPart switchSteps
-    sysPart periPart auxPart rtcPart clocksPart stepsWith
-longest-steps-235 =
-    record {
-      typed = record { rosc = omega arith; xosc = omega arith; fraction = omega arith; rtc = tt };
-      accepted = refl;
-      count = refl;
-    }
+longest-steps-235 = counts .3
 
 -- 150 MHz over 1.5 in the datasheet's scale
 pub system-235 : sysIn (settingsOf longest235 11) ≡ 100000000

@@ -9,8 +9,7 @@ use borrow.Author.Tests.{ltb-false, eq-eqb}
 use Rattle.base.proofs.Bools.{both-false}
 use Rattle.config.specs.declared.OptionAux.{OptionAux}
 use Rattle.config.specs.declared.OptionAux.the-variants.{Some as aux, None as noAux}
-use Rattle.settings.specs.declared.OptionCycles.{OptionCycles}
-use Rattle.settings.specs.declared.OptionCycles.the-variants.{Some as cycles, None as noCycles}
+use Rattle.settings.specs.declared.OptionCycles.the-variants.{None as noCycles}
 use Rattle.settings.specs.declared.Sources.{Sources}
 use Rattle.settings.specs.Settings.{settlingStep}
 use Rattle.settings.specs.Frequencies.{auxSource}

@@ -1,6 +1,6 @@
 -- The steps of an accepted plan are well formed: every field fits its bits.
 -- Assumes nothing.
-use mathlib.Core.Path.{_≡_, refl}
+use mathlib.Core.Path.{_≡_}
 use mathlib.Core.Bool.{Bool, true, false, _||_}
 use Prim.Native.Nat.{ℕ, _+_, _/_, _≤_, _<_, _^_}
 use native.Mathlib.Omega.{arith}
@@ -45,7 +45,7 @@ use Rattle.settings.specs.Typed.{RtcTyped}
 use Rattle.settings.proofs.Small.{Hz, AllHz}
 use Rattle.refusals.specs.Refusals.{strengthsOver, ringDividerOver, settlingOver, startupOver, pllInvalid}
 use Rattle.refusals.specs.Refusals.{sysPllInvalid, usbPllInvalid, wholeBad, rtcBad}
-use Rattle.refusals.proofs.Accepted.{whole-good}
+use Rattle.refusals.proofs.Accepted.{strengths-few, whole-good}
 use Rattle.sheet.specs.Steps.{step1, step2, storeStep, markSteps, headPart, ringPart, settlingSteps, voltagePart}
 use Rattle.sheet.specs.Steps.{pllSteps, crystalPart, sourcePart, tickSteps, refPart, switchSteps, sysPart, periPart}
 use Rattle.sheet.specs.Steps.{auxPart, rtcPart, releaseMask, lastPart}
@@ -124,15 +124,7 @@ pub ring-good : (pass : ℕ) (o : OptionRosc) → Hz (ringHz o) → strengthsOve
     → GoodSteps (ringPart pass o)
 unfolding ringPart strengthsOver ringDividerOver known widths width rows storable
 ring-good pass (ring r) t s d =
-    let g = r .«drive_strength» in
-    let h7 = none-more _ 7 (g .s7) s in
-    let h6 = none-more _ 7 (g .s6) (h7 .0) in
-    let h5 = none-more _ 7 (g .s5) (h6 .0) in
-    let h4 = none-more _ 7 (g .s4) (h5 .0) in
-    let h3 = none-more _ 7 (g .s3) (h4 .0) in
-    let h2 = none-more _ 7 (g .s2) (h3 .0) in
-    let h1 = none-more _ 7 (g .s1) (h2 .0) in
-    let h0 = ltb-false 7 (g .s0) (h1 .0) in
+    let few = strengths-few (r .«drive_strength») s in
     let d′ = ltb-false 65535 (r .div + pass) d in
     record { each = (omega arith, (omega arith, omega (arith, range-code (r .range) .1))) }
 ring-good pass noRing t s d = record { each = omega arith }

@@ -40,7 +40,7 @@ use Rattle.settings.proofs.Decoded.{range-code, ref-code, peri-code, aux-code, 
 use Rattle.sheet.specs.Steps.{step1, storeStep, markSteps, headPart, ringPart, settlingSteps, voltagePart}
 use Rattle.sheet.specs.Steps.{pllSteps, crystalPart, tickSteps, switchSteps, sysPart, periPart, auxPart, rtcPart}
 use Rattle.sheet.specs.Steps.{lastPart, clocksPart, stepsWith, stepsOf}
-use Rattle.sheet.specs.Read.{part, Voltage, Sys, readChip, readRing, readVoltage, pastTick, readPll, readCrystal}
+use Rattle.sheet.specs.Read.{part, Voltage, readChip, readRing, readVoltage, pastTick, readPll, readCrystal}
 use Rattle.sheet.specs.Read.{readSys, readPeri, readAux, readRtc, settingsFrom}
 
 mark-back : (chip : Chip) (ys : List Step)

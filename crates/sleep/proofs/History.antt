@@ -7,12 +7,12 @@ use mathlib.Core.Bool.{Bool, true, false}
 use mathlib.Core.List.{List, [], _∷_}
 use mathlib.Core.Option.{Option, none, some}
 use lib.Dec.{ltb, eqb}
-use lib.ListN.{length, set, length-set}
+use lib.ListN.{length, length-set}
 use lib.Seq.{getD-set-same, getD-set-other}
 use borrow.Author.Tests.{le-ltb, ltb-false, eqb-true, eqb-false}
 use Rattle.base.specs.Choice.{pick}
 use Rattle.sleep.specs.declared.Slot.{Slot}
-use Rattle.sleep.specs.Sleep.{Outcome, unsaved, saved, fresh, slotAt, refused, woken, sleepOf, wakeOf}
+use Rattle.sleep.specs.Sleep.{unsaved, saved, fresh, slotAt, refused, woken, sleepOf, wakeOf}
 use Rattle.sleep.specs.History.{
   stepsIn,
   replayed,

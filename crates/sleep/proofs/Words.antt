@@ -1,6 +1,6 @@
 -- Shifts and masks of a 32-bit word as `*`, `/`, `%` and `+`.
 -- Assumes nothing.
-use mathlib.Core.Path.{_≡_, sym, ap, _∙_}
+use mathlib.Core.Path.{_≡_, ap, _∙_}
 use Prim.Native.Nat.{ℕ, _+_, _-_, _*_, _/_, _%_, _^_, _<_}
 use native.Mathlib.Nat.{one-mul, mod-lt}
 use native.Mathlib.Omega.{arith}

@@ -4,23 +4,23 @@
 use Prim.Native.Nat.{ℕ}
 use mathlib.Core.List.{List, [], _∷_}
 use lib.ListN.{getD}
-use Rattle.sleep.specs.Bits.{stopped, ringOn, ringSlow, refFromRing, sysFromRef, pllOff, crystalOff, cacheOff}
+use Rattle.sleep.specs.Bits.{withField, pllOff}
 
 abbrev pub word : List ℕ → ℕ → ℕ
 word ws i = getD ws i 0
 
--- the words of a sleeping chip
+-- the words of a sleeping chip: the fields that sleep sets, from their lowest bit, by size and value
 unfoldable pub asleep : List ℕ → List ℕ
 asleep ws =
-    stopped (word ws 0)
-    ∷ stopped (word ws 1)
-    ∷ stopped (word ws 2)
-    ∷ ringOn (word ws 3)
-    ∷ ringSlow (word ws 4)
-    ∷ refFromRing (word ws 5)
-    ∷ sysFromRef (word ws 6)
+    withField 11 1 0 (word ws 0)  -- CLK_ADC_CTRL: ENABLE 0
+    ∷ withField 11 1 0 (word ws 1)  -- CLK_USB_CTRL: ENABLE 0
+    ∷ withField 11 1 0 (word ws 2)  -- CLK_PERI_CTRL: ENABLE 0
+    ∷ withField 12 12 0xfab (withField 0 12 0xfa4 (word ws 3))  -- ROSC CTRL: FREQ_RANGE LOW, ENABLE ENABLE
+    ∷ withField 0 12 0xaa0 (word ws 4)  -- ROSC DIV: DIV 32, with the pass value 0xaa0
+    ∷ withField 0 2 0 (word ws 5)  -- CLK_REF_CTRL: SRC the ring
+    ∷ withField 0 1 0 (word ws 6)  -- CLK_SYS_CTRL: SRC the reference clock
     ∷ pllOff (word ws 7)
     ∷ pllOff (word ws 8)
-    ∷ crystalOff (word ws 9)
-    ∷ cacheOff (word ws 10)
+    ∷ withField 12 12 0xd1e (word ws 9)  -- XOSC CTRL: ENABLE DISABLE
+    ∷ withField 3 1 1 (word ws 10)  -- XIP CTRL: POWER_DOWN 1
     ∷ []

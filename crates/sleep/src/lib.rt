@@ -3,6 +3,7 @@
 mod bits;
 pub mod steps;
 
+use bits::with_field;
 use steps::Steps;
 ghost use mathlib.Core.Path.{_≡_};
 ghost use Rattle.sleep.specs.Words.{asleep};
@@ -49,22 +50,23 @@ fn refused(slots: [Slot; 4], words: [u32; 11], number: u8) -> Change
     }
 }
 
-// The words of a sleeping chip.
+// The words of a sleeping chip: the fields that sleep sets, by their bits.
 fn asleep(words: [u32; 11]) -> [u32; 11]
     ensures { λ r. ⌜ r ≡ asleep words ⌝ }
 {
     [
-        bits::stopped(words[0]),
-        bits::stopped(words[1]),
-        bits::stopped(words[2]),
-        bits::ring_on(words[3]),
-        bits::ring_slow(words[4]),
-        bits::ref_from_ring(words[5]),
-        bits::sys_from_ref(words[6]),
+        with_field(words[0], 11, 1, 0), // CLK_ADC_CTRL: ENABLE is 0
+        with_field(words[1], 11, 1, 0), // CLK_USB_CTRL: ENABLE is 0
+        with_field(words[2], 11, 1, 0), // CLK_PERI_CTRL: ENABLE is 0
+        // ROSC CTRL: FREQ_RANGE is LOW, ENABLE is ENABLE
+        with_field(with_field(words[3], 0, 12, 0xfa4), 12, 12, 0xfab),
+        with_field(words[4], 0, 12, 0xaa0), // ROSC DIV: DIV is 0xaa0, which divides by 32
+        with_field(words[5], 0, 2, 0), // CLK_REF_CTRL: SRC is 0, the ring
+        with_field(words[6], 0, 1, 0), // CLK_SYS_CTRL: SRC is 0, the reference clock
         bits::pll_off(words[7]),
         bits::pll_off(words[8]),
-        bits::crystal_off(words[9]),
-        bits::cache_off(words[10]),
+        with_field(words[9], 12, 12, 0xd1e), // XOSC CTRL: ENABLE is DISABLE
+        with_field(words[10], 3, 1, 1), // XIP CTRL: POWER_DOWN is 1
     ]
 }
 

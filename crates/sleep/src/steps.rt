@@ -1,10 +1,10 @@
 // The steps of a sleep or a wake, in order.
 use crate::bits;
 ghost use mathlib.Core.Path.{_≡_};
-ghost use Rattle.sleep.specs.Bits.{pllRuns, crystalRuns};
-ghost use Rattle.sleep.specs.Sleep.{stepsOf, sleepSteps, wakeSteps};
+ghost use Prim.Native.Nat.{_<_};
+ghost use Rattle.sleep.specs.Sleep.{stepsOf, write, sleepSteps, wakeSteps};
 ghost use Rattle.sleep.specs.Inside.{empty, pushed, pushedIf};
-ghost use Rattle.sleep.specs.declared.steps.Step.the-variants.{Write, CrystalStable, Locked};
+ghost use Rattle.sleep.specs.declared.steps.Step.the-variants.{Write};
 
 pub enum Step {
     // Write the value to one of the eleven registers.
@@ -61,24 +61,23 @@ impl Steps {
         self.push(Step::Write { register, value })
     }
 
-    // The crystal's word back, with a wait where it says that the crystal was running.
-    fn restore_crystal(self, word: u32) -> Steps
-        ensures { λ r. ⌜ r ≡ pushedIf (crystalRuns word) (pushed self (Write 9 word)) CrystalStable ⌝ }
+    // Three of the words, to their registers.
+    fn write3(self, words: [u32; 11], i: u8, j: u8, k: u8) -> Steps
+        requires { ⌜ (i < 11) × (j < 11) × (k < 11) ⌝ }
+        ensures { λ r. ⌜ r ≡ pushed (pushed (pushed self (write words i)) (write words j)) (write words k) ⌝ }
     {
-        let written = self.write(9, word);
-        if bits::crystal_runs(word) {
-            return written.push(Step::CrystalStable);
-        }
-        written
+        self.write(i, words[i as usize])
+            .write(j, words[j as usize])
+            .write(k, words[k as usize])
     }
 
-    // A PLL's word back, with a wait where it says that the PLL was running.
-    fn restore_pll(self, register: u8, pll: u8, word: u32) -> Steps
-        ensures { λ r. ⌜ r ≡ pushedIf (pllRuns word) (pushed self (Write register word)) (Locked pll) ⌝ }
+    // A word back, with a wait where it says that what it controls was running.
+    fn restore(self, register: u8, word: u32, running: bool, wait: Step) -> Steps
+        ensures { λ r. ⌜ r ≡ pushedIf running (pushed self (Write register word)) wait ⌝ }
     {
         let written = self.write(register, word);
-        if bits::pll_runs(word) {
-            return written.push(Step::Locked(pll));
+        if running {
+            return written.push(wait);
         }
         written
     }
@@ -88,33 +87,26 @@ impl Steps {
 pub(crate) fn to_sleep(words: [u32; 11]) -> Steps
     ensures { λ r. ⌜ stepsOf r ≡ sleepSteps words ⌝ }
 {
-    none().write(0, words[0])
-        .write(1, words[1])
-        .write(2, words[2])
+    none().write3(words, 0, 1, 2)
         .write(3, words[3])
         .write(4, words[4])
         .push(Step::RingStable)
-        .write(5, words[5])
-        .write(6, words[6])
-        .write(7, words[7])
-        .write(8, words[8])
-        .write(9, words[9])
-        .write(10, words[10])
+        .write3(words, 5, 6, 7)
+        .write3(words, 8, 9, 10)
 }
 
 // The steps back to the words of a chip that was awake.
 pub(crate) fn to_wake(words: [u32; 11]) -> Steps
     ensures { λ r. ⌜ stepsOf r ≡ wakeSteps words ⌝ }
 {
+    let crystal = bits::crystal_runs(words[9]);
+    let usb = bits::pll_runs(words[8]);
+    let sys = bits::pll_runs(words[7]);
     none().write(10, words[10])
-        .restore_crystal(words[9])
-        .restore_pll(8, 1, words[8])
-        .restore_pll(7, 0, words[7])
-        .write(6, words[6])
-        .write(5, words[5])
-        .write(3, words[3])
-        .write(4, words[4])
-        .write(2, words[2])
-        .write(1, words[1])
+        .restore(9, words[9], crystal, Step::CrystalStable)
+        .restore(8, words[8], usb, Step::Locked(1))
+        .restore(7, words[7], sys, Step::Locked(0))
+        .write3(words, 6, 5, 3)
+        .write3(words, 4, 2, 1)
         .write(0, words[0])
 }

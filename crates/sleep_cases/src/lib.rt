@@ -23,18 +23,18 @@ fn put_words(out: &mut [u8], at: usize, words: [u32; 11]) -> usize
     ensures { λ r. ⌜ Placed (now (out .entry)) at (wordsText words) r (now (out .exit)) ⌝ }
 {
     let more = [
-        base::wide(words[1]),
-        base::wide(words[2]),
-        base::wide(words[3]),
-        base::wide(words[4]),
-        base::wide(words[5]),
-        base::wide(words[6]),
-        base::wide(words[7]),
-        base::wide(words[8]),
-        base::wide(words[9]),
-        base::wide(words[10]),
+        words[1] as u64,
+        words[2] as u64,
+        words[3] as u64,
+        words[4] as u64,
+        words[5] as u64,
+        words[6] as u64,
+        words[7] as u64,
+        words[8] as u64,
+        words[9] as u64,
+        words[10] as u64,
     ];
-    replies::put_row(out, at, base::wide(words[0]), &more)
+    replies::put_row(out, at, words[0] as u64, &more)
 }
 
 // A space, a slot's flag and its words.

@@ -8,34 +8,12 @@ ghost use Rattle.base.specs.Placed.{Placed};
 ghost use Rattle.sleep.specs.Sleep.{stepsOf};
 ghost use Rattle.sleep_numbers.specs.Numbers.{slotNumbers, slotsNumbers, stepNumbers, stepsNumbers};
 
-fn put_number(buf: &mut [u32], at: usize, n: u32) -> usize
-    ensures { λ r. ⌜ Placed (now (buf .entry)) at (n ∷ []) r (now (buf .exit)) ⌝ }
-{
-    if at < buf.len() {
-        buf[at] = n;
-        return at + 1;
-    }
-    buf.len()
-}
-
-pub fn put_numbers(buf: &mut [u32], at: usize, s: &[u32]) -> usize
-    ensures { λ r. ⌜ Placed (now (buf .entry)) at (now (s .entry)) r (now (buf .exit)) ⌝ }
-{
-    let mut end = base::least(at, buf.len());
-    let mut i = 0;
-    while i < s.len() {
-        end = put_number(buf, end, s[i]);
-        i += 1;
-    }
-    end
-}
-
 fn put_slot(buf: &mut [u32], at: usize, slot: Slot) -> usize
     ensures { λ r. ⌜ Placed (now (buf .entry)) at (slotNumbers slot) r (now (buf .exit)) ⌝ }
 {
     let words = slot.words;
-    let end = put_number(buf, at, base::bit(slot.saved));
-    put_numbers(buf, end, &words)
+    let end = base::put_number(buf, at, base::bit(slot.saved));
+    base::put_numbers(buf, end, &words)
 }
 
 pub fn put_slots(buf: &mut [u32], at: usize, slots: [Slot; 4]) -> usize
@@ -50,8 +28,8 @@ pub fn put_slots(buf: &mut [u32], at: usize, slots: [Slot; 4]) -> usize
 fn put_pair(buf: &mut [u32], at: usize, a: u32, b: u32) -> usize
     ensures { λ r. ⌜ Placed (now (buf .entry)) at (a ∷ b ∷ []) r (now (buf .exit)) ⌝ }
 {
-    let end = put_number(buf, at, a);
-    put_number(buf, end, b)
+    let end = base::put_number(buf, at, a);
+    base::put_number(buf, end, b)
 }
 
 fn put_step(buf: &mut [u32], at: usize, step: Step) -> usize

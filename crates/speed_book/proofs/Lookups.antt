@@ -6,7 +6,7 @@ use Prim.Native.Nat.{ℕ, _+_, _-_, _*_, _≤_, _<_}
 use native.Mathlib.Omega.{arith}
 use native.Mathlib.Decide.{decLe}
 use borrow.Author.Tests.{lt-ltb, le-ltb, eq-eqb, ne-eqb}
-use Rattle.base.specs.Answer.{Answer, value}
+use Rattle.base.specs.Answer.{value}
 use Rattle.base.specs.Choice.{pick}
 use Rattle.pll.specs.Search.{searchOf}
 use Rattle.pll.specs.Walk.{key}

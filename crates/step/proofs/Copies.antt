@@ -1,7 +1,7 @@
 -- Copying words to the start of a buffer: what a turn of the copy leaves, and the two ends of it.
 -- Assumes nothing.
 use mathlib.Core.Bool.{true, false}
-use mathlib.Core.Path.{_≡_, refl, sym, ap, _∙_}
+use mathlib.Core.Path.{_≡_, refl, ap, _∙_}
 use Prim.Native.Nat.{ℕ, _+_, _*_, _≤_, _<_}
 use mathlib.Core.List.{List, [], _∷_, _++_, map, map-append, append-nil}
 use lib.ListN.{length, take, drop, getD, length-map}

@@ -3,6 +3,7 @@
 use mathlib.Core.Path.{_≡_, refl, sym, ap, _∙_}
 use mathlib.Core.Bool.{Bool, true, false}
 use mathlib.Core.List.{List, [], _∷_}
+use mathlib.Core.Logic.{_⊎_, inl, inr}
 use Prim.Native.Nat.{ℕ, zero, suc, _+_, _-_, _≤_, _<_}
 use native.Mathlib.Decide.{decLe}
 use native.Mathlib.Nat.{add-zero}
@@ -61,11 +62,33 @@ up-take b (suc n) (x ∷ xs) = go (eqb x b) (up-take b n xs)
 pub too-long : (cs : List ℕ) → 10 < length cs → numberOf cs ≡ refusal 24
 too-long cs h = bad-length cs (rw (le-leb 1 (length cs) (omega arith), lt-leb (length cs) 10 h))
 
+-- of the first n bytes a word of at most 10 is the same; a longer one is no number, nor is what n bytes have of it
+pub word-known : (b n : ℕ) (s : List ℕ) → 10 < n
+    → ((length (upTo b s) ≤ 10) × (upTo b (take n s) ≡ upTo b s))
+    ⊎ ((numberOf (upTo b (take n s)) ≡ refusal 24) × (numberOf (upTo b s) ≡ refusal 24))
+word-known b n s enough = elim (decLe (length (upTo b s)) 10) [
+  | yes short ↦ inl (short, up-take b n s ∙ take-all n (upTo b s) (omega arith))
+  | no long ↦
+      let cut : 10 < length (take n (upTo b s)) = simp length-take (omega arith) in
+      inr (ap numberOf (up-take b n s) ∙ too-long (take n (upTo b s)) cut, too-long (upTo b s) (omega arith))
+]
+
 -- the first 11 bytes decide: a program may read so many and leave the rest
 pub line-start : (n : ℕ) (s : List ℕ) → 11 ≤ n → lineNumberOf (take n s) ≡ lineNumberOf s
-line-start n s h = elim (decLe (length (upTo 10 s)) n) [
-  | yes short ↦ ap numberOf (up-take 10 n s ∙ take-all n (upTo 10 s) short)
-  | no long ↦
-      let l : 10 < length (take n (upTo 10 s)) = simp length-take (omega arith) in
-      ap numberOf (up-take 10 n s) ∙ too-long (take n (upTo 10 s)) l ∙ sym (too-long (upTo 10 s) (omega arith))
+line-start n s h = elim (word-known 10 n s (omega arith)) [
+  | inl same ↦ ap numberOf (same .1)
+  | inr none ↦ none .0 ∙ sym (none .1)
 ]
+
+take-none : (m : ℕ) → _≡_ {A = List ℕ} [] (take m [])
+take-none zero = refl
+take-none (suc m) = refl
+
+pub drop-take : (k n : ℕ) (s : List ℕ) → drop k (take n s) ≡ take (n - k) (drop k s)
+drop-take zero n s = let same : n ≡ n - 0 = omega arith in ap (λ (m : ℕ). take m s) same
+drop-take (suc k) zero s =
+    let same : 0 ≡ 0 - suc k = omega arith in ap (λ (m : ℕ). take m (drop (suc k) s)) same
+drop-take (suc k) (suc n) [] = take-none (suc n - suc k)
+drop-take (suc k) (suc n) (x ∷ xs) =
+    let same : n - k ≡ suc n - suc k = omega arith in
+    drop-take k n xs ∙ ap (λ (m : ℕ). take m (drop k xs)) same

@@ -17,6 +17,6 @@ upTo b (x ∷ xs) = pick (eqb x b) [] (x ∷ upTo b xs)
 unfoldable pub indexFrom : List ℕ → ℕ → ℕ → ℕ
 indexFrom xs at b = at + length (upTo b (drop at xs))
 
--- the number on the first line, as program `clocks` reads it (docs/FORMAT.md, Program clocks): what follows the newline is not looked at
+-- the number on the first line, as program `clocks` reads it (docs/PROGRAMS.md, Program clocks): what follows the newline is not looked at
 abbrev pub lineNumberOf : List ℕ → Answer ℕ
 lineNumberOf s = numberOf (upTo 10 s)

@@ -1,18 +1,20 @@
 -- 80012 bytes are enough for every output: 8 for each target, 12 for the runner.
 -- Assumes nothing.
 use mathlib.Core.Bool.{Bool, true, false}
-use mathlib.Core.List.{List, [], _∷_, _++_}
+use mathlib.Core.List.{List}
 use mathlib.Core.Path.{_≡_, refl}
-use Prim.Native.Nat.{ℕ, zero, suc, _+_, _*_, _≤_, _<_}
+use Prim.Native.Nat.{ℕ, zero, suc, _+_, _*_, _≤_}
 use native.Mathlib.Omega.{arith}
 use borrow.Author.Tests.{ltb-false}
 use lib.Dec.{ltb}
 use lib.ListN.{length, drop, length-append}
 use Rattle.base.specs.Answer.{Answer, value, refusal}
 use Rattle.base.specs.Choice.{pick}
-use Rattle.text.specs.Decimal.{decimalOf, isNumber, numberOf}
+use Rattle.text.specs.Decimal.{isNumber, numberOf}
 use Rattle.text.specs.Words.{upTo}
 use Rattle.text.proofs.Decimals.{length-decimal}
+use Rattle.replies.specs.Reply.{refusedLine}
+use Rattle.replies.proofs.Refused.{refused-most}
 use Rattle.pll.specs.declared.PllConfig.{PllConfig}
 use Rattle.pll.proofs.Inputs.{search-finds, found-valid}
 use Rattle.pll.proofs.Valid.{valid}
@@ -22,7 +24,7 @@ use Rattle.runner.specs.Run.{Outcome, oneMore, turnOf, stepperOf, advanceOf}
 use Rattle.runner.proofs.Calls.{both, every-turn}
 use Rattle.up.specs.Wait.{runnerAfter}
 use Rattle.trial.specs.Draws.{drawn}
-use Rattle.trial.specs.Load.{refusedLine, targetLine, targetLines, trialSheet, flags, trialRunner, runnerLine}
+use Rattle.trial.specs.Load.{targetLine, targetLines, trialSheet, flags, trialRunner, runnerLine}
 use Rattle.trial.specs.Load.{trials, mostCount, loadWith, loadOf}
 
 -- ---- a line
@@ -90,14 +92,11 @@ trials-most seed count few =
     let last = runner-most (trialRunner seed count) (omega (arith, calls .0)) (omega (arith, calls .1)) in
     simp length-append (omega (arith, targets-most seed count, last))
 
-pub refused-most : (n : ℕ) → n < 100 → length (refusedLine n) ≤ 11
-refused-most n h = simp length-append (omega (arith, length-decimal 1 n (omega arith) .1))
-
 counted-most : (seed count : ℕ) → length (loadWith (value seed) (value count)) ≤ 80012
 counted-most seed count = go (ltb mostCount count) refl
   where
     go : (b : Bool) → ltb mostCount count ≡ b → length (pick b (refusedLine 31) (trials seed count)) ≤ 80012
-    go true e = omega (arith, refused-most 31 (omega arith))
+    go true e = omega (arith, refused-most 1 31 (omega arith))
     go false e = trials-most seed count (ltb-false mostCount count e)
 
 -- what holds of every value and of 24 holds of what is read
@@ -108,7 +107,7 @@ read P cs some none = both P (isNumber cs) _ _ (some _) none
 pub load-most : (input : List ℕ) → length (loadOf input) ≤ 80012
 unfolding loadOf
 load-most input =
-    let none = refused-most 24 (omega arith) in
+    let none = refused-most 1 24 (omega arith) in
     let seed = upTo 32 input in
     let count = upTo 10 (drop (length seed + 1) input) in
     read (λ (a : Answer ℕ). length (loadWith a (numberOf count)) ≤ 80012) seed

@@ -9,7 +9,7 @@ use Rattle.base.specs.Answer.{Answer, value, refusal}
 use Rattle.base.specs.Choice.{pick}
 use Rattle.text.specs.Decimal.{numberOf}
 use Rattle.text.specs.Words.{upTo}
-use Rattle.replies.specs.Reply.{refusedText, answerText, rowText}
+use Rattle.replies.specs.Reply.{refusedLine, answerText, rowText}
 use Rattle.pll.specs.declared.PllConfig.{PllConfig}
 use Rattle.pll.specs.Search.{searchOf}
 use Rattle.chip.specs.declared.Chip.the-variants.{Rp2040}
@@ -22,9 +22,6 @@ use Rattle.trial.specs.Draws.{drawn, topBit}
 -- a text closed by a newline
 abbrev pub line : List ℕ → List ℕ
 line text = text ++ (10 ∷ [])
-
-abbrev pub refusedLine : ℕ → List ℕ
-refusedLine n = line (refusedText n)
 
 -- feedback divider, post 1, post 2
 abbrev pub dividers : PllConfig → List ℕ

@@ -9,14 +9,14 @@ use step::MAX_BYTES;
 ghost use mathlib.Core.Bool.{false};
 ghost use mathlib.Core.Path.{_≡_};
 ghost use Prim.Native.Nat.{_*_, _%_, _^_, _≤_};
-ghost use lib.ListN.{length, take};
+ghost use lib.ListN.{length};
 ghost use Rattle.base.specs.Answer.{value, numberIs};
 ghost use Rattle.base.specs.Placed.{Placed};
-ghost use Rattle.text.specs.Output.{Whole, Printed};
+ghost use Rattle.text.specs.Output.{Printed};
 ghost use Rattle.runner.specs.Run.{badSize};
 ghost use Rattle.up.specs.Wait.{runnerAfter};
 ghost use Rattle.trial.specs.Draws.{drawOf, topBit};
-ghost use Rattle.trial.specs.Load.{refusedLine, targetLine, targetLines, flags, trialRunner, runnerLine};
+ghost use Rattle.trial.specs.Load.{targetLine, targetLines, flags, trialRunner, runnerLine};
 ghost use Rattle.trial.specs.Load.{trials, loadWith, loadOf};
 
 // The crystal of both trials.
@@ -45,13 +45,6 @@ fn top_bit(x: u32) -> bool
     ensures { λ r. ⌜ r ≡ topBit x ⌝ }
 {
     2147483648 <= x
-}
-
-fn put_refused(out: &mut [u8], number: u8) -> usize
-    ensures { λ r. ⌜ Placed (now (out .entry)) 0 (refusedLine number) r (now (out .exit)) ⌝ }
-{
-    let at = replies::put_refused(out, number);
-    text::put_byte(out, at, b'\n')
 }
 
 // The setting for a target, on a line. At 12 MHz every target has one.
@@ -135,11 +128,11 @@ fn put_counted(out: &mut [u8], seed: u32, count: Number) -> usize
     match count {
         Number::Value(count) => {
             if count > MOST_COUNT {
-                return put_refused(out, 31);
+                return replies::put_refused_line(out, 31);
             }
             put_trials(out, seed, count)
         }
-        Number::Refused(number) => put_refused(out, number),
+        Number::Refused(number) => replies::put_refused_line(out, number),
     }
 }
 
@@ -153,19 +146,8 @@ fn put_load(input: &[u8], out: &mut [u8]) -> usize
         Number::Value(seed) => {
             put_counted(out, seed, text::number_up_to(input, space + 1, b'\n'))
         }
-        Number::Refused(no_seed) => put_refused(out, no_seed),
+        Number::Refused(no_seed) => replies::put_refused_line(out, no_seed),
     }
-}
-
-// The output for the first n bytes of an input, or for all of them.
-fn put_start(start: &[u8], n: usize, out: &mut [u8]) -> usize
-    requires { ⌜ length (now start) ≤ 22 ⌝ }
-    ensures { λ r. ⌜ Placed (now (out .entry)) 0 (loadOf (take n (now (start .entry)))) r (now (out .exit)) ⌝ }
-{
-    if n < start.len() {
-        return put_load(&start[..n], out);
-    }
-    put_load(start, out)
 }
 
 // Writes the output for an input of which the first n bytes are known: all that it has, or as many as start holds, which
@@ -173,12 +155,5 @@ fn put_start(start: &[u8], n: usize, out: &mut [u8]) -> usize
 pub fn load(start: &[u8; 22], n: usize, out: &mut [u8; 80012]) -> usize
     ensures { λ e. ⌜ Printed loadOf (now (start .entry)) n (now (out .entry)) e (now (out .exit)) ⌝ }
 {
-    put_start(start, n, out)
-}
-
-// The output where the input cannot be read.
-pub fn unread(out: &mut [u8; 80012]) -> usize
-    ensures { λ e. ⌜ Whole (refusedLine 24) (now (out .entry)) e (now (out .exit)) ⌝ }
-{
-    put_refused(out, 24)
+    put_load(base::first(start, n), out)
 }

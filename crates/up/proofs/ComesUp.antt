@@ -8,7 +8,7 @@ use mathlib.Core.Bool.{Bool}
 use mathlib.Core.List.{List}
 use mathlib.Core.Path.{_≡_, refl}
 use lib.ListN.{length}
-use Rattle.step.specs.Sheet.{maxSteps, encoded}
+use Rattle.step.specs.Sheet.{encoded}
 use Rattle.chip.specs.declared.Chip.{Chip}
 use Rattle.chip.specs.declared.Chip.the-variants.{Rp2040, Rp235x}
 use Rattle.divider.specs.Delay.{cyclesPerUs, settlingCycles}

@@ -16,7 +16,7 @@ use Rattle.step.proofs.Sheets.{length-encoded, read-encoded}
 use Rattle.runner.specs.declared.Runner.{Runner}
 use Rattle.runner.specs.Run.{passed, waiting, outcome, isWait, oneMore, takeStep, storedBy}
 use Rattle.runner.specs.Calls.{storesOf}
-use Rattle.runner.proofs.Going.{going, standing, wait-stores, hands, passes, Polled, polls-on, done-at, step-at}
+use Rattle.runner.proofs.Going.{going, standing, wait-stores, hands, passes, polls-on, done-at, step-at}
 use Rattle.up.specs.Wait.{runnerAfter, answerTo, heard, HearsAtMost, waitsIn, OnTheWay, UpAfter, UpWithin}
 use Rattle.up.specs.Slow.{HearsAll}
 use Rattle.up.proofs.Stream.{at, next, answered, stays-done, elsewhere, polled-here}
@@ -166,7 +166,8 @@ module _ (sheet : List ℕ) (n : ℕ) (few : n ≤ maxSteps) (size : length shee
 
     no-wait : isWait (step .kind) ≡ false → Goes i (i + after (step ∷ ts)) (storesOf (step ∷ ts) freqs)
     no-wait w =
-        let call = step-at sheet n few size step p 0 total freqs (ready i) _ below (omega arith) read (hands (going p 0 total) step (ready i) w) in
+        let hand = hands (going p 0 total) step (ready i) w in
+        let call = step-at sheet n few size step p 0 total freqs (ready i) _ below (omega arith) read hand in
         let way : OnTheWay (answerTo sheet ready i) = rw (answered sheet ready i _ _ (a .is) call) tt in
         let most : suc i + after ts ≡ i + after (step ∷ ts) = rw (other-counts step ts w) (omega arith) in
         let g : Goes (suc i) (suc i + after ts) (storesOf ts (storedBy step freqs)) =

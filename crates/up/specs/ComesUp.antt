@@ -1,6 +1,6 @@
 -- Will it come up? How many calls a sheet of ours may take (docs/FORMAT.md, How long a run takes).
 -- Assumes nothing.
-use Prim.Native.Nat.{ℕ, _+_, _*_, _≤_, _<_}
+use Prim.Native.Nat.{ℕ, _+_, _*_, _<_}
 use mathlib.Core.Bool.{Bool}
 use lib.Dec.{ltb}
 use lib.ListN.{length}

@@ -5,7 +5,7 @@ ghost use Rattle.voltage.specs.Voltage235.{volts235Of, code235Of, bod235
 ghost use Rattle.voltage.specs.Answers.{voltageReadIs, voltageRead235Is};
 
 // A voltage's register code, brownout level and default settling time in µs.
-struct Volts(u8, u8, u32);
+pub struct Volts(pub u8, pub u8, pub u32);
 
 // Of the RP2040.
 pub enum CoreVoltage {
@@ -29,7 +29,7 @@ pub enum VoltageRead {
 }
 
 impl CoreVoltage {
-    fn volts(self) -> Volts
+    pub fn volts(self) -> Volts
         ensures { λ r. ⌜ r ≡ voltsOf self ⌝ }
     {
         match self {
@@ -115,7 +115,7 @@ pub enum VoltageRead235 {
 }
 
 impl CoreVoltage235 {
-    fn volts(self) -> Volts
+    pub fn volts(self) -> Volts
         ensures { λ r. ⌜ r ≡ volts235Of self ⌝ }
     {
         match self {

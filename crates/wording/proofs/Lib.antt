@@ -1,2 +1,3 @@
+pub mod Commas
 pub mod Forms
 pub mod Starts

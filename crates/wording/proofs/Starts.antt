@@ -2,6 +2,7 @@
 -- Assumes nothing.
 use mathlib.Core.Bool.{Bool, true, false, _&&_}
 use mathlib.Core.List.{List, [], _∷_}
+use mathlib.Core.Logic.{inl, inr}
 use mathlib.Core.Option.{none, some}
 use mathlib.Core.Path.{_≡_, refl, sym, ap, _∙_}
 use Prim.Native.Nat.{ℕ, _+_, _-_, _*_, _≤_, _<_}
@@ -17,9 +18,8 @@ use Rattle.text.specs.Decimal.{numberOf}
 use Rattle.text.specs.Hex.{isHexWord, pairValues, isReadable}
 use Rattle.text.specs.Words.{upTo, indexFrom, lineNumberOf}
 use Rattle.text.specs.Output.{Printed}
-use Rattle.text.proofs.Lines.{between, up-take, too-long}
+use Rattle.text.proofs.Lines.{between, up-take, word-known, drop-take}
 use Rattle.text.proofs.Outputs.{whole}
-use Rattle.trial.proofs.Starts.{drop-take}
 use Rattle.plan_text.specs.Put.{Put}
 use Rattle.readback.specs.Read.{readOf}
 use Rattle.read_cases.specs.Reads.{sheetIn}
@@ -52,30 +52,21 @@ word-start reading n w enough = elim (decLe (length w) n) [
 ]
 
 -- so is the second line
-second-start : (reading n : ℕ) (input : List ℕ) → length (upTo 10 input) ≤ 10 → 4109 ≤ n
-    → sheetIn reading (secondLine (take n input)) ≡ sheetIn reading (secondLine input)
-second-start reading n input short enough =
-    let first : List ℕ = upTo 10 input in
-    let same : upTo 10 (take n input) ≡ first = up-take 10 n input ∙ take-all n first (omega arith) in
-    let k : ℕ = length first + 1 in
+second-start : (reading n : ℕ) (input : List ℕ) → length (upTo 10 input) ≤ 10 → upTo 10 (take n input) ≡ upTo 10 input
+    → 4109 ≤ n → sheetIn reading (secondLine (take n input)) ≡ sheetIn reading (secondLine input)
+second-start reading n input short same enough =
+    let k : ℕ = length (upTo 10 input) + 1 in
     rw (same, drop-take k n input, up-take 10 (n - k) (drop k input))
     (word-start reading (n - k) (upTo 10 (drop k input)) (omega arith))
 
 pub explain-start : (n : ℕ) (input : List ℕ) → 4109 ≤ n → explainOf (take n input) ≡ explainOf input
 unfolding explainOf
-explain-start n input enough = elim (decLe (length first) 10) [
-  | yes short ↦
-      let same : upTo 10 (take n input) ≡ first = up-take 10 n input ∙ take-all n first (omega arith) in
-      go (numberOf first) (ap numberOf same) (λ reading. second-start reading n input short enough)
-  | no long ↦
-      let cut : 10 < length (take n first) = simp length-take (omega arith) in
-      let before : numberOf (upTo 10 (take n input)) ≡ refusal 24 = ap numberOf (up-take 10 n input) ∙ too-long (take n first) cut in
-      rw (before, too-long first (omega arith))
+explain-start n input enough = elim (word-known 10 n input (omega arith)) [
+  | inl line ↦
+      go (lineNumberOf input) (ap numberOf (line .1)) (λ reading. second-start reading n input (line .0) (line .1) enough)
+  | inr bad ↦ rw (bad .0, bad .1)
 ]
   where
-    first : List ℕ
-    first = upTo 10 input
-
     go : (a : Answer ℕ) → lineNumberOf (take n input) ≡ a
         → ((reading : ℕ) → sheetIn reading (secondLine (take n input)) ≡ sheetIn reading (secondLine input))
         → readingWords (lineNumberOf (take n input)) (secondLine (take n input)) ≡ readingWords a (secondLine input)

@@ -1,21 +1,17 @@
 -- The whole output of program `explain`, for its input (docs/PROGRAMS.md, Program explain).
 -- Assumes nothing.
-use mathlib.Core.List.{List, _++_}
+use mathlib.Core.List.{List}
 use mathlib.Core.Option.{Option, none, some}
 use Prim.Native.Nat.{ℕ, _+_}
 use lib.Dec.{ltb}
 use lib.ListN.{length, drop}
 use Rattle.base.specs.Answer.{Answer, value, refusal}
 use Rattle.base.specs.Choice.{pick}
-use Rattle.text.specs.Ascii.{ascii}
 use Rattle.text.specs.Words.{upTo, lineNumberOf}
-use Rattle.replies.specs.Reply.{refusedText}
+use Rattle.replies.specs.Reply.{refusedLine}
 use Rattle.config.specs.declared.ClockConfig.{ClockConfig}
 use Rattle.read_cases.specs.Reads.{sheetIn}
 use Rattle.wording.specs.Words.{wordsOf}
-
-abbrev pub refusedLine : ℕ → List ℕ
-refusedLine n = refusedText n ++ ascii "\n"
 
 -- a sheet that was read at a reading; 24 where there is none
 abbrev pub sheetWords : ℕ → Option (Answer ClockConfig) → List ℕ

@@ -1,42 +1,36 @@
--- The names of ranges, sources and blocks.
+-- The names of ranges and sources, by their codes (docs/FORMAT.md, Codes).
 -- Assumes nothing.
-use mathlib.Core.List.{List}
-use Prim.Native.Nat.{ℕ}
+use mathlib.Core.List.{List, [], _∷_, _++_}
+use Prim.Native.Nat.{ℕ, zero, suc, _+_}
+use lib.ListN.{length, drop}
 use Rattle.text.specs.Ascii.{ascii}
-use Rattle.config.specs.declared.RoscRange.{RoscRange}
-use Rattle.config.specs.declared.RefClkSrc.{RefClkSrc}
-use Rattle.config.specs.declared.SysClkSrc.{SysClkSrc}
-use Rattle.config.specs.declared.PeriClkSrc.{PeriClkSrc}
-use Rattle.config.specs.declared.AuxClkSrc.{AuxClkSrc}
+use Rattle.text.specs.Words.{upTo}
+use Rattle.wording.specs.Form.{formed}
 
-abbrev pub rangeName : RoscRange → List ℕ
-rangeName RoscRange.Low = ascii "low"
-rangeName RoscRange.Medium = ascii "medium"
-rangeName RoscRange.High = ascii "high"
-rangeName RoscRange.TooHigh = ascii "too high"
+-- from the name with number n on, of names with a comma, which is byte 44, between
+abbrev pub namesFrom : List ℕ → ℕ → List ℕ
+namesFrom names zero = names
+namesFrom names (suc n) = drop (length (upTo 44 (namesFrom names n)) + 1) (namesFrom names n)
 
-abbrev pub refName : RefClkSrc → List ℕ
-refName RefClkSrc.Xosc = ascii "xosc"
-refName RefClkSrc.Rosc = ascii "rosc"
-refName RefClkSrc.PllUsb = ascii "pll_usb"
+unfoldable pub nameAt : List ℕ → ℕ → List ℕ
+nameAt names n = upTo 44 (namesFrom names n)
 
-abbrev pub sysName : SysClkSrc → List ℕ
-sysName SysClkSrc.Ref = ascii "ref"
-sysName SysClkSrc.PllSys = ascii "pll_sys"
-sysName SysClkSrc.PllUsb = ascii "pll_usb"
-sysName SysClkSrc.Rosc = ascii "rosc"
-sysName SysClkSrc.Xosc = ascii "xosc"
+-- a form with a number in it, the name with a code, a form with more numbers
+abbrev pub namedForm : List ℕ → ℕ → List ℕ → ℕ → List ℕ → List ℕ → List ℕ
+namedForm first n names code last ns = formed first (n ∷ []) ++ (nameAt names code ++ formed last ns)
 
-abbrev pub periName : PeriClkSrc → List ℕ
-periName PeriClkSrc.Sys = ascii "sys"
-periName PeriClkSrc.PllSys = ascii "pll_sys"
-periName PeriClkSrc.PllUsb = ascii "pll_usb"
-periName PeriClkSrc.Rosc = ascii "rosc"
-periName PeriClkSrc.Xosc = ascii "xosc"
+abbrev pub rangeNames : List ℕ
+rangeNames = ascii "low,medium,high,too high"
+
+abbrev pub refNames : List ℕ
+refNames = ascii "rosc,pll_usb,xosc"
+
+abbrev pub sysNames : List ℕ
+sysNames = ascii "ref,pll_sys,pll_usb,rosc,xosc"
+
+abbrev pub periNames : List ℕ
+periNames = ascii "sys,pll_sys,pll_usb,rosc,xosc"
 
 -- of USB, ADC and RTC
-abbrev pub auxName : AuxClkSrc → List ℕ
-auxName AuxClkSrc.PllUsb = ascii "pll_usb"
-auxName AuxClkSrc.PllSys = ascii "pll_sys"
-auxName AuxClkSrc.Rosc = ascii "rosc"
-auxName AuxClkSrc.Xosc = ascii "xosc"
+abbrev pub auxNames : List ℕ
+auxNames = ascii "pll_usb,pll_sys,rosc,xosc"

@@ -46,9 +46,8 @@ clockLines s b f =
 unfoldable pub planLine : ClockConfig → List ℕ
 planLine p = ascii "plan" ++ (spaced (planRow p) ++ ascii "\n")
 
+abbrev pub wordsWith : ClockConfig → Settings → Board → Frequencies → List ℕ
+wordsWith p s b f = sourceLines p s b f ++ (coreLines s b f ++ (clockLines s b f ++ planLine p))
+
 unfoldable pub wordsOf : ClockConfig → ℕ → List ℕ
-wordsOf p reading =
-    let s = settingsOf p reading in
-    let b = boardOf (p .chip) in
-    let f = frequenciesOf s in
-    sourceLines p s b f ++ (coreLines s b f ++ (clockLines s b f ++ planLine p))
+wordsOf p reading = wordsWith p (settingsOf p reading) (boardOf (p .chip)) (frequenciesOf (settingsOf p reading))

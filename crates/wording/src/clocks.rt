@@ -1,8 +1,7 @@
 // The lines of the clocks, and of what stays in reset.
 use crate::form::put_bytes;
-use crate::form::put_form;
 use crate::form::put_where;
-use crate::names;
+use crate::names::put_named;
 use chip::Chip;
 use config::OptionAux;
 use config::OptionPeri;
@@ -19,9 +18,16 @@ pub(crate) fn put_ref(out: &mut [u8], at: usize, hz: u32, clock: RefClkConfig) -
     ensures { λ r. ⌜ Put (now (out .entry)) at (refLine hz clock) 100 r (now (out .exit)) ⌝ }
 {
     let src = clock.src;
-    let at = put_form(out, at, b"ref # Hz from ", &[hz as u64]);
-    let at = names::put_ref_name(out, at, src);
-    put_form(out, at, b", divider #\n", &[clock.div as u64])
+    put_named(
+        out,
+        at,
+        b"ref # Hz from ",
+        hz as u64,
+        b"rosc,pll_usb,xosc",
+        settings::ref_code(src),
+        b", divider #\n",
+        &[clock.div as u64],
+    )
 }
 
 pub(crate) fn put_sys(
@@ -35,11 +41,13 @@ pub(crate) fn put_sys(
 ) -> usize
     ensures { λ r. ⌜ Put (now (out .entry)) at (sysLine hz src whole fraction scale) 150 r (now (out .exit)) ⌝ }
 {
-    let at = put_form(out, at, b"sys # Hz from ", &[hz]);
-    let at = names::put_sys_name(out, at, src);
-    put_form(
+    put_named(
         out,
         at,
+        b"sys # Hz from ",
+        hz,
+        b"ref,pll_sys,pll_usb,rosc,xosc",
+        settings::sys_code(src),
         b", divider # + #/#\n",
         &[whole as u64, fraction as u64, scale as u64],
     )
@@ -49,11 +57,16 @@ pub(crate) fn put_peri(out: &mut [u8], at: usize, hz: u64, peri: OptionPeri) -> 
     ensures { λ r. ⌜ Put (now (out .entry)) at (periLine hz peri) 80 r (now (out .exit)) ⌝ }
 {
     match peri {
-        OptionPeri::Some(src) => {
-            let at = put_form(out, at, b"peri # Hz from ", &[hz]);
-            let at = names::put_peri_name(out, at, src);
-            put_bytes(out, at, b"\n")
-        }
+        OptionPeri::Some(src) => put_named(
+            out,
+            at,
+            b"peri # Hz from ",
+            hz,
+            b"sys,pll_sys,pll_usb,rosc,xosc",
+            settings::peri_aux(src),
+            b"\n",
+            &[],
+        ),
         OptionPeri::None => put_bytes(out, at, b"peri absent\n"),
     }
 }
@@ -66,11 +79,13 @@ pub(crate) fn put_aux(out: &mut [u8], at: usize, name: &[u8], hz: u32, aux: Opti
     match aux {
         OptionAux::Some(on) => {
             let src = on.src;
-            let at = put_form(out, at, b" # Hz from ", &[hz as u64]);
-            let at = names::put_aux_name(out, at, src);
-            put_form(
+            put_named(
                 out,
                 at,
+                b" # Hz from ",
+                hz as u64,
+                b"pll_usb,pll_sys,rosc,xosc",
+                settings::aux_code(src),
                 b", divider #, phase #\n",
                 &[on.div as u64, on.phase as u64],
             )
@@ -85,11 +100,13 @@ pub(crate) fn put_rtc(out: &mut [u8], at: usize, hz: u64, rtc: OptionRtc) -> usi
     match rtc {
         OptionRtc::Some(on) => {
             let src = on.src;
-            let at = put_form(out, at, b"rtc # Hz from ", &[hz]);
-            let at = names::put_aux_name(out, at, src);
-            put_form(
+            put_named(
                 out,
                 at,
+                b"rtc # Hz from ",
+                hz,
+                b"pll_usb,pll_sys,rosc,xosc",
+                settings::aux_code(src),
                 b", divider # + #/256, phase #\n",
                 &[on.div_int as u64, on.div_frac as u64, on.phase as u64],
             )

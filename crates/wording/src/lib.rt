@@ -12,13 +12,14 @@ use read_cases::Asked;
 use settings::Frequencies;
 use settings::Settings;
 ghost use mathlib.Core.Path.{_≡_};
-ghost use lib.ListN.{take};
-ghost use Rattle.text.specs.Output.{Whole, Printed};
+ghost use lib.ListN.{length};
+ghost use Rattle.text.specs.Output.{Printed};
 ghost use Rattle.plan_text.specs.Put.{Put};
 ghost use Rattle.base.specs.Answer.{value};
+ghost use Rattle.replies.specs.Reply.{refusedLine};
 ghost use Rattle.read_cases.specs.Reads.{sheetIn, askedIs};
 ghost use Rattle.wording.specs.Words.{sourceLines, coreLines, clockLines, planLine, wordsOf};
-ghost use Rattle.wording.specs.Explain.{refusedLine, sheetWords, secondLine, readingWords, explainOf};
+ghost use Rattle.wording.specs.Explain.{sheetWords, secondLine, readingWords, explainOf};
 
 // Chip, ring, crystal and PLLs.
 fn put_sources(
@@ -112,8 +113,7 @@ fn put_words(out: &mut [u8], plan: ClockConfig, reading: u8) -> usize
 fn put_refused(out: &mut [u8], number: u8) -> usize
     ensures { λ r. ⌜ Put (now (out .entry)) 0 (refusedLine number) 2300 r (now (out .exit)) ⌝ }
 {
-    let at = replies::put_refused(out, number);
-    text::put_byte(out, at, b'\n')
+    replies::put_refused_line(out, number)
 }
 
 fn put_asked(out: &mut [u8], reading: u8, asked: Asked) -> usize
@@ -160,27 +160,10 @@ fn put_explained(input: &[u8], out: &mut [u8]) -> usize
     }
 }
 
-// The output for the first n bytes of an input, or for all of them.
-fn put_start(start: &[u8], n: usize, out: &mut [u8]) -> usize
-    ensures { λ r. ⌜ Put (now (out .entry)) 0 (explainOf (take n (now (start .entry)))) 2300 r (now (out .exit)) ⌝ }
-{
-    if n < start.len() {
-        return put_explained(&start[..n], out);
-    }
-    put_explained(start, out)
-}
-
 // Writes the output for an input of which the first n bytes are known: all that it has, or as many as start holds, which
 // decide. Answers the output's length.
 pub fn explain(start: &[u8; 4109], n: usize, out: &mut [u8; 2300]) -> usize
     ensures { λ r. ⌜ Printed explainOf (now (start .entry)) n (now (out .entry)) r (now (out .exit)) ⌝ }
 {
-    put_start(start, n, out)
-}
-
-// The output where the input cannot be read.
-pub fn unread(out: &mut [u8; 2300]) -> usize
-    ensures { λ r. ⌜ Whole (refusedLine 24) (now (out .entry)) r (now (out .exit)) ⌝ }
-{
-    put_refused(out, 24)
+    put_explained(base::first(start, n), out)
 }

@@ -1,65 +1,41 @@
-// The names of ranges and sources.
+// Texts with a name in them: of a range, or of a source.
 use crate::form::put_bytes;
-use config::AuxClkSrc;
-use config::PeriClkSrc;
-use config::RefClkSrc;
-use config::RoscRange;
-use config::SysClkSrc;
+use crate::form::put_form;
+ghost use Prim.Native.Nat.{_+_};
+ghost use lib.ListN.{length};
 ghost use Rattle.plan_text.specs.Put.{Put};
-ghost use Rattle.wording.specs.Names.{rangeName, refName, sysName, periName, auxName};
+ghost use Rattle.wording.specs.Form.{mostOf};
+ghost use Rattle.wording.specs.Names.{nameAt, namedForm};
 
-pub(crate) fn put_range(out: &mut [u8], at: usize, range: RoscRange) -> usize
-    ensures { λ r. ⌜ Put (now (out .entry)) at (rangeName range) 8 r (now (out .exit)) ⌝ }
+// Of names with commas between, the one with this number.
+fn put_name(out: &mut [u8], at: usize, names: &[u8], number: u8) -> usize
+    ensures { λ r. ⌜ Put (now (out .entry)) at (nameAt (now (names .entry)) number) (length (now (names .entry))) r (now (out .exit)) ⌝ }
 {
-    match range {
-        RoscRange::Low => put_bytes(out, at, b"low"),
-        RoscRange::Medium => put_bytes(out, at, b"medium"),
-        RoscRange::High => put_bytes(out, at, b"high"),
-        RoscRange::TooHigh => put_bytes(out, at, b"too high"),
+    let mut start = 0;
+    let mut i = 0;
+    while i < number {
+        start = text::index_from(names, start, b',') + 1;
+        i += 1;
     }
+    let from = base::least(start, names.len());
+    let end = text::index_from(names, from, b',');
+    put_bytes(out, at, &names[from..end])
 }
 
-pub(crate) fn put_ref_name(out: &mut [u8], at: usize, src: RefClkSrc) -> usize
-    ensures { λ r. ⌜ Put (now (out .entry)) at (refName src) 8 r (now (out .exit)) ⌝ }
+// A form with a number in it, the name with a code, a form with more numbers.
+pub(crate) fn put_named(
+    out: &mut [u8],
+    at: usize,
+    first: &[u8],
+    n: u64,
+    names: &[u8],
+    code: u8,
+    last: &[u8],
+    ns: &[u64],
+) -> usize
+    ensures { λ r. ⌜ Put (now (out .entry)) at (namedForm (now (first .entry)) n (now (names .entry)) code (now (last .entry)) (now (ns .entry))) (mostOf (now (first .entry)) + (length (now (names .entry)) + mostOf (now (last .entry)))) r (now (out .exit)) ⌝ }
 {
-    match src {
-        RefClkSrc::Xosc => put_bytes(out, at, b"xosc"),
-        RefClkSrc::Rosc => put_bytes(out, at, b"rosc"),
-        RefClkSrc::PllUsb => put_bytes(out, at, b"pll_usb"),
-    }
-}
-
-pub(crate) fn put_sys_name(out: &mut [u8], at: usize, src: SysClkSrc) -> usize
-    ensures { λ r. ⌜ Put (now (out .entry)) at (sysName src) 8 r (now (out .exit)) ⌝ }
-{
-    match src {
-        SysClkSrc::Ref => put_bytes(out, at, b"ref"),
-        SysClkSrc::PllSys => put_bytes(out, at, b"pll_sys"),
-        SysClkSrc::PllUsb => put_bytes(out, at, b"pll_usb"),
-        SysClkSrc::Rosc => put_bytes(out, at, b"rosc"),
-        SysClkSrc::Xosc => put_bytes(out, at, b"xosc"),
-    }
-}
-
-pub(crate) fn put_peri_name(out: &mut [u8], at: usize, src: PeriClkSrc) -> usize
-    ensures { λ r. ⌜ Put (now (out .entry)) at (periName src) 8 r (now (out .exit)) ⌝ }
-{
-    match src {
-        PeriClkSrc::Sys => put_bytes(out, at, b"sys"),
-        PeriClkSrc::PllSys => put_bytes(out, at, b"pll_sys"),
-        PeriClkSrc::PllUsb => put_bytes(out, at, b"pll_usb"),
-        PeriClkSrc::Rosc => put_bytes(out, at, b"rosc"),
-        PeriClkSrc::Xosc => put_bytes(out, at, b"xosc"),
-    }
-}
-
-pub(crate) fn put_aux_name(out: &mut [u8], at: usize, src: AuxClkSrc) -> usize
-    ensures { λ r. ⌜ Put (now (out .entry)) at (auxName src) 8 r (now (out .exit)) ⌝ }
-{
-    match src {
-        AuxClkSrc::PllUsb => put_bytes(out, at, b"pll_usb"),
-        AuxClkSrc::PllSys => put_bytes(out, at, b"pll_sys"),
-        AuxClkSrc::Rosc => put_bytes(out, at, b"rosc"),
-        AuxClkSrc::Xosc => put_bytes(out, at, b"xosc"),
-    }
+    let at = put_form(out, at, first, &[n]);
+    let at = put_name(out, at, names, code);
+    put_form(out, at, last, ns)
 }

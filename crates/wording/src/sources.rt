@@ -1,7 +1,7 @@
 // The lines of the chip, the oscillators, the PLLs, the voltage and its settling.
 use crate::form::put_bytes;
 use crate::form::put_form;
-use crate::names;
+use crate::names::put_named;
 use chip::Chip;
 use config::OptionPll;
 use config::OptionRosc;
@@ -28,11 +28,13 @@ pub(crate) fn put_ring(out: &mut [u8], at: usize, ring: OptionRosc) -> usize
         OptionRosc::Some(on) => {
             let range = on.range;
             let d = on.drive_strength;
-            let at = put_form(out, at, b"rosc # Hz, range ", &[on.hz as u64]);
-            let at = names::put_range(out, at, range);
-            put_form(
+            put_named(
                 out,
                 at,
+                b"rosc # Hz, range ",
+                on.hz as u64,
+                b"low,medium,high,too high",
+                settings::range_code(range),
                 b", strengths # # # # # # # #, divider #\n",
                 &[
                     d.s0 as u64,

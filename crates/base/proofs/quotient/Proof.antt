@@ -5,6 +5,4 @@ use Rattle.base.proofs.quotient.Statement.{statement}
 use Rattle.base.proofs.quotient.Tie as tie
 
 pub quotient-spec : {M : Type 1} → statement M
-quotient-spec =
-    tie.close
-    (tie.spec (λ c. search needs) (λ c. rw (c .if1 .taken, div-zero)) (λ c. search needs))
+quotient-spec = tie.close (tie.spec (λ c. search needs) (λ c. rw (c .if1 .taken, div-zero)) (λ c. search needs))

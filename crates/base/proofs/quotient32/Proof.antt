@@ -5,6 +5,4 @@ use Rattle.base.proofs.quotient32.Statement.{statement}
 use Rattle.base.proofs.quotient32.Tie as tie
 
 pub quotient32-spec : {M : Type 1} → statement M
-quotient32-spec =
-    tie.close
-    (tie.spec (λ c. search needs) (λ c. rw (c .if1 .taken, div-zero)) (λ c. search needs))
+quotient32-spec = tie.close (tie.spec (λ c. search needs) (λ c. rw (c .if1 .taken, div-zero)) (λ c. search needs))

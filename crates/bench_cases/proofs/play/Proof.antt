@@ -17,8 +17,8 @@ use Rattle.bench_cases.proofs.play.Tie as tie
 
 abbrev Inv-loop : tie.InvT-loop
 Inv-loop out₀ sheet calls bench₀ end₀ i₀ out bench end i =
-    (i ≤ length calls) × (length out ≡ length out₀) × Placed out₀ 0 (lettersOf bench₀ sheet (take i calls)) end out
-    × (bench ≡ playedBy bench₀ sheet (take i calls))
+    (i ≤ length calls) × (length out ≡ length out₀) × Placed out₀ 0 (lettersOf bench₀ sheet (take i calls)) end out ×
+    (bench ≡ playedBy bench₀ sheet (take i calls))
 
 abbrev μ-loop : tie.MeasureT-loop
 μ-loop out₀ sheet calls bench₀ end₀ i₀ out bench end i = length calls - i
@@ -28,12 +28,9 @@ loop-holds c = (omega arith, refl, record { index = omega arith; bytes = refl },
 
 loop-again : tie.Need-loop-again Inv-loop μ-loop
 loop-again c =
-    let put = c .before .before .before in
-    let call = put .before .before in
-    let at-loop = call .before .before .before in
-    let a = at-loop .before .before .before .before .args in
-    let calls = a .calls .now in
-    let i = at-loop .loop .i in
+    let put = c .before .before .before in let call = put .before .before in
+    let at-loop = call .before .before .before in let a = at-loop .before .before .before .before .args in
+    let calls = a .calls .now in let i = at-loop .loop .i in
     let called = rw (at-loop .loop .inv .3) at (call .advance .ensures) in
     let letter = rw (ap (λ (x : Outcome Bench). x .answer) called) at (put .put-letter .ensures) in (
       omega arith,
@@ -42,18 +39,9 @@ loop-again c =
       ap (λ (x : Outcome Bench). x .next) called ∙ sym (played-step (a .b) (a .sheet .now) calls i (omega arith)),
     )
 
-same-length : tie.Need-same-length Inv-loop μ-loop
-same-length c = c .before .loop .inv .1
-
-returns : tie.Need-returns Inv-loop μ-loop
-returns c =
-    let at-loop = c .before in
-    let calls = at-loop .before .before .before .before .args .calls .now in
-    let all = take-all (at-loop .loop .i) calls (omega arith) in
-    (rw all at (at-loop .loop .inv .2), rw all at (at-loop .loop .inv .3))
-
 pub play-spec : {M : Type 1} → statement M
-play-spec =
-    tie.close
-    (tie.spec Inv-loop μ-loop loop-holds (λ c. search needs) (λ c κs. search needs) (λ c κs. search needs)
-    (λ c. search needs) (λ c. search needs) loop-again same-length returns)
+play-spec = tie.close (tie.spec Inv-loop μ-loop loop-holds (λ c. search needs) (λ c κs. search needs)
+    (λ c κs. search needs) (λ c. search needs) (λ c. search needs) loop-again (λ c. c .before .loop .inv .1)
+    (λ c. let at-loop = c .before in let calls = at-loop .before .before .before .before .args .calls .now in
+    let all = take-all (at-loop .loop .i) calls (omega arith) in
+    (rw all at (at-loop .loop .inv .2), rw all at (at-loop .loop .inv .3))))

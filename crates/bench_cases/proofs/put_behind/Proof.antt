@@ -8,23 +8,12 @@ use Rattle.run_cases.proofs.HexWords.{take-rest}
 use Rattle.bench_cases.proofs.put_behind.Statement.{statement}
 use Rattle.bench_cases.proofs.put_behind.Tie as tie
 
-returns : tie.Need-returns
+pub put-behind-spec : {M : Type 1} → statement M
 unfolding tailAt
-returns c =
-    let put-calls = c .before .before in
-    let if1 = put-calls .before .before .before in
+put-behind-spec = tie.close (tie.spec (λ c. search needs) (λ c. search needs) (λ c. search needs) (λ c. search needs)
+    (λ c κs. search needs) (λ c. search needs)
+    (λ c. let put-calls = c .before .before in let if1 = put-calls .before .before .before in
     let a = if1 .before .before .before .before .args in
     let put = rw (take-rest (a .end + 1) (a .words .now), add-one (a .end)) at (put-calls .put-calls .ensures) in
-    rw (lt-ltb _ _ (if1 .if1 .taken)) put
-
-returns-2 : tie.Need-returns-2
-unfolding tailAt
-returns-2 c =
-    let put-bad = c .before .before in
-    rw (le-ltb _ _ (put-bad .before .before .if1 .left)) (put-bad .put-bad .ensures)
-
-pub put-behind-spec : {M : Type 1} → statement M
-put-behind-spec =
-    tie.close
-    (tie.spec (λ c. search needs) (λ c. search needs) (λ c. search needs) (λ c. search needs)
-    (λ c κs. search needs) (λ c. search needs) returns (λ c κs. search needs) (λ c. search needs) returns-2)
+    rw (lt-ltb _ _ (if1 .if1 .taken)) put) (λ c κs. search needs) (λ c. search needs)
+    (λ c. rw (le-ltb _ _ (c .before .before .before .before .if1 .left)) (c .before .before .put-bad .ensures)))

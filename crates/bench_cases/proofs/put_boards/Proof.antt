@@ -22,26 +22,13 @@ abbrev μ-loop : tie.MeasureT-loop
 loop-holds : tie.Need-loop-holds Inv-loop μ-loop
 loop-holds c = (omega arith, refl, record { index = omega arith; bytes = refl })
 
-loop-again : tie.Need-loop-again Inv-loop μ-loop
-loop-again c =
-    let put = c .before .before in
-    let at-loop = put .before .before .before .before in (
+pub put-boards-spec : {M : Type 1} → statement M
+put-boards-spec = tie.close (tie.spec Inv-loop μ-loop (λ c κs. search needs) loop-holds (λ c. search needs)
+    (λ c. search needs) (λ c κs. search needs) (λ c. search needs) (λ c. search needs)
+    (λ c. let put = c .before .before in let at-loop = put .before .before .before .before in (
       omega arith,
       put .put-board .kept .0 ∙ at-loop .loop .inv .1,
       rw add-one (placed-append (at-loop .loop .inv .2) (put .put-board .ensures)),
-    )
-
-same-length : tie.Need-same-length Inv-loop μ-loop
-same-length c = c .before .loop .inv .1
-
-returns : tie.Need-returns Inv-loop μ-loop
-returns c =
-    let at-loop = c .before in
-    let all : at-loop .loop .i ≡ 8 = omega arith in
-    rw all at (at-loop .loop .inv .2)
-
-pub put-boards-spec : {M : Type 1} → statement M
-put-boards-spec =
-    tie.close
-    (tie.spec Inv-loop μ-loop (λ c κs. search needs) loop-holds (λ c. search needs) (λ c. search needs)
-    (λ c κs. search needs) (λ c. search needs) (λ c. search needs) loop-again same-length returns)
+    )) (λ c. c .before .loop .inv .1)
+    (λ c. let at-loop = c .before in let all : at-loop .loop .i ≡ 8 = omega arith in
+    rw all at (at-loop .loop .inv .2)))

@@ -4,14 +4,9 @@ use Rattle.base.proofs.Placing.{placed-append}
 use Rattle.bench_cases.proofs.put_refusal.Statement.{statement}
 use Rattle.bench_cases.proofs.put_refusal.Tie as tie
 
-returns : tie.Need-returns
-returns c =
-    let last = c .before .before in let number = last .before .before .before .before .before in
-    let first = number .before .before .before .before in
-    placed-append (first .put-bytes .ensures) (placed-append (number .put-decimal .ensures) (last .put-bytes2 .ensures))
-
 pub put-refusal-spec : {M : Type 1} → statement M
-put-refusal-spec =
-    tie.close
-    (tie.spec (λ c. search needs) (λ c κs. search needs) (λ c κs. search needs) (λ c. search needs)
-    (λ c κs. search needs) (λ c. search needs) returns)
+put-refusal-spec = tie.close (tie.spec (λ c. search needs) (λ c κs. search needs) (λ c κs. search needs)
+    (λ c. search needs) (λ c κs. search needs) (λ c. search needs)
+    (λ c. let last = c .before .before in let number = last .before .before .before .before .before in
+    placed-append (number .before .before .before .before .put-bytes .ensures) (placed-append
+    (number .put-decimal .ensures) (last .put-bytes2 .ensures))))

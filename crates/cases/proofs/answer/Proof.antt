@@ -7,20 +7,15 @@ use Rattle.fields.proofs.Tails.{first-word, behind-first}
 use Rattle.cases.proofs.answer.Statement.{statement}
 use Rattle.cases.proofs.answer.Tie as tie
 
-slice-aggregate-named : tie.Need-slice-aggregate-named
-slice-aggregate-named c = simp length-take (omega arith)
-
 returns : tie.Need-returns
 unfolding fieldsOf answerTo
 returns c =
     let put-kind = c .before .before in let named = put-kind .before .before in
-    let index-from = named .before .before in let start = index-from .before .before .before in
-    let line = start .args .line .now in let index = index-from .index-from .ensures .0 in
+    let index-from = named .before .before in let line = index-from .before .before .before .args .line .now in
+    let index = index-from .index-from .ensures .0 in
     let put = rw (named .named .ensures, index) at (put-kind .put-kind .ensures) in
     rw (first-word line, behind-first line) at put
 
 pub answer-spec : {M : Type 1} → statement M
-answer-spec =
-    tie.close
-    (tie.spec (λ c κs. search needs) slice-aggregate-named (λ c κs. search needs) (λ c κs. search needs)
-    (λ c. search needs) returns)
+answer-spec = tie.close (tie.spec (λ c κs. search needs) (λ c. simp length-take (omega arith)) (λ c κs. search needs)
+    (λ c κs. search needs) (λ c. search needs) returns)

@@ -4,10 +4,7 @@ use Rattle.cases.proofs.put_case.Statement.{statement}
 use Rattle.cases.proofs.put_case.Tie as tie
 
 pub put-case-spec : {M : Type 1} → statement M
-put-case-spec =
-    tie.close
-    (tie.spec
-    (λ c. search needs) (λ c κs. search needs) (λ c. search needs) (λ c κs. search needs) (λ c. search needs)
+put-case-spec = tie.close (tie.spec (λ c. search needs) (λ c κs. search needs) (λ c. search needs)
     (λ c κs. search needs) (λ c. search needs) (λ c κs. search needs) (λ c. search needs) (λ c κs. search needs)
     (λ c. search needs) (λ c κs. search needs) (λ c. search needs) (λ c κs. search needs) (λ c. search needs)
     (λ c κs. search needs) (λ c. search needs) (λ c κs. search needs) (λ c. search needs) (λ c κs. search needs)
@@ -16,7 +13,8 @@ put-case-spec =
     (λ c. search needs) (λ c κs. search needs) (λ c. search needs) (λ c κs. search needs) (λ c. search needs)
     (λ c κs. search needs) (λ c. search needs) (λ c κs. search needs) (λ c. search needs) (λ c κs. search needs)
     (λ c. search needs) (λ c κs. search needs) (λ c. search needs) (λ c κs. search needs) (λ c. search needs)
-    (λ c κs. search needs) (λ c. search needs) (λ c κs. search needs) (λ c. search needs)
+    (λ c κs. search needs) (λ c. search needs) (λ c κs. search needs) (λ c. search needs) (λ c κs. search needs)
+    (λ c. search needs)
     (λ c. rw (c .before .before .before .before .enum-told .given .1) (c .before .before .put-valid .ensures))
     (λ c. search needs)
     (λ c. rw (c .before .before .before .before .enum-told2 .given .1) (c .before .before .put-output .ensures))
@@ -37,8 +35,8 @@ put-case-spec =
     (λ c. search needs)
     (λ c. rw (c .before .before .before .before .before .kind2 .given .1) (c .before .before .put-gpout .ensures))
     (λ c. search needs)
-    (λ c. rw (c .before .before .before .before .before .kind3 .given .1) (c .before .before .put-plan-sheet .ensures))
-    (λ c. search needs)
+    (λ c. rw (c .before .before .before .before .before .kind3 .given .1)
+    (c .before .before .put-plan-sheet .ensures)) (λ c. search needs)
     (λ c. rw (c .before .before .before .before .before .kind4 .given .1) (c .before .before .put-crystal .ensures))
     (λ c. search needs)
     (λ c. rw (c .before .before .before .before .before .kind5 .given .1) (c .before .before .put-rosc .ensures))
@@ -47,8 +45,8 @@ put-case-spec =
     (λ c. search needs)
     (λ c. rw (c .before .before .before .before .before .kind7 .given .1) (c .before .before .put-system .ensures))
     (λ c. search needs)
-    (λ c. rw (c .before .before .before .before .before .kind8 .given .1) (c .before .before .put-system-from .ensures))
-    (λ c. search needs)
+    (λ c. rw (c .before .before .before .before .before .kind8 .given .1)
+    (c .before .before .put-system-from .ensures)) (λ c. search needs)
     (λ c. rw (c .before .before .before .before .enum-told9 .given .1) (c .before .before .put-manual .ensures))
     (λ c. search needs)
     (λ c. rw (c .before .before .before .before .enum-told10 .given .1) (c .before .before .put-run .ensures))

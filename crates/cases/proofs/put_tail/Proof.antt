@@ -8,22 +8,14 @@ use borrow.Author.Needs.{needs}
 use Rattle.cases.proofs.put_tail.Statement.{statement}
 use Rattle.cases.proofs.put_tail.Tie as tie
 
-returns : tie.Need-returns
-unfolding tailAt
-returns c =
-    let put-case = c .before .before in let if1 = put-case .before .before .before in
-    let start = if1 .before .before .before in
-    let put = rw (take-rest (start .args .end + 1) (start .args .line .now), add-one (start .args .end)) at (put-case .put-case .ensures) in
-    rw (lt-ltb _ _ (if1 .if1 .taken)) put
-
-returns-2 : tie.Need-returns-2
-unfolding tailAt
-returns-2 c =
-    let put-case2 = c .before .before in let if1 = put-case2 .before .before .before in
-    rw (le-ltb _ _ (if1 .if1 .left)) (put-case2 .put-case2 .ensures)
-
 pub put-tail-spec : {M : Type 1} → statement M
-put-tail-spec =
-    tie.close
-    (tie.spec (λ c. search needs) (λ c. search needs) (λ c. search needs) (λ c. search needs) (λ c κs. search needs)
-    (λ c. search needs) returns (λ c. search needs) (λ c κs. search needs) (λ c. search needs) returns-2)
+unfolding tailAt
+put-tail-spec = tie.close (tie.spec (λ c. search needs) (λ c. search needs) (λ c. search needs) (λ c. search needs)
+    (λ c κs. search needs) (λ c. search needs)
+    (λ c. let put-case = c .before .before in let if1 = put-case .before .before .before in
+    let start = if1 .before .before .before in
+    let put = rw (take-rest (start .args .end + 1) (start .args .line .now), add-one (start .args .end)) at
+    (put-case .put-case .ensures) in rw (lt-ltb _ _ (if1 .if1 .taken)) put) (λ c. search needs) (λ c κs. search needs)
+    (λ c. search needs)
+    (λ c. let put-case2 = c .before .before in
+    rw (le-ltb _ _ (put-case2 .before .before .before .if1 .left)) (put-case2 .put-case2 .ensures)))

@@ -6,10 +6,8 @@ use Rattle.clocks.proofs.main.Statement.{statement}
 use Rattle.clocks.proofs.main.Tie as tie
 
 pub main-spec : {M : Type 1} → statement M
-main-spec =
-    tie.close
-    (tie.spec (λ c. search needs) (λ c κs. search needs) (λ c. search needs) (λ c κs. search needs) (λ c. search needs)
-    (λ c. sym (length-take-le _ _ (c .before .report .ensures .fits))) (λ c κs. search needs) (λ c. search needs)
-    (λ c κs. search needs) (λ c. search needs)
-    (λ c. sym (length-take-le _ _ (c .before .unread .ensures .fits))) (λ c κs. search needs) (λ c. search needs)
+main-spec = tie.close (tie.spec (λ c. search needs) (λ c κs. search needs) (λ c. search needs) (λ c κs. search needs)
+    (λ c. search needs) (λ c. sym (length-take-le _ _ (c .before .report .ensures .fits))) (λ c κs. search needs)
+    (λ c. search needs) (λ c κs. search needs) (λ c. search needs)
+    (λ c. sym (length-take-le _ _ (c .before .put-unread .ensures .fits))) (λ c κs. search needs) (λ c. search needs)
     (λ c. search needs))

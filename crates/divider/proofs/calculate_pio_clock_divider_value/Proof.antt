@@ -10,26 +10,13 @@ use Rattle.divider.proofs.Pio.{pio-tested}
 use Rattle.divider.proofs.calculate_pio_clock_divider_value.Statement.{statement}
 use Rattle.divider.proofs.calculate_pio_clock_divider_value.Tie as tie
 
-cast-t9 : tie.Need-cast-t9
-cast-t9 c =
-    let tested = c .before in
-    let divider = tested .before .quotient .result in
-    let inside : inRange 256 16777215 divider ≡ true = rw (tested .in-range .ensures) at (c .if1 .taken) in
-    omega (arith, in-range 256 16777215 divider inside)
-
-returns : tie.Need-returns
-returns c =
-    let tested = c .before in
-    let inside = rw (tested .in-range .ensures, tested .before .quotient .ensures) at (c .if1 .taken) in
-    rw (pio-tested, inside) (ap value (tested .before .quotient .ensures))
-
-returns-2 : tie.Need-returns-2
-returns-2 c =
-    let tested = c .before in
-    let outside = rw (tested .in-range .ensures, tested .before .quotient .ensures) at (c .if1 .left) in
-    rw (pio-tested, outside)
-
 pub calculate-pio-clock-divider-value-spec : {M : Type 1} → statement M
-calculate-pio-clock-divider-value-spec =
-    tie.close
-    (tie.spec (λ c. search needs) (λ c κs. search needs) (λ c κs. search needs) cast-t9 returns returns-2)
+calculate-pio-clock-divider-value-spec = tie.close (tie.spec (λ c. search needs) (λ c κs. search needs)
+    (λ c κs. search needs)
+    (λ c. let tested = c .before in let divider = tested .before .quotient .result in
+    let inside : inRange 256 16777215 divider ≡ true = rw (tested .in-range .ensures) at (c .if1 .taken) in
+    omega (arith, in-range 256 16777215 divider inside))
+    (λ c. let tested = c .before in let inside = rw (tested .in-range .ensures, tested .before .quotient .ensures) at
+    (c .if1 .taken) in rw (pio-tested, inside) (ap value (tested .before .quotient .ensures)))
+    (λ c. let tested = c .before in let outside = rw (tested .in-range .ensures, tested .before .quotient .ensures) at
+    (c .if1 .left) in rw (pio-tested, outside)))

@@ -8,9 +8,5 @@ use Rattle.divider.proofs.cycles_per_us.Tie as tie
 
 pub cycles-per-us-spec : {M : Type 1} → statement M
 unfolding cyclesPerUs
-cycles-per-us-spec =
-    tie.close
-    (tie.spec
-    (λ c. search needs)
-    (λ c. (rw (eq-eqb _ _ (c .if1 .taken)), omega arith))
+cycles-per-us-spec = tie.close (tie.spec (λ c. search needs) (λ c. (rw (eq-eqb _ _ (c .if1 .taken)), omega arith))
     (λ c. (rw (ne-eqb _ _ (c .if1 .left)), omega arith)))

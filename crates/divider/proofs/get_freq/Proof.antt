@@ -3,14 +3,7 @@ use borrow.Author.Needs.{needs}
 use Rattle.divider.proofs.get_freq.Statement.{statement}
 use Rattle.divider.proofs.get_freq.Tie as tie
 
-returns : tie.Need-returns
-returns c = rw (c .before .before .divider .given .1, c .gpout-freq .ensures)
-
-returns-2 : tie.Need-returns-2
-returns-2 c = rw (c .before .before .divider2 .given .1, c .gpout-freq2 .ensures)
-
 pub get-freq-spec : {M : Type 1} → statement M
-get-freq-spec =
-    tie.close
-    (tie.spec (λ c. search needs) (λ c. search needs) (λ c κs. search needs) (λ c. search needs) (λ c κs. search needs)
-    returns returns-2)
+get-freq-spec = tie.close (tie.spec (λ c. search needs) (λ c. search needs) (λ c κs. search needs) (λ c. search needs)
+    (λ c κs. search needs) (λ c. rw (c .before .before .divider .given .1, c .gpout-freq .ensures))
+    (λ c. rw (c .before .before .divider2 .given .1, c .gpout-freq2 .ensures)))

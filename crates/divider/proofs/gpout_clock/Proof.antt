@@ -27,13 +27,8 @@ other : (chip : Chip) (i : ℕ) → 12 ≤ i → 10 ≡ getD (factsOf chip .gpou
 other Rp2040 i h = sym (List·getD-eq-default (factsOf Rp2040 .gpout) 10 h)
 other Rp235x i h = sym (List·getD-eq-default (factsOf Rp235x .gpout) 10 h)
 
-returns : tie.Need-returns
-unfolding gpoutClock
-returns c = rw (c .before .before .facts .ensures) (coded (c .before .before .before .args .chip) _ (c .if1 .taken))
-
-returns-2 : tie.Need-returns-2
-unfolding gpoutClock
-returns-2 c = other (c .before .before .before .args .chip) _ (c .if1 .left)
-
 pub gpout-clock-spec : {M : Type 1} → statement M
-gpout-clock-spec = tie.close (tie.spec (λ c κs. search needs) (λ c. search needs) returns returns-2)
+unfolding gpoutClock
+gpout-clock-spec = tie.close (tie.spec (λ c κs. search needs) (λ c. search needs)
+    (λ c. rw (c .before .before .facts .ensures) (coded (c .before .before .before .args .chip) _ (c .if1 .taken)))
+    (λ c. other (c .before .before .before .args .chip) _ (c .if1 .left)))

@@ -5,36 +5,23 @@ use borrow.Author.Tests.{le-leb, lt-leb, lt-ltb, le-ltb}
 use Rattle.divider.proofs.gpout_freq.Statement.{statement}
 use Rattle.divider.proofs.gpout_freq.Tie as tie
 
-returns : tie.Need-returns
+pub gpout-freq-spec : {M : Type 1} → statement M
 unfolding gpoutOf
-returns c = rw (← c .before .before .facts .ensures, lt-leb _ _ (c .if1 .taken))
-
-returns-2 : tie.Need-returns-2
-unfolding gpoutOf
-returns-2 c =
-    let known = c .before .before in
-    let whole = known .before .before in
+gpout-freq-spec = tie.close (tie.spec (λ c κs. search needs)
+    (λ c. rw (← c .before .before .facts .ensures, lt-leb _ _ (c .if1 .taken))) (λ c κs. search needs)
+    (λ c. search needs) (λ c. search needs) (λ c. search needs) (λ c κs. search needs)
+    (λ c. let known = c .before .before in let whole = known .before .before in
     rw (
       ← whole .before .before .facts .ensures,
       le-leb _ _ (whole .if1 .left),
       ← known .before .gpout-clock .ensures,
       lt-ltb _ _ (known .if2 .taken),
       c .gpout-hz .ensures,
-    )
-
-returns-3 : tie.Need-returns-3
-unfolding gpoutOf
-returns-3 c =
-    let whole = c .before .before in
+    ))
+    (λ c. let whole = c .before .before in
     rw (
       ← whole .before .before .facts .ensures,
       le-leb _ _ (whole .if1 .left),
       ← c .before .gpout-clock .ensures,
       le-ltb _ _ (c .if2 .left),
-    )
-
-pub gpout-freq-spec : {M : Type 1} → statement M
-gpout-freq-spec =
-    tie.close
-    (tie.spec (λ c κs. search needs) returns (λ c κs. search needs) (λ c. search needs) (λ c. search needs)
-    (λ c. search needs) (λ c κs. search needs) returns-2 returns-3)
+    )))

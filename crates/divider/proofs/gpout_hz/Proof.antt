@@ -5,16 +5,11 @@ use Rattle.divider.proofs.Bounds.{divided-le}
 use Rattle.divider.proofs.gpout_hz.Statement.{statement}
 use Rattle.divider.proofs.gpout_hz.Tie as tie
 
-cast-result : tie.Need-cast-result
-cast-result c =
-    let whole = c .before .gpout-whole in
-    let args = c .before .before .args in
-    omega (arith, c .divided-hz .ensures, divided-le (args .scale) (args .source) (whole .result) (args .div-frac) (omega arith))
-
-returns : tie.Need-returns
-returns c = rw (c .divided-hz .ensures, c .before .gpout-whole .ensures .0)
-
 pub gpout-hz-spec : {M : Type 1} → statement M
-gpout-hz-spec =
-    tie.close
-    (tie.spec (λ c κs. search needs) (λ c κs. search needs) cast-result returns)
+gpout-hz-spec = tie.close (tie.spec (λ c κs. search needs) (λ c κs. search needs)
+    (λ c. let whole = c .before .gpout-whole in let args = c .before .before .args in
+    omega (
+      arith,
+      c .divided-hz .ensures,
+      divided-le (args .scale) (args .source) (whole .result) (args .div-frac) (omega arith),
+    )) (λ c. rw (c .divided-hz .ensures, c .before .gpout-whole .ensures .0)))

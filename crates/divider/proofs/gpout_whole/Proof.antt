@@ -5,6 +5,5 @@ use Rattle.divider.proofs.gpout_whole.Statement.{statement}
 use Rattle.divider.proofs.gpout_whole.Tie as tie
 
 pub gpout-whole-spec : {M : Type 1} → statement M
-gpout-whole-spec =
-    tie.close
-    (tie.spec (λ c. (rw (eq-eqb _ _ (c .if1 .taken)), omega arith)) (λ c. (rw (ne-eqb _ _ (c .if1 .left)), omega arith)))
+gpout-whole-spec = tie.close (tie.spec (λ c. (rw (eq-eqb _ _ (c .if1 .taken)), omega arith))
+    (λ c. (rw (ne-eqb _ _ (c .if1 .left)), omega arith)))

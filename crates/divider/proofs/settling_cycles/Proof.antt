@@ -8,9 +8,7 @@ use Rattle.divider.proofs.settling_cycles.Tie as tie
 
 pub settling-cycles-spec : {M : Type 1} → statement M
 unfolding settlingCycles
-settling-cycles-spec =
-    tie.close
-    (tie.spec
-    (λ c κs. search needs)
-    (λ c. omega (arith, product-most (c .before .args .time-us) (c .cycles-per-us .result) (omega arith) (omega arith)))
+settling-cycles-spec = tie.close (tie.spec (λ c κs. search needs)
+    (λ c.
+    omega (arith, product-most (c .before .args .time-us) (c .cycles-per-us .result) (omega arith) (omega arith)))
     (λ c. rw (c .cycles-per-us .ensures .0)))

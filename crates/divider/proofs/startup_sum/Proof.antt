@@ -9,10 +9,7 @@ use Rattle.divider.proofs.startup_sum.Tie as tie
 
 pub startup-sum-spec : {M : Type 1} → statement M
 unfolding startupSum
-startup-sum-spec =
-    tie.close
-    (tie.spec
-    (λ c. search needs)
+startup-sum-spec = tie.close (tie.spec (λ c. search needs)
     (λ c. omega (arith, product-most (c .args .hz / 1000) (c .args .multiplier) (omega arith) (omega arith)))
     (λ c. omega (arith, product-most (c .args .hz / 1000) (c .args .multiplier) (omega arith) (omega arith)))
     (λ c. search needs))

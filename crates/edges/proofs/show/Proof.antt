@@ -6,7 +6,5 @@ use Rattle.edges.proofs.show.Statement.{statement}
 use Rattle.edges.proofs.show.Tie as tie
 
 pub show-spec : {M : Type 1} → statement M
-show-spec =
-    tie.close
-    (tie.spec (λ c κs. search needs) (λ c. c .report .ensures .fits)
+show-spec = tie.close (tie.spec (λ c κs. search needs) (λ c. c .report .ensures .fits)
     (λ c. sym (length-take-le _ _ (c .before .report .ensures .fits))) (λ c κs. search needs) (λ c. search needs))

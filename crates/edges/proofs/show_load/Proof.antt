@@ -6,7 +6,5 @@ use Rattle.edges.proofs.show_load.Statement.{statement}
 use Rattle.edges.proofs.show_load.Tie as tie
 
 pub show-load-spec : {M : Type 1} → statement M
-show-load-spec =
-    tie.close
-    (tie.spec (λ c κs. search needs) (λ c. c .load .ensures .fits)
+show-load-spec = tie.close (tie.spec (λ c κs. search needs) (λ c. c .load .ensures .fits)
     (λ c. sym (length-take-le _ _ (c .before .load .ensures .fits))) (λ c κs. search needs) (λ c. search needs))

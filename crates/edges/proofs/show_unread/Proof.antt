@@ -6,7 +6,5 @@ use Rattle.edges.proofs.show_unread.Statement.{statement}
 use Rattle.edges.proofs.show_unread.Tie as tie
 
 pub show-unread-spec : {M : Type 1} → statement M
-show-unread-spec =
-    tie.close
-    (tie.spec (λ c κs. search needs) (λ c. c .unread .ensures .fits)
-    (λ c. sym (length-take-le _ _ (c .before .unread .ensures .fits))) (λ c κs. search needs) (λ c. search needs))
+show-unread-spec = tie.close (tie.spec (λ c κs. search needs) (λ c. c .put-unread .ensures .fits)
+    (λ c. sym (length-take-le _ _ (c .before .put-unread .ensures .fits))) (λ c κs. search needs) (λ c. search needs))

@@ -3,16 +3,9 @@ use borrow.Author.Needs.{needs}
 use Rattle.export.proofs.dizbaral_gpout_frequency.Statement.{statement}
 use Rattle.export.proofs.dizbaral_gpout_frequency.Tie as tie
 
-returns : tie.Need-returns
-returns c =
-    let freq = c .before in let told = freq .before .before in
-    rw (← told .before .before .divider .ensures, told .divider2 .given .1, c .number .ensures, freq .get-freq .ensures)
-
-returns-2 : tie.Need-returns-2
-returns-2 c = rw (← c .before .before .divider .ensures, c .enum-told .given .1)
-
 pub dizbaral-gpout-frequency-spec : {M : Type 1} → statement M
-dizbaral-gpout-frequency-spec =
-    tie.close
-    (tie.spec (λ c κs. search needs) (λ c. search needs) (λ c κs. search needs) (λ c κs. search needs)
-    (λ c. search needs) returns returns-2)
+dizbaral-gpout-frequency-spec = tie.close (tie.spec (λ c κs. search needs) (λ c. search needs) (λ c κs. search needs)
+    (λ c κs. search needs) (λ c. search needs)
+    (λ c. let freq = c .before in let told = freq .before .before in
+    rw (← told .before .before .divider .ensures, told .divider2 .given .1, c .number .ensures, freq .get-freq .ensures))
+    (λ c. rw (← c .before .before .divider .ensures, c .enum-told .given .1)))

@@ -4,10 +4,5 @@ use borrow.Author.Needs.{needs}
 use Rattle.export.proofs.dizbaral_lookup.Statement.{statement}
 use Rattle.export.proofs.dizbaral_lookup.Tie as tie
 
-returns : tie.Need-returns
-returns c = cc
-
 pub dizbaral-lookup-spec : {M : Type 1} → statement M
-dizbaral-lookup-spec =
-    tie.close
-    (tie.spec (λ c κs. search needs) (λ c κs. search needs) returns)
+dizbaral-lookup-spec = tie.close (tie.spec (λ c κs. search needs) (λ c κs. search needs) (λ c. cc))

@@ -5,6 +5,4 @@ use Rattle.export.proofs.dizbaral_pio_divider.Statement.{statement}
 use Rattle.export.proofs.dizbaral_pio_divider.Tie as tie
 
 pub dizbaral-pio-divider-spec : {M : Type 1} → statement M
-dizbaral-pio-divider-spec =
-    tie.close
-    (tie.spec (λ c κs. search needs) (λ c κs. search needs) (λ c. cc))
+dizbaral-pio-divider-spec = tie.close (tie.spec (λ c κs. search needs) (λ c κs. search needs) (λ c. cc))

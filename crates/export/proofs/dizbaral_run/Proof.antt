@@ -2,7 +2,7 @@
 -- Assumes nothing.
 use borrow.Author.Tests.{le-leb, lt-leb}
 use borrow.Author.Needs.{needs}
-use mathlib.Core.Path.{_≡_, ap, _∙_}
+use mathlib.Core.Path.{ap, _∙_}
 use Rattle.runner.specs.declared.State.{State}
 use Rattle.runner.specs.Run.{Outcome, stepperOf, advanceOf}
 use Rattle.runner.proofs.Steps.{turn-formed}
@@ -10,20 +10,6 @@ use Rattle.export.specs.Run.{runNumber, runLeaves}
 use Rattle.export.proofs.Runners.{position-fits, turn-word}
 use Rattle.export.proofs.dizbaral_run.Statement.{statement}
 use Rattle.export.proofs.dizbaral_run.Tie as tie
-
-returns : tie.Need-returns
-unfolding runNumber runLeaves
-returns c = let no = lt-leb _ _ (c .if1 .taken) in (rw no, rw no)
-
-answer-requires : tie.Need-answer-requires
-answer-requires c κs =
-    rw (ap (λ (x : Outcome State). x .answer) (c .before .before .turn .ensures)) (turn-formed _ _ _ _ _)
-
-put-state-requires : tie.Need-put-state-requires
-put-state-requires c κs =
-    let t = c .before .before .before .before in
-    let s = t .before .before .before .before .before in
-    rw (ap (λ (x : Outcome State). x .next .position) (t .turn .ensures)) (position-fits _ _ _ _ _ (s .state .ensures .1))
 
 returns-2 : tie.Need-returns-2
 unfolding runNumber runLeaves advanceOf stepperOf
@@ -41,7 +27,11 @@ returns-2 c =
     )
 
 pub dizbaral-run-spec : {M : Type 1} → statement M
-dizbaral-run-spec =
-    tie.close
-    (tie.spec (λ c. search needs) returns (λ c κs. search needs) (λ c. search needs) (λ c κs. search needs)
-    (λ c. search needs) (λ c κs. search needs) (λ c κs. search needs) answer-requires put-state-requires returns-2)
+unfolding runLeaves runNumber
+dizbaral-run-spec = tie.close (tie.spec (λ c. search needs)
+    (λ c. let no = lt-leb _ _ (c .if1 .taken) in (rw no, rw no)) (λ c κs. search needs) (λ c. search needs)
+    (λ c κs. search needs) (λ c. search needs) (λ c κs. search needs) (λ c κs. search needs)
+    (λ c κs. rw (ap (λ (x : Outcome State). x .answer) (c .before .before .turn .ensures)) (turn-formed _ _ _ _ _))
+    (λ c κs. let t = c .before .before .before .before in let s = t .before .before .before .before .before in
+    rw (ap (λ (x : Outcome State). x .next .position) (t .turn .ensures))
+    (position-fits _ _ _ _ _ (s .state .ensures .1))) returns-2)

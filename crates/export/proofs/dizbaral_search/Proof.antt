@@ -5,6 +5,4 @@ use Rattle.export.proofs.dizbaral_search.Statement.{statement}
 use Rattle.export.proofs.dizbaral_search.Tie as tie
 
 pub dizbaral-search-spec : {M : Type 1} → statement M
-dizbaral-search-spec =
-    tie.close
-    (tie.spec (λ c κs. search needs) (λ c κs. search needs) (λ c. cc))
+dizbaral-search-spec = tie.close (tie.spec (λ c κs. search needs) (λ c κs. search needs) (λ c. cc))

@@ -10,7 +10,7 @@ use lib.ListN.{length, drop, drop-of-length-le}
 use lib.Seq.{take-length}
 use Rattle.step.specs.Sheet.{maxBytes}
 use Rattle.runner.specs.declared.Runner.{Runner}
-use Rattle.runner.specs.Run.{badSize, startedWith, padded}
+use Rattle.runner.specs.Run.{badSize, startedWith}
 use Rattle.runner.proofs.Calls.{size-fits}
 use Rattle.runner.proofs.Starts.{start-refused, start-kept, start-taken, start-turned, length-padded}
 use Rattle.export.specs.Run.{runnerIn, startedNumbers}
@@ -30,19 +30,8 @@ fits c = size-fits _ (taken c .0)
 
 kept-long : (c : tie.After-enum-told) → length (c .before .before .before .restarted .result .runner .kept) ≡ maxBytes
 kept-long c =
-    ap (λ (r : Runner). length (r .kept)) (taken c .1)
-    ∙ length-padded (c .before .before .before .before .before .before .args .sheet .now) (fits c)
-
-cast-put-started : tie.Need-cast-put-started
-cast-put-started c =
-    let told = c .before .before in
-    omega (arith, fits told, ap (λ (r : Runner). r .len) (taken told .1))
-
-copy-requires : tie.Need-copy-requires
-copy-requires c κs =
-    let start = c .before .before .before .before .before .before .before .before .before .before .before .before in
-    let long : length (start .args .kept .now) ≡ maxBytes = search needs in
-    omega (arith, kept-long (c .before .before .before .before .before .before))
+    ap (λ (r : Runner). length (r .kept)) (taken c .1) ∙ length-padded
+    (c .before .before .before .before .before .before .args .sheet .now) (fits c)
 
 returns : tie.Need-returns
 returns c =
@@ -79,7 +68,11 @@ returns-2 c =
     }
 
 pub dizbaral-start-spec : {M : Type 1} → statement M
-dizbaral-start-spec =
-    tie.close
-    (tie.spec (λ c κs. search needs) (λ c κs. search needs) (λ c. search needs) cast-put-started (λ c κs. search needs)
-    (λ c. search needs) copy-requires (λ c. search needs) (λ c κs. search needs) returns returns-2)
+dizbaral-start-spec = tie.close (tie.spec (λ c κs. search needs) (λ c κs. search needs) (λ c. search needs)
+    (λ c. omega (arith, fits (c .before .before), ap (λ (r : Runner). r .len) (taken (c .before .before) .1)))
+    (λ c κs. search needs) (λ c. search needs)
+    (λ c κs.
+    let start = c .before .before .before .before .before .before .before .before .before .before .before .before in
+    let long : length (start .args .kept .now) ≡ maxBytes = search needs in
+    omega (arith, kept-long (c .before .before .before .before .before .before))) (λ c. search needs)
+    (λ c κs. search needs) returns returns-2)

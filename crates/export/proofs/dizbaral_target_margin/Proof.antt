@@ -6,22 +6,12 @@ use Rattle.margin.specs.Margin.{marginIs}
 use Rattle.export.proofs.dizbaral_target_margin.Statement.{statement}
 use Rattle.export.proofs.dizbaral_target_margin.Tie as tie
 
-returns : tie.Need-returns
-returns c =
-    let higher = c .before in
-    let lower = higher .before in
-    let told = lower .before .before in
-    rw (sym (told .before .before .target-margin .ensures) ∙ ap marginIs (told .lower .given .1))
-    (refl, rw (higher .limit2 .ensures, lower .limit .ensures))
-
-returns-2 : tie.Need-returns-2
-returns-2 c =
-    let told = c .before .before in
-    rw (sym (told .before .before .target-margin .ensures) ∙ ap marginIs (told .number .given .1))
-    (c .refused .ensures, refl)
-
 pub dizbaral-target-margin-spec : {M : Type 1} → statement M
-dizbaral-target-margin-spec =
-    tie.close
-    (tie.spec (λ c κs. search needs) (λ c. search needs) (λ c κs. search needs) (λ c κs. search needs)
-    (λ c. search needs) (λ c κs. search needs) returns returns-2)
+dizbaral-target-margin-spec = tie.close (tie.spec (λ c κs. search needs) (λ c. search needs) (λ c κs. search needs)
+    (λ c κs. search needs) (λ c. search needs) (λ c κs. search needs)
+    (λ c. let higher = c .before in let lower = higher .before in let told = lower .before .before in
+    rw (sym (told .before .before .target-margin .ensures) ∙ ap marginIs (told .lower .given .1))
+    (refl, rw (higher .limit2 .ensures, lower .limit .ensures)))
+    (λ c. let told = c .before .before in
+    rw (sym (told .before .before .target-margin .ensures) ∙ ap marginIs (told .number .given .1))
+    (c .refused .ensures, refl)))

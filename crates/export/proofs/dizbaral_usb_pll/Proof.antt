@@ -4,10 +4,5 @@ use borrow.Author.Needs.{needs}
 use Rattle.export.proofs.dizbaral_usb_pll.Statement.{statement}
 use Rattle.export.proofs.dizbaral_usb_pll.Tie as tie
 
-returns : tie.Need-returns
-returns c = cc
-
 pub dizbaral-usb-pll-spec : {M : Type 1} → statement M
-dizbaral-usb-pll-spec =
-    tie.close
-    (tie.spec (λ c κs. search needs) (λ c κs. search needs) returns)
+dizbaral-usb-pll-spec = tie.close (tie.spec (λ c κs. search needs) (λ c κs. search needs) (λ c. cc))

@@ -3,13 +3,8 @@ use borrow.Author.Needs.{needs}
 use Rattle.fields.proofs.pll_at.Statement.{statement}
 use Rattle.fields.proofs.pll_at.Tie as tie
 
-returns : tie.Need-returns
-returns c =
-    let byte-at2 = c .before in let half-at = byte-at2 .before in let byte-at = half-at .before in
-    rw (c .byte-at3 .ensures, byte-at2 .byte-at2 .ensures, half-at .half-at .ensures, byte-at .byte-at .ensures)
-
 pub pll-at-spec : {M : Type 1} → statement M
-pll-at-spec =
-    tie.close
-    (tie.spec (λ c κs. search needs) (λ c. search needs) (λ c κs. search needs) (λ c. search needs)
-    (λ c κs. search needs) (λ c. search needs) (λ c κs. search needs) returns)
+pll-at-spec = tie.close (tie.spec (λ c κs. search needs) (λ c. search needs) (λ c κs. search needs)
+    (λ c. search needs) (λ c κs. search needs) (λ c. search needs) (λ c κs. search needs)
+    (λ c. let byte-at2 = c .before in let half-at = byte-at2 .before in
+    rw (c .byte-at3 .ensures, byte-at2 .byte-at2 .ensures, half-at .half-at .ensures, half-at .before .byte-at .ensures)))

@@ -1,7 +1,7 @@
 -- `fields::read` meets its contract. Invariant: what is left to read makes, behind what was read, the whole.
 -- Measure: what is left of the limits. Assumes nothing.
 use mathlib.Core.Path.{_≡_, refl, sym, ap, _∙_}
-use Prim.Native.Nat.{ℕ, _+_, _-_, _≤_, _<_}
+use Prim.Native.Nat.{_-_, _≤_}
 use native.Mathlib.Omega.{arith}
 use borrow.Author.Needs.{needs}
 use lib.ListN.{length}
@@ -20,28 +20,12 @@ abbrev μ-loop : tie.MeasureT-loop
 loop-holds : tie.Need-loop-holds Inv-loop μ-loop
 loop-holds c = (omega arith, refl, record { start = omega arith; within = omega arith; tail = refl; placing = refl })
 
-same-length : tie.Need-same-length Inv-loop μ-loop
-same-length c = c .before .before .loop .inv .1
-
-returns : tie.Need-returns Inv-loop μ-loop
-returns c = no-word (c .before .before .loop .inv .2) (c .before .loop-test .taken) (c .if1 .taken)
-
-same-length-2 : tie.Need-same-length-2 Inv-loop μ-loop
-same-length-2 c =
-    let loop = c .before .before .before .before .before in
-    loop .loop .inv .1
-
 returns-2 : tie.Need-returns-2 Inv-loop μ-loop
 returns-2 c =
     let number-up-to = c .before .before in let if1 = number-up-to .before in let before = if1 .before in
-    let at-loop = before .before in let word = number-up-to .number-up-to .ensures in
-    no-number (at-loop .loop .inv .2) (before .loop-test .taken)
-    (if1 .if1 .left) _ (sym (ap numberIs (c .enum-told .given .1)) ∙ word)
-
-same-length-3 : tie.Need-same-length-3 Inv-loop μ-loop
-same-length-3 c =
-    let loop = c .before .before .before .before .before .before .before .before in
-    loop .loop .inv .1
+    let word = number-up-to .number-up-to .ensures in
+    no-number (before .before .loop .inv .2) (before .loop-test .taken) (if1 .if1 .left) _
+    (sym (ap numberIs (c .enum-told .given .1)) ∙ word)
 
 returns-3 : tie.Need-returns-3 Inv-loop μ-loop
 returns-3 c =
@@ -63,16 +47,12 @@ loop-again c =
           (rw (c .index-from .ensures .0) at (c .index-from .ensures .1))),
     )
 
-same-length-4 : tie.Need-same-length-4 Inv-loop μ-loop
-same-length-4 c = c .before .loop .inv .1
-
-returns-4 : tie.Need-returns-4 Inv-loop μ-loop
-returns-4 c = finished (c .before .loop .inv .2) (c .loop-test .left)
-
 pub read-spec : {M : Type 1} → statement M
-read-spec =
-    tie.close
-    (tie.spec Inv-loop μ-loop loop-holds same-length returns (λ c. search needs) (λ c κs. search needs)
-    (λ c. search needs) (λ c. search needs) same-length-2 returns-2 (λ c. search needs) (λ c. search needs)
-    same-length-3 returns-3 (λ c κs. search needs) (λ c κs. search needs) (λ c. search needs) (λ c. search needs)
-    loop-again same-length-4 returns-4)
+read-spec = tie.close (tie.spec Inv-loop μ-loop loop-holds (λ c. c .before .before .loop .inv .1)
+    (λ c. no-word (c .before .before .loop .inv .2) (c .before .loop-test .taken) (c .if1 .taken)) (λ c. search needs)
+    (λ c κs. search needs) (λ c. search needs) (λ c. search needs)
+    (λ c. let loop = c .before .before .before .before .before in loop .loop .inv .1) returns-2 (λ c. search needs)
+    (λ c. search needs)
+    (λ c. let loop = c .before .before .before .before .before .before .before .before in loop .loop .inv .1)
+    returns-3 (λ c κs. search needs) (λ c κs. search needs) (λ c. search needs) (λ c. search needs) loop-again
+    (λ c. c .before .loop .inv .1) (λ c. finished (c .before .loop .inv .2) (c .loop-test .left)))

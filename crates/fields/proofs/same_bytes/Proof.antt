@@ -4,10 +4,6 @@ use Rattle.fields.proofs.Same.{is-same}
 use Rattle.fields.proofs.same_bytes.Statement.{statement}
 use Rattle.fields.proofs.same_bytes.Tie as tie
 
-returns : tie.Need-returns
-returns c = is-same _ _ _ (c .same .ensures .0) (c .same .ensures .1)
-
 pub same-bytes-spec : {M : Type 1} → statement M
-same-bytes-spec =
-    tie.close
-    (tie.spec (λ c κs. search needs) returns)
+same-bytes-spec = tie.close (tie.spec (λ c κs. search needs)
+    (λ c. is-same _ _ _ (c .same .ensures .0) (c .same .ensures .1)))

@@ -5,10 +5,6 @@ use lib.Seq.{set-out}
 use Rattle.fields.proofs.set_number.Statement.{statement}
 use Rattle.fields.proofs.set_number.Tie as tie
 
-returns-2 : tie.Need-returns-2
-returns-2 c = sym (set-out _ _ _ (c .if1 .left))
-
 pub set-number-spec : {M : Type 1} → statement M
-set-number-spec =
-    tie.close
-    (tie.spec (λ c. search needs) (λ c. search needs) (λ c. search needs) (λ c. search needs) returns-2)
+set-number-spec = tie.close (tie.spec (λ c. search needs) (λ c. search needs) (λ c. search needs) (λ c. search needs)
+    (λ c. sym (set-out _ _ _ (c .if1 .left))))

@@ -10,30 +10,15 @@ use Rattle.base.proofs.Bools.{both-false}
 use Rattle.lines.proofs.answer_held.Statement.{statement}
 use Rattle.lines.proofs.answer_held.Tie as tie
 
-returns : tie.Need-returns
-returns c =
-    let put-byte = c .before .before in let put-bad = put-byte .before .before .before .before in
-    let if1 = put-bad .before .before in
-    let put = placed-append (put-bad .put-bad .ensures) (put-byte .put-byte .ensures) in
-    rw (if1 .if1 .taken) put
-
-slice-aggregate-answer : tie.Need-slice-aggregate-answer
-slice-aggregate-answer c =
-    let if1 = c .before in let start = if1 .before .before .before in let args = start .args in
-    let held = length (args .held .now) in
-    let fits : args .len ≤ held =
-    ltb-false held (args .len) (both-false (args .over) (ltb held (args .len)) (if1 .if1 .left) .1)
-    in
-    simp length-take (omega arith)
-
-returns-2 : tie.Need-returns-2
-returns-2 c =
-    let put-byte2 = c .before .before in let at-answer = put-byte2 .before .before .before .before in
-    let if1 = at-answer .before .before .before in
-    rw (if1 .if1 .left) (placed-append (at-answer .answer .ensures) (put-byte2 .put-byte2 .ensures))
-
 pub answer-held-spec : {M : Type 1} → statement M
-answer-held-spec =
-    tie.close
-    (tie.spec (λ c κs. search needs) (λ c κs. search needs) (λ c. search needs) returns slice-aggregate-answer
-    (λ c κs. search needs) (λ c κs. search needs) (λ c. search needs) returns-2)
+answer-held-spec = tie.close (tie.spec (λ c κs. search needs) (λ c κs. search needs) (λ c. search needs)
+    (λ c. let put-byte = c .before .before in let put-bad = put-byte .before .before .before .before in
+    let put = placed-append (put-bad .put-bad .ensures) (put-byte .put-byte .ensures) in
+    rw (put-bad .before .before .if1 .taken) put)
+    (λ c. let if1 = c .before in let args = if1 .before .before .before .args in
+    let held = length (args .held .now) in let fits : args .len ≤ held = ltb-false held (args .len) (both-false
+    (args .over) (ltb held (args .len)) (if1 .if1 .left) .1) in simp length-take (omega arith)) (λ c κs. search needs)
+    (λ c κs. search needs) (λ c. search needs)
+    (λ c. let put-byte2 = c .before .before in let at-answer = put-byte2 .before .before .before .before in
+    rw (at-answer .before .before .before .if1 .left) (placed-append (at-answer .answer .ensures)
+    (put-byte2 .put-byte2 .ensures))))

@@ -7,9 +7,6 @@ use Rattle.lines.proofs.Ends.{line-end, line-bytes}
 use Rattle.lines.proofs.hold.Statement.{statement}
 use Rattle.lines.proofs.hold.Tie as tie
 
-slice-aggregate-put-bytes : tie.Need-slice-aggregate-put-bytes
-slice-aggregate-put-bytes c = simp length-take (omega arith)
-
 returns : tie.Need-returns
 returns c =
     let room = c .before .before .before .before .before in let index = room .before in
@@ -22,7 +19,5 @@ returns c =
     }
 
 pub hold-spec : {M : Type 1} → statement M
-hold-spec =
-    tie.close
-    (tie.spec (λ c κs. search needs) (λ c κs. search needs) slice-aggregate-put-bytes (λ c κs. search needs)
-    (λ c. search needs) returns)
+hold-spec = tie.close (tie.spec (λ c κs. search needs) (λ c κs. search needs) (λ c. simp length-take (omega arith))
+    (λ c κs. search needs) (λ c. search needs) returns)

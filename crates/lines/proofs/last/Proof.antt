@@ -6,20 +6,10 @@ use borrow.Author.Needs.{needs}
 use Rattle.lines.proofs.last.Statement.{statement}
 use Rattle.lines.proofs.last.Tie as tie
 
-returns : tie.Need-returns
-returns c =
-    let answer-held = c .before .before in let if1 = answer-held .before .before in (
-      (λ line h. rw (← begun-test h, if1 .if1 .taken) (answer-line h (answer-held .answer-held .ensures))),
-      omega (arith, answer-held .answer-held .ensures .index),
-    )
-
-returns-2 : tie.Need-returns-2
-returns-2 c = (
-  (λ line h. rw (← begun-test h, c .if1 .left) (refl, refl)),
-  omega arith,
-)
-
 pub last-spec : {M : Type 1} → statement M
-last-spec =
-    tie.close
-    (tie.spec (λ c κs. search needs) (λ c. search needs) returns returns-2)
+last-spec = tie.close (tie.spec (λ c κs. search needs) (λ c. search needs)
+    (λ c. let answer-held = c .before .before in (
+      (λ line h. rw (← begun-test h, answer-held .before .before .if1 .taken) (answer-line h (answer-held .answer-held .ensures))),
+      omega (arith, answer-held .answer-held .ensures .index),
+    ))
+    (λ c. ((λ line h. rw (← begun-test h, c .if1 .left) (refl, refl)), omega arith)))

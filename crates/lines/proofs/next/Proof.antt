@@ -7,9 +7,8 @@ use Rattle.lines.proofs.next.Tie as tie
 
 returns : tie.Need-returns
 returns c =
-    let answer-held = c .before .before in let if1 = answer-held .before .before .before in
-    let hold = if1 .before .before .before in (
-      (λ line h. closed-by h (hold .hold .ensures) (if1 .if1 .taken) (answer-held .answer-held .ensures)),
+    let answer-held = c .before .before in let if1 = answer-held .before .before .before in (
+      (λ line h. closed-by h (if1 .before .before .before .hold .ensures) (if1 .if1 .taken) (answer-held .answer-held .ensures)),
       record {
         used = omega arith;
         moves = λ s. omega arith;
@@ -25,7 +24,5 @@ returns-2 c =
     )
 
 pub next-spec : {M : Type 1} → statement M
-next-spec =
-    tie.close
-    (tie.spec (λ c κs. search needs) (λ c κs. search needs) (λ c. search needs) (λ c. search needs)
+next-spec = tie.close (tie.spec (λ c κs. search needs) (λ c κs. search needs) (λ c. search needs) (λ c. search needs)
     (λ c. search needs) returns (λ c. search needs) returns-2)

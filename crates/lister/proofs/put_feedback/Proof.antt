@@ -10,18 +10,6 @@ use Rattle.lister.proofs.Hits.{none-put, product-meets}
 use Rattle.lister.proofs.put_feedback.Statement.{statement}
 use Rattle.lister.proofs.put_feedback.Tie as tie
 
-returns : tie.Need-returns
-returns c =
-    let args = c .before .before .args in
-    none-put (args .input-hz) (args .target-hz) (args .fbdiv) (now (args .buf)) (args .at)
-    (λ p some e. let z = rw (c .if1 .taken) at e in omega arith)
-
-returns-2 : tie.Need-returns-2
-returns-2 c =
-    let args = c .before .before .before .args in
-    none-put (args .input-hz) (args .target-hz) (args .fbdiv) (now (args .buf)) (args .at)
-    (λ p some e. c .if2 .taken (rw (sym e) (mul-mod-right (args .target-hz) p)))
-
 returns-3 : tie.Need-returns-3
 returns-3 c =
     let put = c .before .before in
@@ -33,13 +21,14 @@ returns-3 c =
       put .put-posts .ensures .1,
     )
 
-cast-put-posts : tie.Need-cast-put-posts
-cast-put-posts c =
-    let args = c .before .before .before .before .args in
-    omega (arith, div-le-self (args .input-hz * args .fbdiv) (args .target-hz))
-
 pub put-feedback-spec : {M : Type 1} → statement M
-put-feedback-spec =
-    tie.close
-    (tie.spec (λ c. search needs) returns (λ c. search needs) returns-2 (λ c. search needs) cast-put-posts
-    (λ c κs. search needs) (λ c. search needs) returns-3)
+put-feedback-spec = tie.close (tie.spec (λ c. search needs)
+    (λ c. let args = c .before .before .args in
+    none-put (args .input-hz) (args .target-hz) (args .fbdiv) (now (args .buf)) (args .at)
+    (λ p some e. let z = rw (c .if1 .taken) at e in omega arith)) (λ c. search needs)
+    (λ c. let args = c .before .before .before .args in
+    none-put (args .input-hz) (args .target-hz) (args .fbdiv) (now (args .buf)) (args .at) (λ p some e. c .if2 .taken
+    (rw (sym e) (mul-mod-right (args .target-hz) p)))) (λ c. search needs)
+    (λ c. let args = c .before .before .before .before .args in
+    omega (arith, div-le-self (args .input-hz * args .fbdiv) (args .target-hz))) (λ c κs. search needs)
+    (λ c. search needs) returns-3)

@@ -24,34 +24,20 @@ use Rattle.lister.proofs.put_list.Tie as tie
 
 abbrev Inv-loop : tie.InvT-loop
 Inv-loop buf₀ input target low high next₀ fbdiv₀ buf next fbdiv =
-    (length buf ≡ length buf₀)
-    × (lowestOf input ≡ value low)
-    × (highestOf input ≡ value high)
-    × (feedbackMin ≤ low)
-    × (high ≤ feedbackMax)
-    × (low ≤ fbdiv)
-    × (fbdiv ≤ high + 1)
-    × (next ≤ 14 * (fbdiv - low))
-    × ((after : List ℕ) (r : ℕ)
-    → Wrote buf next (keep (meets input target) (flatMap atFeedback (rising (high + 1 - fbdiv) fbdiv))) after r
-    → Wrote buf₀ 0 (listOf input target) after r)
+    (length buf ≡ length buf₀) × (lowestOf input ≡ value low) × (highestOf input ≡ value high) × (feedbackMin ≤ low) ×
+    (high ≤ feedbackMax) × (low ≤ fbdiv) × (fbdiv ≤ high + 1) × (next ≤ 14 * (fbdiv - low)) × ((after : List ℕ)
+    (r : ℕ) → Wrote buf next (keep (meets input target) (flatMap atFeedback (rising (high + 1 - fbdiv) fbdiv))) after
+    r → Wrote buf₀ 0 (listOf input target) after r)
 
 abbrev μ-loop : tie.MeasureT-loop
 μ-loop buf₀ input target low high next₀ fbdiv₀ buf next fbdiv = high + 1 - fbdiv
 
-returns : tie.Need-returns Inv-loop μ-loop
-returns c =
-    let lowest = c .before .before in
-    let args = lowest .before .before .args in
-    let e = sym (lowest .lowest .ensures) ∙ ap numberIs (c .enum-told .given .1) in
-    rw (none-listed (args .input-hz) (args .target-hz) (none-to-walk _ (args .target-hz) _ (inr e) .2)) (nothing (now (args .buf)) 0)
-
 returns-2 : tie.Need-returns-2 Inv-loop μ-loop
 returns-2 c =
-    let highest = c .before .before in
-    let args = highest .before .before .before .before .before .before .args in
+    let highest = c .before .before in let args = highest .before .before .before .before .before .before .args in
     let e = sym (highest .highest .ensures) ∙ ap numberIs (c .enum-told2 .given .1) in
-    rw (none-listed (args .input-hz) (args .target-hz) (none-to-walk _ (args .target-hz) _ (inl e) .2)) (nothing (now (args .buf)) 0)
+    rw (none-listed (args .input-hz) (args .target-hz) (none-to-walk _ (args .target-hz) _ (inl e) .2))
+    (nothing (now (args .buf)) 0)
 
 loop-holds : tie.Need-loop-holds Inv-loop μ-loop
 loop-holds c =
@@ -74,14 +60,6 @@ loop-holds c =
       omega arith,
       λ after r w.
           subst (λ cs. Wrote (now (args .buf)) 0 cs after r) (whole-list (args .input-hz) (args .target-hz) _ _ l h) w,
-    )
-
-put-feedback-requires : tie.Need-put-feedback-requires Inv-loop μ-loop
-put-feedback-requires c κs =
-    let inv = c .before .before .loop .inv in (
-      omega arith,
-      highest-right _ _ (inv .2) .0 .0,
-      between-permitted _ _ _ _ (inv .1) (inv .2) (inv .5) (omega arith),
     )
 
 loop-again : tie.Need-loop-again Inv-loop μ-loop
@@ -108,17 +86,20 @@ loop-again c =
 
 returns-3 : tie.Need-returns-3 Inv-loop μ-loop
 returns-3 c =
-    let loop = c .before .loop in
-    let high = c .before .before .before .high .given .0 .0 in
+    let loop = c .before .loop in let high = c .before .before .before .high .given .0 .0 in
     let args = c .before .before .before .before .before .before .before .before .before .before .before .args in
-    loop .inv .8 (loop .buf) (loop .next)
-    (done (meets (args .input-hz) (args .target-hz)) (loop .buf) (loop .next) atFeedback
-    (rising (high + 1 - loop .fbdiv) (loop .fbdiv))
-    (rising-end (high + 1 - loop .fbdiv) (loop .fbdiv) (omega arith)))
+    loop .inv .8 (loop .buf) (loop .next) (done (meets (args .input-hz) (args .target-hz)) (loop .buf) (loop .next)
+    atFeedback (rising (high + 1 - loop .fbdiv) (loop .fbdiv)) (rising-end (high + 1 - loop .fbdiv) (loop .fbdiv)
+    (omega arith)))
 
 pub put-list-spec : {M : Type 1} → statement M
-put-list-spec =
-    tie.close
-    (tie.spec Inv-loop μ-loop (λ c κs. search needs) (λ c. search needs) (λ c. search needs) returns
-    (λ c κs. search needs) (λ c. search needs) (λ c. search needs) returns-2 loop-holds put-feedback-requires
-    (λ c. search needs) (λ c. search needs) loop-again (λ c. search needs) returns-3)
+put-list-spec = tie.close (tie.spec Inv-loop μ-loop (λ c κs. search needs) (λ c. search needs) (λ c. search needs)
+    (λ c. let lowest = c .before .before in let args = lowest .before .before .args in
+    let e = sym (lowest .lowest .ensures) ∙ ap numberIs (c .enum-told .given .1) in
+    rw (none-listed (args .input-hz) (args .target-hz) (none-to-walk _ (args .target-hz) _ (inr e) .2))
+    (nothing (now (args .buf)) 0)) (λ c κs. search needs) (λ c. search needs) (λ c. search needs) returns-2 loop-holds
+    (λ c κs. let inv = c .before .before .loop .inv in (
+      omega arith,
+      highest-right _ _ (inv .2) .0 .0,
+      between-permitted _ _ _ _ (inv .1) (inv .2) (inv .5) (omega arith),
+    )) (λ c. search needs) (λ c. search needs) loop-again (λ c. search needs) returns-3)

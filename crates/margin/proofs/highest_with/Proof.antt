@@ -1,7 +1,7 @@
 -- `margin::highest_with` meets its contract.
 -- Assumes nothing.
 use mathlib.Core.Path.{sym, _∙_}
-use Prim.Native.Nat.{ℕ, _+_, _-_, _/_, _≤_, _<_}
+use Prim.Native.Nat.{ℕ, _-_, _≤_, _<_}
 use native.Mathlib.Omega.{arith}
 use borrow.Author.Needs.{needs}
 use Rattle.near.proofs.Near.{search-between}
@@ -12,44 +12,32 @@ use Rattle.margin.proofs.highest_with.Tie as tie
 
 abbrev Inv-loop : tie.InvT-loop
 Inv-loop input target c low₀ high₀ low high =
-    (low ≤ high)
-    × (target ≤ low)
-    × (high < 4294967296)
-    × Has input c target
-    × Has input c low
-    × ((t : ℕ) → high < t → t < 4294967296 → Has input c t → ⊥)
+    (low ≤ high) × (target ≤ low) × (high < 4294967296) × Has input c target × Has input c low ×
+    ((t : ℕ) → high < t → t < 4294967296 → Has input c t → ⊥)
 
 abbrev μ-loop : tie.MeasureT-loop
 μ-loop input target c low₀ high₀ low high = high - low
 
-loop-again : tie.Need-loop-again Inv-loop μ-loop
-loop-again c =
-    let l = c .before .before .before .loop in
-    (omega arith, omega arith, omega arith, l .inv .3, c .before .gives .ensures .yes (c .if1 .taken), l .inv .5)
-
-loop-again-2 : tie.Need-loop-again-2 Inv-loop μ-loop
-loop-again-2 c =
-    let l = c .before .before .before .loop in (
+pub highest-with-spec : {M : Type 1} → statement M
+highest-with-spec = tie.close (tie.spec Inv-loop μ-loop
+    (λ c. (omega arith, omega arith, omega arith, c .pre, c .pre, λ t h k e. omega arith)) (λ c. search needs)
+    (λ c. search needs) (λ c κs. search needs) (λ c. search needs)
+    (λ c. let l = c .before .before .before .loop in (
+      omega arith,
+      omega arith,
+      omega arith,
+      l .inv .3,
+      c .before .gives .ensures .yes (c .if1 .taken),
+      l .inv .5,
+    )) (λ c. search needs) (λ c. search needs)
+    (λ c. let l = c .before .before .before .loop in (
       omega arith,
       omega arith,
       omega arith,
       l .inv .3,
       l .inv .4,
-      λ t h k e.
-          no (sym (c .if1 .left)
-          ∙ c .before .gives .ensures .no
-          (search-between _ _ _ t _ (omega arith) (omega arith) (l .inv .3) e)),
-    )
-
-returns : tie.Need-returns Inv-loop μ-loop
-returns c =
-    let l = c .before .loop in
-    highest-end _ _ _ (l .high) _ (omega arith) (l .inv .1) (l .inv .2) (l .inv .3) (l .inv .4) (l .inv .5)
-
-pub highest-with-spec : {M : Type 1} → statement M
-highest-with-spec =
-    tie.close
-    (tie.spec Inv-loop μ-loop
-    (λ c. (omega arith, omega arith, omega arith, c .pre, c .pre, λ t h k e. omega arith)) (λ c. search needs)
-    (λ c. search needs) (λ c κs. search needs) (λ c. search needs) loop-again (λ c. search needs)
-    (λ c. search needs) loop-again-2 returns)
+      λ t h k e. no (sym (c .if1 .left) ∙ c .before .gives .ensures .no (search-between _ _ _ t _ (omega arith)
+          (omega arith) (l .inv .3) e)),
+    ))
+    (λ c. let l = c .before .loop in highest-end _ _ _ (l .high) _ (omega arith) (l .inv .1) (l .inv .2) (l .inv .3)
+    (l .inv .4) (l .inv .5)))

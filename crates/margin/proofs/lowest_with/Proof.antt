@@ -1,7 +1,7 @@
 -- `margin::lowest_with` meets its contract.
 -- Assumes nothing.
 use mathlib.Core.Path.{sym, _∙_}
-use Prim.Native.Nat.{ℕ, _+_, _-_, _/_, _≤_, _<_}
+use Prim.Native.Nat.{ℕ, _-_, _≤_, _<_}
 use native.Mathlib.Omega.{arith}
 use borrow.Author.Needs.{needs}
 use Rattle.near.proofs.Near.{search-between}
@@ -12,41 +12,30 @@ use Rattle.margin.proofs.lowest_with.Tie as tie
 
 abbrev Inv-loop : tie.InvT-loop
 Inv-loop input target c low₀ high₀ low high =
-    (low ≤ high)
-    × (high ≤ target)
-    × Has input c target
-    × Has input c high
-    × ((t : ℕ) → t < low → Has input c t → ⊥)
+    (low ≤ high) × (high ≤ target) × Has input c target × Has input c high × ((t : ℕ) → t < low → Has input c t → ⊥)
 
 abbrev μ-loop : tie.MeasureT-loop
 μ-loop input target c low₀ high₀ low high = high - low
 
-loop-again : tie.Need-loop-again Inv-loop μ-loop
-loop-again c =
-    let l = c .before .before .before .loop in
-    (omega arith, omega arith, l .inv .2, c .before .gives .ensures .yes (c .if1 .taken), l .inv .4)
-
-loop-again-2 : tie.Need-loop-again-2 Inv-loop μ-loop
-loop-again-2 c =
-    let l = c .before .before .before .loop in (
+pub lowest-with-spec : {M : Type 1} → statement M
+lowest-with-spec = tie.close (tie.spec Inv-loop μ-loop
+    (λ c. (omega arith, omega arith, c .pre, c .pre, λ t h e. omega arith)) (λ c. search needs) (λ c. search needs)
+    (λ c κs. search needs) (λ c. search needs)
+    (λ c. let l = c .before .before .before .loop in (
+      omega arith,
+      omega arith,
+      l .inv .2,
+      c .before .gives .ensures .yes (c .if1 .taken),
+      l .inv .4,
+    )) (λ c. search needs) (λ c. search needs)
+    (λ c. let l = c .before .before .before .loop in (
       omega arith,
       omega arith,
       l .inv .2,
       l .inv .3,
-      λ t h e.
-          no (sym (c .if1 .left)
-          ∙ c .before .gives .ensures .no
-          (search-between _ t _ _ _ (omega arith) (omega arith) e (l .inv .2))),
-    )
-
-returns : tie.Need-returns Inv-loop μ-loop
-returns c =
-    let l = c .before .loop in
-    lowest-end _ _ _ (l .high) _ (omega arith) (l .inv .1) (l .inv .2) (l .inv .3) (l .inv .4)
-
-pub lowest-with-spec : {M : Type 1} → statement M
-lowest-with-spec =
-    tie.close
-    (tie.spec Inv-loop μ-loop (λ c. (omega arith, omega arith, c .pre, c .pre, λ t h e. omega arith))
-    (λ c. search needs) (λ c. search needs) (λ c κs. search needs) (λ c. search needs) loop-again
-    (λ c. search needs) (λ c. search needs) loop-again-2 returns)
+      λ t h e. no
+          (sym (c .if1 .left) ∙ c .before .gives .ensures .no (search-between _ t _ _ _ (omega arith) (omega arith) e
+          (l .inv .2))),
+    ))
+    (λ c. let l = c .before .loop in lowest-end _ _ _ (l .high) _ (omega arith) (l .inv .1) (l .inv .2) (l .inv .3)
+    (l .inv .4)))

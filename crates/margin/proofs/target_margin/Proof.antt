@@ -9,16 +9,6 @@ use Rattle.margin.proofs.Sides.{lower-side, higher-side, refused-15}
 use Rattle.margin.proofs.target_margin.Statement.{statement}
 use Rattle.margin.proofs.target_margin.Tie as tie
 
-lowest-with-requires : tie.Need-lowest-with-requires
-lowest-with-requires c κs =
-    let d = c .before in
-    sym (d .before .before .find-pll-params .ensures) ∙ ap foundIs (d .c .given .1)
-
-highest-with-requires : tie.Need-highest-with-requires
-highest-with-requires c κs =
-    let d = c .before .before in
-    sym (d .before .before .find-pll-params .ensures) ∙ ap foundIs (d .c .given .1)
-
 returns : tie.Need-returns
 returns c =
     let below = c .before in
@@ -32,13 +22,10 @@ returns c =
           (c .next-above .ensures),
     )
 
-returns-2 : tie.Need-returns-2
-returns-2 c =
-    let d = c .before in
-    right-is-margin _ _ (search needs) _ (refused-15 _ _ _ (sym (d .before .before .find-pll-params .ensures) ∙ ap foundIs (d .n .given .1)))
-
 pub target-margin-spec : {M : Type 1} → statement M
-target-margin-spec =
-    tie.close
-    (tie.spec (λ c κs. search needs) (λ c. search needs) lowest-with-requires highest-with-requires
-    (λ c κs. search needs) (λ c κs. search needs) (λ c. search needs) returns returns-2)
+target-margin-spec = tie.close (tie.spec (λ c κs. search needs) (λ c. search needs)
+    (λ c κs. let d = c .before in sym (d .before .before .find-pll-params .ensures) ∙ ap foundIs (d .c .given .1))
+    (λ c κs. let d = c .before .before in sym (d .before .before .find-pll-params .ensures) ∙ ap foundIs
+    (d .c .given .1)) (λ c κs. search needs) (λ c κs. search needs) (λ c. search needs) returns
+    (λ c. let d = c .before in right-is-margin _ _ (search needs) _ (refused-15 _ _ _ (sym
+    (d .before .before .find-pll-params .ensures) ∙ ap foundIs (d .n .given .1)))))

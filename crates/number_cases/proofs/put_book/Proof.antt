@@ -3,12 +3,8 @@ use borrow.Author.Needs.{needs}
 use Rattle.number_cases.proofs.put_book.Statement.{statement}
 use Rattle.number_cases.proofs.put_book.Tie as tie
 
-returns : tie.Need-returns
-returns c =
-    let put-found = c .before .before in let lookup = put-found .before in let number-at = lookup .before in
-    rw (lookup .lookup .ensures, number-at .number-at .ensures) at (put-found .put-found .ensures)
-
 pub put-book-spec : {M : Type 1} → statement M
-put-book-spec =
-    tie.close
-    (tie.spec (λ c κs. search needs) (λ c κs. search needs) (λ c κs. search needs) (λ c. search needs) returns)
+put-book-spec = tie.close (tie.spec (λ c κs. search needs) (λ c κs. search needs) (λ c κs. search needs)
+    (λ c. search needs)
+    (λ c. let put-found = c .before .before in let lookup = put-found .before in
+    rw (lookup .lookup .ensures, lookup .before .number-at .ensures) at (put-found .put-found .ensures)))

@@ -1,6 +1,6 @@
 -- `page::put_line` meets its contract.
 -- Assumes nothing.
-use mathlib.Core.Path.{_≡_, refl, sym, _∙_}
+use mathlib.Core.Path.{refl, sym, _∙_}
 use native.Mathlib.Omega.{arith}
 use borrow.Author.Needs.{needs}
 use Rattle.base.proofs.Placing.{placed-append}
@@ -9,11 +9,10 @@ use Rattle.page.proofs.put_line.Tie as tie
 
 returns : tie.Need-returns
 returns c =
-    let newline = c .before .before in
-    let row = newline .before .before .before .before in
+    let newline = c .before .before in let row = newline .before .before .before .before in
     let told = row .before .before .before .before .before .before .before in
-    rw (sym (told .before .before .entry-in .ensures) ∙ told .hz .given .1)
-    (placed-append (row .put-row .ensures) (newline .put-byte .ensures))
+    rw (sym (told .before .before .entry-in .ensures) ∙ told .hz .given .1) (placed-append (row .put-row .ensures)
+    (newline .put-byte .ensures))
 
 returns-2 : tie.Need-returns-2
 returns-2 c =
@@ -21,8 +20,6 @@ returns-2 c =
     (record { index = omega arith; bytes = refl })
 
 pub put-line-spec : {M : Type 1} → statement M
-put-line-spec =
-    tie.close
-    (tie.spec (λ c κs. search needs) (λ c. search needs) (λ c. search needs) (λ c. search needs) (λ c. search needs)
-    (λ c. search needs) (λ c κs. search needs) (λ c κs. search needs) (λ c. search needs) (λ c. search needs)
-    returns returns-2)
+put-line-spec = tie.close (tie.spec (λ c κs. search needs) (λ c. search needs) (λ c. search needs) (λ c. search needs)
+    (λ c. search needs) (λ c. search needs) (λ c κs. search needs) (λ c κs. search needs) (λ c. search needs)
+    (λ c. search needs) returns returns-2)

@@ -6,26 +6,14 @@ use borrow.Author.Needs.{needs}
 use Rattle.plan_numbers.proofs.plan.Statement.{statement}
 use Rattle.plan_numbers.proofs.plan.Tie as tie
 
-returns : tie.Need-returns
-unfolding planOf
-returns c = rw (sym (c .before .whole-plan .ensures) ∙ not-true _ (c .if1 .taken))
-
-returns-2 : tie.Need-returns-2
-unfolding planOf
-returns-2 c =
-    let config = c .before .before in let chip = config .before .before in let if1 = chip .before in
-    let passed = sym (if1 .before .whole-plan .ensures) ∙ not-false _ (if1 .if1 .left) in
-    rw (c .plan-at .ensures, passed, ← chip .chip .ensures, config .config .given .1)
-
-returns-3 : tie.Need-returns-3
-unfolding planOf
-returns-3 c =
-    let chip = c .before .before in let if1 = chip .before in
-    let passed = sym (if1 .before .whole-plan .ensures) ∙ not-false _ (if1 .if1 .left) in
-    rw (passed, ← chip .chip .ensures, c .enum-told .given .1)
-
 pub plan-spec : {M : Type 1} → statement M
-plan-spec =
-    tie.close
-    (tie.spec (λ c κs. search needs) returns (λ c κs. search needs) (λ c. search needs) (λ c κs. search needs)
-    (λ c. search needs) returns-2 returns-3)
+unfolding planOf
+plan-spec = tie.close (tie.spec (λ c κs. search needs)
+    (λ c. rw (sym (c .before .whole-plan .ensures) ∙ not-true _ (c .if1 .taken))) (λ c κs. search needs)
+    (λ c. search needs) (λ c κs. search needs) (λ c. search needs)
+    (λ c. let config = c .before .before in let chip = config .before .before in let if1 = chip .before in
+    let passed = sym (if1 .before .whole-plan .ensures) ∙ not-false _ (if1 .if1 .left) in
+    rw (c .plan-at .ensures, passed, ← chip .chip .ensures, config .config .given .1))
+    (λ c. let chip = c .before .before in let if1 = chip .before in
+    let passed = sym (if1 .before .whole-plan .ensures) ∙ not-false _ (if1 .if1 .left) in
+    rw (passed, ← chip .chip .ensures, c .enum-told .given .1)))

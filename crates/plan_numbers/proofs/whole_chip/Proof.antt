@@ -5,28 +5,18 @@ use borrow.Author.Tests.{eq-eqb, ne-eqb}
 use Rattle.plan_numbers.proofs.whole_chip.Statement.{statement}
 use Rattle.plan_numbers.proofs.whole_chip.Tie as tie
 
-returns : tie.Need-returns
-unfolding wholeChip
-returns c = rw (c .before .enum-told .given .1, ne-eqb _ _ (c .if1 .taken))
-
-returns-2 : tie.Need-returns-2
-unfolding wholeChip
-returns-2 c = rw (c .before .enum-told2 .given .1, ne-eqb _ _ (c .if2 .taken))
-
-returns-3 : tie.Need-returns-3
-unfolding wholeChip
-returns-3 c =
-    let divider = c .before .before in let length = divider .before .before in
-    rw (length .before .enum-told .given .1, eq-eqb _ _ (length .if1 .left), c .is-part .ensures, divider .fits2 .ensures)
-
-returns-4 : tie.Need-returns-4
-unfolding wholeChip
-returns-4 c =
-    let length = c .before .before in
-    rw (length .before .enum-told2 .given .1, eq-eqb _ _ (length .if2 .left), c .fits3 .ensures)
-
 pub whole-chip-spec : {M : Type 1} → statement M
-whole-chip-spec =
-    tie.close
-    (tie.spec (λ c. search needs) returns (λ c. search needs) (λ c κs. search needs) (λ c. search needs)
-    (λ c κs. search needs) (λ c. search needs) returns-2 (λ c. search needs) (λ c κs. search needs) returns-3 returns-4)
+unfolding wholeChip
+whole-chip-spec = tie.close (tie.spec (λ c. search needs)
+    (λ c. rw (c .before .enum-told .given .1, ne-eqb _ _ (c .if1 .taken))) (λ c. search needs) (λ c κs. search needs)
+    (λ c. search needs) (λ c κs. search needs) (λ c. search needs)
+    (λ c. rw (c .before .enum-told2 .given .1, ne-eqb _ _ (c .if2 .taken))) (λ c. search needs) (λ c κs. search needs)
+    (λ c. let divider = c .before .before in let length = divider .before .before in
+    rw (
+      length .before .enum-told .given .1,
+      eq-eqb _ _ (length .if1 .left),
+      c .is-part .ensures,
+      divider .fits2 .ensures,
+    ))
+    (λ c. let length = c .before .before in
+    rw (length .before .enum-told2 .given .1, eq-eqb _ _ (length .if2 .left), c .fits3 .ensures)))

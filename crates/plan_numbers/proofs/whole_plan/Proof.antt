@@ -5,19 +5,13 @@ use borrow.Author.Needs.{needs}
 use Rattle.plan_numbers.proofs.whole_plan.Statement.{statement}
 use Rattle.plan_numbers.proofs.whole_plan.Tie as tie
 
-returns : tie.Need-returns
-returns c = rw (sym (c .before .whole-chip .ensures) ∙ not-true _ (c .if1 .taken))
-
-returns-2 : tie.Need-returns-2
-returns-2 c =
-    let if1 = c .before .before in
+pub whole-plan-spec : {M : Type 1} → statement M
+whole-plan-spec = tie.close (tie.spec (λ c κs. search needs)
+    (λ c. rw (sym (c .before .whole-chip .ensures) ∙ not-true _ (c .if1 .taken))) (λ c κs. search needs)
+    (λ c κs. search needs)
+    (λ c. let if1 = c .before .before in
     rw (
       c .whole-clocks .ensures,
       c .before .whole-oscillators .ensures,
       sym (if1 .before .whole-chip .ensures) ∙ not-false _ (if1 .if1 .left),
-    )
-
-pub whole-plan-spec : {M : Type 1} → statement M
-whole-plan-spec =
-    tie.close
-    (tie.spec (λ c κs. search needs) returns (λ c κs. search needs) (λ c κs. search needs) returns-2)
+    )))

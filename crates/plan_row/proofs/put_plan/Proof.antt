@@ -5,15 +5,10 @@ use borrow.Author.Needs.{needs}
 use Rattle.plan_row.proofs.put_plan.Statement.{statement}
 use Rattle.plan_row.proofs.put_plan.Tie as tie
 
-returns : tie.Need-returns
-unfolding planRow
-returns c =
-    let put-rtc = c .before .before in let put-clocks = put-rtc .before .before .before .before in
-    let put-oscillators = put-clocks .before .before .before .before in
-    placed-append (put-oscillators .put-oscillators .ensures)
-    (placed-append (put-clocks .put-clocks .ensures) (put-rtc .put-rtc .ensures))
-
 pub put-plan-spec : {M : Type 1} → statement M
-put-plan-spec =
-    tie.close
-    (tie.spec (λ c κs. search needs) (λ c κs. search needs) (λ c κs. search needs) (λ c. search needs) returns)
+unfolding planRow
+put-plan-spec = tie.close (tie.spec (λ c κs. search needs) (λ c κs. search needs) (λ c κs. search needs)
+    (λ c. search needs)
+    (λ c. let put-rtc = c .before .before in let put-clocks = put-rtc .before .before .before .before in
+    placed-append (put-clocks .before .before .before .before .put-oscillators .ensures) (placed-append
+    (put-clocks .put-clocks .ensures) (put-rtc .put-rtc .ensures))))

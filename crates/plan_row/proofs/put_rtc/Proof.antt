@@ -5,18 +5,11 @@ use borrow.Author.Needs.{needs}
 use Rattle.plan_row.proofs.put_rtc.Statement.{statement}
 use Rattle.plan_row.proofs.put_rtc.Tie as tie
 
-returns : tie.Need-returns
-returns c =
-    let put-all = c .before .before in let rtc = put-all .before .before .before in
-    let chip = rtc .before .before in
-    rw (chip .chip .given .1) (rw (rtc .rtc .ensures) at (put-all .put-all .ensures))
-
 returns-2 : tie.Need-returns-2
-returns-2 c =
-    rw (c .before .enum-told .given .1) (record { index = omega (arith, c .least .ensures); bytes = refl })
+returns-2 c = rw (c .before .enum-told .given .1) (record { index = omega (arith, c .least .ensures); bytes = refl })
 
 pub put-rtc-spec : {M : Type 1} → statement M
-put-rtc-spec =
-    tie.close
-    (tie.spec (λ c. search needs) (λ c κs. search needs) (λ c. search needs) (λ c κs. search needs)
-    (λ c. search needs) (λ c κs. search needs) (λ c. search needs) returns returns-2)
+put-rtc-spec = tie.close (tie.spec (λ c. search needs) (λ c κs. search needs) (λ c. search needs)
+    (λ c κs. search needs) (λ c. search needs) (λ c κs. search needs) (λ c. search needs)
+    (λ c. let put-numbers = c .before .before in let rtc = put-numbers .before .before .before in
+    rw (rtc .before .before .chip .given .1) (rw (rtc .rtc .ensures) at (put-numbers .put-numbers .ensures))) returns-2)

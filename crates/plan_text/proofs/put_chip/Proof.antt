@@ -15,7 +15,5 @@ returns-2 c =
     (record { placed = c .before .before .put-bytes2 .ensures; short = omega arith })
 
 pub put-chip-spec : {M : Type 1} → statement M
-put-chip-spec =
-    tie.close
-    (tie.spec (λ c. search needs) (λ c. search needs) (λ c κs. search needs) (λ c. search needs) (λ c. search needs)
-    (λ c κs. search needs) (λ c. search needs) returns (λ c. search needs) returns-2)
+put-chip-spec = tie.close (tie.spec (λ c. search needs) (λ c. search needs) (λ c κs. search needs) (λ c. search needs)
+    (λ c. search needs) (λ c κs. search needs) (λ c. search needs) returns (λ c. search needs) returns-2)

@@ -1,6 +1,5 @@
 -- `plan_text::put_next` meets its contract. Assumes nothing.
 use native.Mathlib.Omega.{arith}
-use lib.ListN.{length-append}
 use borrow.Author.Needs.{needs}
 use Rattle.base.proofs.Placing.{placed-append}
 use Rattle.text.proofs.Decimals.{length-decimal}
@@ -18,6 +17,4 @@ returns c =
     }
 
 pub put-next-spec : {M : Type 1} → statement M
-put-next-spec =
-    tie.close
-    (tie.spec (λ c κs. search needs) (λ c κs. search needs) (λ c. search needs) returns)
+put-next-spec = tie.close (tie.spec (λ c κs. search needs) (λ c κs. search needs) (λ c. search needs) returns)

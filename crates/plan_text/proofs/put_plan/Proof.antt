@@ -5,14 +5,10 @@ use Rattle.plan_text.proofs.Puts.{put-append}
 use Rattle.plan_text.proofs.put_plan.Statement.{statement}
 use Rattle.plan_text.proofs.put_plan.Tie as tie
 
-returns : tie.Need-returns
-unfolding planText
-returns c =
-    let put-numbers = c .before .before in
-    let put-chip = put-numbers .before .before .before .before in
-    put-append (rw (put-chip .before .before .board .ensures .0) at (put-chip .put-chip .ensures)) (put-numbers .put-numbers .ensures)
-
 pub put-plan-spec : {M : Type 1} → statement M
-put-plan-spec =
-    tie.close
-    (tie.spec (λ c κs. search needs) (λ c κs. search needs) (λ c κs. search needs) (λ c. search needs) returns)
+unfolding planText
+put-plan-spec = tie.close (tie.spec (λ c κs. search needs) (λ c κs. search needs) (λ c κs. search needs)
+    (λ c. search needs)
+    (λ c. let put-numbers = c .before .before in let put-chip = put-numbers .before .before .before .before in
+    put-append (rw (put-chip .before .before .board .ensures .0) at (put-chip .put-chip .ensures))
+    (put-numbers .put-numbers .ensures)))

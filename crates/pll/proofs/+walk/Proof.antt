@@ -31,21 +31,18 @@ claims t = (best.Asked, best.Learnt, lower.Asked, lower.Learnt, walk-below t, wa
 walk-returns : (t : ℕ) → walk-lts.Need-returns (claims t) (walk-at t) walk.Post
 walk-returns t c =
     let lowered = c .before in
-    rw (lowered .lower .ensures)
-    (stop-exact _ _ _ _ _ (lowered .before .best-posts .ensures) (omega arith) (omega arith) (omega arith))
+    rw (lowered .lower .ensures) (stop-exact _ _ _ _ _ (lowered .before .best-posts .ensures) (omega arith)
+    (omega arith) (omega arith))
 
 walk-returns-2 : (t : ℕ) → walk-lts.Need-returns-2 (claims t) (walk-at t) walk.Post
 walk-returns-2 t c =
     let lowered = c .before .before in
-    rw (lowered .lower .ensures)
-    (stop-last _ _ _ _ _ (lowered .before .best-posts .ensures) (omega arith)
-    _ (lowered .before .before .pre .1 .0 .2) (omega arith) (omega arith))
+    rw (lowered .lower .ensures) (stop-last _ _ _ _ _ (lowered .before .best-posts .ensures) (omega arith) _
+    (lowered .before .before .pre .1 .0 .2) (omega arith) (omega arith))
 
 walk-requires : (t : ℕ) → walk-lts.Need-walk-requires (claims t) (walk-at t) walk.Post
 walk-requires t c κs =
-    let asked = c .before .before .before .before .pre .1 in
-    let here = asked .0 .1 in
-    let low = asked .0 .2 in (
+    let asked = c .before .before .before .before .pre .1 in let here = asked .0 .1 in let low = asked .0 .2 in (
       omega arith,
       ((asked .0 .0, permits-between _ _ _ _ (low .one) here (omega arith) (omega arith), low), omega arith),
     )
@@ -53,9 +50,10 @@ walk-requires t c κs =
 walk-returns-3 : (t : ℕ) → walk-lts.Need-returns-3 (claims t) (walk-at t) walk.Post
 walk-returns-3 t c =
     let lowered = c .before .before .before in
-    walk-on _ _ _ _ _ (lowered .before .best-posts .ensures) (omega arith) _ (rw (lowered .lower .ensures) at (c .walk .ensures))
+    walk-on _ _ _ _ _ (lowered .before .best-posts .ensures) (omega arith) _
+    (rw (lowered .lower .ensures) at (c .walk .ensures))
 
 pub +walk-spec : {M : Type 1} → statement M
-+walk-spec = close μ-walk λ t. walk-lts.spec (claims t) (walk-at t) walk.Post
-    (λ c κs. search needs) (λ c κs. search needs) (walk-returns t) (walk-returns-2 t)
-    (λ c. search needs) (walk-requires t) (walk-returns-3 t)
++walk-spec =
+    close μ-walk λ t. walk-lts.spec (claims t) (walk-at t) walk.Post (λ c κs. search needs) (λ c κs. search needs)
+    (walk-returns t) (walk-returns-2 t) (λ c. search needs) (walk-requires t) (walk-returns-3 t)

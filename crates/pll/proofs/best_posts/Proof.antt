@@ -6,16 +6,9 @@ use Rattle.pll.proofs.Nearest.{nearest-lowest}
 use Rattle.pll.proofs.best_posts.Statement.{statement}
 use Rattle.pll.proofs.best_posts.Tie as tie
 
-returns : tie.Need-returns
-returns c =
-    let near = c .before .before .before in
-    let pre = near .before .before .pre in
-    rw (c .lower .ensures, c .before .rank2 .ensures, c .before .before .rank .ensures)
-    (nearest-lowest _ _ _ (pre .0) (pre .1) _ _ (near .before .wanted-product .ensures) (near .posts-near .ensures)
-    (omega arith))
-
 pub best-posts-spec : {M : Type 1} → statement M
-best-posts-spec =
-    tie.close
-    (tie.spec (λ c. search needs) (λ c κs. search needs) (λ c κs. search needs) (λ c. search needs)
-    (λ c κs. search needs) (λ c κs. search needs) (λ c κs. search needs) returns)
+best-posts-spec = tie.close (tie.spec (λ c. search needs) (λ c κs. search needs) (λ c κs. search needs)
+    (λ c. search needs) (λ c κs. search needs) (λ c κs. search needs) (λ c κs. search needs)
+    (λ c. let near = c .before .before .before in let pre = near .before .before .pre in
+    rw (c .lower .ensures, c .before .rank2 .ensures, c .before .before .rank .ensures) (nearest-lowest _ _ _ (pre .0)
+    (pre .1) _ _ (near .before .wanted-product .ensures) (near .posts-near .ensures) (omega arith))))

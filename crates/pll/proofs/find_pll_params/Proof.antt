@@ -15,39 +15,27 @@ use Rattle.pll.proofs.find_pll_params.Tie as tie
 
 walk-requires : tie.Need-walk-requires
 walk-requires c κs =
-    let low = c .before in
-    let lowest = low .before .before in
-    let high = lowest .before .before in
-    let from = highest-right _ _ (sym (high .before .before .highest .ensures) ∙ ap numberIs (high .high .given .1)) in
+    let low = c .before in let lowest = low .before .before in let high = lowest .before .before in
+    let from = highest-right _ _ (sym (high .before .before .highest .ensures) ∙ ap numberIs
+    (high .high .given .1)) in
     let to = lowest-right _ _ (sym (lowest .lowest .ensures) ∙ ap numberIs (low .low .given .1)) in
     ((from .0 .0, from .1 .one, to), omega arith)
 
 returns : tie.Need-returns
 returns c =
-    let walked = c .before in
-    let high = walked .before .before .before .before .before .before in
-    let from = highest-right _ _ (sym (high .before .before .highest .ensures) ∙ ap numberIs (high .high .given .1)) in
+    let walked = c .before in let high = walked .before .before .before .before .before .before in
+    let from = highest-right _ _ (sym (high .before .before .highest .ensures) ∙ ap numberIs
+    (high .high .given .1)) in
     let some = a-candidate _ _ 1 1 (from .0 .0) (from .1 .one) (omega arith) (omega arith) (omega arith) in
-    rw (c .setting .ensures)
-    (lowest-found _ _ _ (omega arith) _ some (all-walked _ _ _ _ _ (from .1) (walked .walk .ensures)))
-
-returns-2 : tie.Need-returns-2
-returns-2 c =
-    let none = c .before in
-    let lowest = none .before .before in
-    let e = sym (lowest .lowest .ensures) ∙ ap numberIs (none .number .given .1) in
-    let r = none-to-walk _ _ _ (inr e) in
-    ap refusal (r .0) ∙ sym (r .1)
-
-returns-3 : tie.Need-returns-3
-returns-3 c =
-    let none = c .before in
-    let e = sym (none .before .before .highest .ensures) ∙ ap numberIs (none .number2 .given .1) in
-    let r = none-to-walk _ _ _ (inl e) in
-    ap refusal (r .0) ∙ sym (r .1)
+    rw (c .setting .ensures) (lowest-found _ _ _ (omega arith) _ some
+    (all-walked _ _ _ _ _ (from .1) (walked .walk .ensures)))
 
 pub find-pll-params-spec : {M : Type 1} → statement M
-find-pll-params-spec =
-    tie.close
-    (tie.spec (λ c κs. search needs) (λ c. search needs) (λ c κs. search needs) (λ c. search needs) walk-requires
-    (λ c κs. search needs) (λ c. search needs) (λ c. search needs) returns returns-2 returns-3)
+find-pll-params-spec = tie.close (tie.spec (λ c κs. search needs) (λ c. search needs) (λ c κs. search needs)
+    (λ c. search needs) walk-requires (λ c κs. search needs) (λ c. search needs) (λ c. search needs) returns
+    (λ c. let none = c .before in
+    let e = sym (none .before .before .lowest .ensures) ∙ ap numberIs (none .number .given .1) in
+    let r = none-to-walk _ _ _ (inr e) in ap refusal (r .0) ∙ sym (r .1))
+    (λ c. let none = c .before in
+    let e = sym (none .before .before .highest .ensures) ∙ ap numberIs (none .number2 .given .1) in
+    let r = none-to-walk _ _ _ (inl e) in ap refusal (r .0) ∙ sym (r .1)))

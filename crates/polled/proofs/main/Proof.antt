@@ -18,24 +18,13 @@ use Rattle.polled.proofs.main.Tie as tie
 fits : (p : ClockConfig) (reading : ℕ) (b b′ : List ℕ) (r : Length) → InitCall p reading b r b′ → (n : ℕ)
     → lengthIs r ≡ value n → n ≤ length b′
 fits p reading b b′ r o n e =
-    let a = answered p reading b b′ r o n e in
-    rw (a .bytes) (simp length-append (omega (arith, a .count)))
-
-array-share-prefix-bytes : tie.Need-array-share-prefix-bytes
-array-share-prefix-bytes c =
-    let told = c .before .n .given in
-    let init = c .before .before .before .before .init in
-    fits _ _ _ _ _ (init .ensures) _ (rw (told .1))
-
-slice-aggregate-run : tie.Need-slice-aggregate-run
-slice-aggregate-run c =
-    let told = c .before .before .n .given in
-    let init = c .before .before .before .before .before .init in
-    sym (length-take-le _ _ (fits _ _ _ _ _ (init .ensures) _ (rw (told .1))))
+    let a = answered p reading b b′ r o n e in rw (a .bytes) (simp length-append (omega (arith, a .count)))
 
 pub main-spec : {M : Type 1} → statement M
-main-spec =
-    tie.close
-    (tie.spec (λ c κs. search needs) (λ c. search needs) (λ c κs. search needs) (λ c. search needs)
-    array-share-prefix-bytes slice-aggregate-run (λ c κs. search needs) (λ c κs. search needs) (λ c. search needs)
-    (λ c. search needs) (λ c. search needs) (λ c κs. search needs) (λ c. search needs) (λ c. search needs))
+main-spec = tie.close (tie.spec (λ c κs. search needs) (λ c. search needs) (λ c κs. search needs) (λ c. search needs)
+    (λ c. let told = c .before .n .given in let init = c .before .before .before .before .init in
+    fits _ _ _ _ _ (init .ensures) _ (rw (told .1)))
+    (λ c. let told = c .before .before .n .given in let init = c .before .before .before .before .before .init in
+    sym (length-take-le _ _ (fits _ _ _ _ _ (init .ensures) _ (rw (told .1))))) (λ c κs. search needs)
+    (λ c κs. search needs) (λ c. search needs) (λ c. search needs) (λ c. search needs) (λ c κs. search needs)
+    (λ c. search needs) (λ c. search needs))

@@ -11,8 +11,6 @@ abbrev μ-loop : tie.MeasureT-loop
 μ-loop sheet runner₀ ready₀ left₀ runner ready left = left
 
 pub run-spec : {M : Type 1} → statement M
-run-spec =
-    tie.close
-    (tie.spec Inv-loop μ-loop (λ c κs. search needs) (λ c κs. search needs) (λ c. search needs) (λ c κs. search needs) (λ c κs. search needs)
-    (λ c. search needs) (λ c κs. search needs) (λ c. search needs) (λ c. search needs) (λ c. search needs)
-    (λ c. search needs) (λ c. search needs))
+run-spec = tie.close (tie.spec Inv-loop μ-loop (λ c κs. search needs) (λ c κs. search needs) (λ c. search needs)
+    (λ c κs. search needs) (λ c κs. search needs) (λ c. search needs) (λ c κs. search needs) (λ c. search needs)
+    (λ c. search needs) (λ c. search needs) (λ c. search needs) (λ c. search needs))

@@ -6,7 +6,5 @@ use Rattle.polled.proofs.show.Statement.{statement}
 use Rattle.polled.proofs.show.Tie as tie
 
 pub show-spec : {M : Type 1} → statement M
-show-spec =
-    tie.close
-    (tie.spec (λ c. search needs) (λ c κs. search needs) (λ c. search needs)
+show-spec = tie.close (tie.spec (λ c. search needs) (λ c κs. search needs) (λ c. search needs)
     (λ c. sym (length-take-le _ _ (search needs))) (λ c κs. search needs) (λ c. search needs))

@@ -3,18 +3,11 @@ use borrow.Author.Needs.{needs}
 use Rattle.read_cases.proofs.put_asked.Statement.{statement}
 use Rattle.read_cases.proofs.put_asked.Tie as tie
 
-returns : tie.Need-returns
-returns c = rw (c .before .before .before .before .before .asked .given .1) (c .before .before .put-plan .ensures .placed)
-
-returns-2 : tie.Need-returns-2
-returns-2 c = rw (c .before .before .before .before .before .asked2 .given .1) (c .before .before .put-refused .ensures)
-
-returns-3 : tie.Need-returns-3
-returns-3 c = rw (c .before .before .before .before .enum-told .given .1) (c .before .before .put-bad .ensures)
-
 pub put-asked-spec : {M : Type 1} → statement M
-put-asked-spec =
-    tie.close
-    (tie.spec (λ c. search needs) (λ c κs. search needs) (λ c. search needs) (λ c κs. search needs)
-    (λ c. search needs) (λ c κs. search needs) (λ c. search needs) returns (λ c. search needs) returns-2
-    (λ c. search needs) returns-3)
+put-asked-spec = tie.close (tie.spec (λ c. search needs) (λ c κs. search needs) (λ c. search needs)
+    (λ c κs. search needs) (λ c. search needs) (λ c κs. search needs) (λ c. search needs)
+    (λ c. rw (c .before .before .before .before .before .asked .given .1)
+    (c .before .before .put-plan .ensures .placed)) (λ c. search needs)
+    (λ c. rw (c .before .before .before .before .before .asked2 .given .1) (c .before .before .put-refused .ensures))
+    (λ c. search needs)
+    (λ c. rw (c .before .before .before .before .enum-told .given .1) (c .before .before .put-bad .ensures)))

@@ -6,6 +6,5 @@ use Rattle.refusals.proofs.peri_bad.Tie as tie
 
 pub peri-bad-spec : {M : Type 1} → statement M
 unfolding periBad
-peri-bad-spec =
-    tie.close
-    (tie.spec (λ c. search needs) (λ c. search needs) (λ c. rw (c .enum-told .given .1)) (λ c. rw (c .enum-told2 .given .1)))
+peri-bad-spec = tie.close (tie.spec (λ c. search needs) (λ c. search needs) (λ c. rw (c .enum-told .given .1))
+    (λ c. rw (c .enum-told2 .given .1)))

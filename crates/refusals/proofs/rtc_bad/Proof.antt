@@ -4,14 +4,8 @@ use borrow.Author.Needs.{needs}
 use Rattle.refusals.proofs.rtc_bad.Statement.{statement}
 use Rattle.refusals.proofs.rtc_bad.Tie as tie
 
-returns : tie.Need-returns
-unfolding rtcBad
-returns c = rw (c .before .before .before .before .rtc .given .1, c .before .whole-bad .ensures, c .before .before .aux-source .ensures)
-
 pub rtc-bad-spec : {M : Type 1} → statement M
 unfolding rtcBad
-rtc-bad-spec =
-    tie.close
-    (tie.spec
-    (λ c. search needs) (λ c κs. search needs) (λ c κs. search needs) (λ c. search needs) returns
+rtc-bad-spec = tie.close (tie.spec (λ c. search needs) (λ c κs. search needs) (λ c κs. search needs)
+    (λ c. search needs) (λ c. rw (c .before .before .before .before .rtc .given .1) cc)
     (λ c. rw (c .enum-told .given .1)))

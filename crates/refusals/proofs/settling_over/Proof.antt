@@ -6,8 +6,5 @@ use Rattle.refusals.proofs.settling_over.Tie as tie
 
 pub settling-over-spec : {M : Type 1} → statement M
 unfolding settlingOver
-settling-over-spec =
-    tie.close
-    (tie.spec
-    (λ c. search needs) (λ c. search needs) (λ c. rw (c .before .settling .given .1))
-    (λ c. rw (c .enum-told .given .1)))
+settling-over-spec = tie.close (tie.spec (λ c. search needs) (λ c. search needs)
+    (λ c. rw (c .before .settling .given .1)) (λ c. rw (c .enum-told .given .1)))

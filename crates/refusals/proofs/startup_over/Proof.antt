@@ -6,8 +6,5 @@ use Rattle.refusals.proofs.startup_over.Tie as tie
 
 pub startup-over-spec : {M : Type 1} → statement M
 unfolding startupOver
-startup-over-spec =
-    tie.close
-    (tie.spec
-    (λ c. search needs) (λ c. search needs) (λ c. rw (c .before .before .crystal .given .1))
-    (λ c. rw (c .enum-told .given .1)))
+startup-over-spec = tie.close (tie.spec (λ c. search needs) (λ c. search needs)
+    (λ c. rw (c .before .before .crystal .given .1)) (λ c. rw (c .enum-told .given .1)))

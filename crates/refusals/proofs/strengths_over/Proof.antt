@@ -6,9 +6,6 @@ use Rattle.refusals.proofs.strengths_over.Tie as tie
 
 pub strengths-over-spec : {M : Type 1} → statement M
 unfolding strengthsOver
-strengths-over-spec =
-    tie.close
-    (tie.spec
-    (λ c. search needs) (λ c κs. search needs) (λ c. search needs)
+strengths-over-spec = tie.close (tie.spec (λ c. search needs) (λ c κs. search needs) (λ c. search needs)
     (λ c. rw (c .before .before .before .ring .given .1, c .strength-over .ensures))
     (λ c. rw (c .enum-told .given .1)))

@@ -4,12 +4,8 @@ use Rattle.base.proofs.Placing.{placed-append}
 use Rattle.replies.proofs.put_row.Statement.{statement}
 use Rattle.replies.proofs.put_row.Tie as tie
 
-returns : tie.Need-returns
-returns c =
-    let put-spaced = c .before .before in let put-decimal = put-spaced .before .before .before .before in
-    placed-append (put-decimal .put-decimal .ensures) (put-spaced .put-spaced .ensures)
-
 pub put-row-spec : {M : Type 1} → statement M
-put-row-spec =
-    tie.close
-    (tie.spec (λ c κs. search needs) (λ c κs. search needs) (λ c. search needs) returns)
+put-row-spec = tie.close (tie.spec (λ c κs. search needs) (λ c κs. search needs) (λ c. search needs)
+    (λ c. let put-spaced = c .before .before in
+    placed-append (put-spaced .before .before .before .before .put-decimal .ensures)
+    (put-spaced .put-spaced .ensures)))

@@ -1,47 +1,21 @@
--- `replies::put_spaced` meets its contract. Invariant: the first i numbers are placed. Measure: what is left of ns.
--- Assumes nothing.
-use mathlib.Core.Path.{_≡_, refl, _∙_}
-use Prim.Native.Nat.{ℕ, _+_, _-_, _≤_, _<_}
+-- `replies::put_spaced` meets its contract. Measure: the numbers left. Assumes nothing.
+use mathlib.Core.Path.{refl}
+use Prim.Native.Nat.{_-_}
 use native.Mathlib.Omega.{arith}
 use borrow.Author.Needs.{needs}
-use lib.ListN.{length, take, getD}
-use lib.Seq.{take-all}
-use Rattle.base.specs.Placed.{Placed}
-use Rattle.base.proofs.Placing.{placed-append}
+use lib.ListN.{length, take}
+use Rattle.base.proofs.Parts.{Parts, parts-none, parts-next, parts-length, parts-of}
 use Rattle.replies.specs.Reply.{spaced}
 use Rattle.replies.proofs.Spaced.{spaced-step}
 use Rattle.replies.proofs.put_spaced.Statement.{statement}
 use Rattle.replies.proofs.put_spaced.Tie as tie
 
-abbrev Inv-loop : tie.InvT-loop
-Inv-loop out₀ at ns end₀ i₀ out end i =
-    (i ≤ length ns) × (length out ≡ length out₀) × Placed out₀ at (spaced (take i ns)) end out
-
-abbrev μ-loop : tie.MeasureT-loop
-μ-loop out₀ at ns end₀ i₀ out end i = length ns - i
-
-loop-holds : tie.Need-loop-holds Inv-loop μ-loop
-loop-holds c = (omega arith, refl, record { index = omega arith; bytes = refl })
-
-loop-again : tie.Need-loop-again Inv-loop μ-loop
-loop-again c =
-    let put = c .before .before in let at-loop = put .before .before .before .before in
-    let ns = at-loop .before .before .before .before .args .ns .now in (
-      omega arith,
-      put .put-next .kept .0 ∙ at-loop .loop .inv .1,
-      rw (spaced-step ns (at-loop .loop .i) (omega arith)) (placed-append (at-loop .loop .inv .2) (put .put-next .ensures)),
-    )
-
-same-length : tie.Need-same-length Inv-loop μ-loop
-same-length c = c .before .loop .inv .1
-
-returns : tie.Need-returns Inv-loop μ-loop
-returns c =
-    let at-loop = c .before in let ns = at-loop .before .before .before .before .args .ns .now in
-    rw (take-all (at-loop .loop .i) ns (c .loop-test .left)) at (at-loop .loop .inv .2)
-
 pub put-spaced-spec : {M : Type 1} → statement M
-put-spaced-spec =
-    tie.close
-    (tie.spec Inv-loop μ-loop (λ c κs. search needs) loop-holds (λ c. search needs) (λ c. search needs)
-    (λ c κs. search needs) (λ c. search needs) (λ c. search needs) loop-again same-length returns)
+put-spaced-spec = tie.close (tie.spec
+    (λ out₀ at ns end₀ i₀ out end i. Parts (λ k. spaced (take k ns)) (length ns) out₀ at i end out)
+    (λ out₀ at ns end₀ i₀ out end i. length ns - i) (λ c κs. search needs) (λ c. parts-none refl (search needs))
+    (λ c. search needs) (λ c. search needs) (λ c κs. search needs) (λ c. search needs) (λ c. search needs)
+    (λ c. let put = c .before .before in
+    parts-next (put .before .before .before .before .loop .inv) (put .put-next .ensures) (omega arith)
+    (spaced-step _ _)) (λ c. parts-length (c .before .loop .inv))
+    (λ c. parts-of spaced _ (c .before .loop .inv) (c .loop-test .left)))

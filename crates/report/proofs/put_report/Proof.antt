@@ -4,24 +4,12 @@ use Rattle.report.specs.Report.{reportOf}
 use Rattle.report.proofs.put_report.Statement.{statement}
 use Rattle.report.proofs.put_report.Tie as tie
 
-returns : tie.Need-returns
-unfolding reportOf
-returns c =
-    let put = c .before .before in
-    let told = put .before .before .before .before in
-    let read = told .before .before in
-    rw (← read .line-number .ensures, told .hz .given .1, ← put .before .system-freq .ensures) (put .put-planned .ensures)
-
-returns-2 : tie.Need-returns-2
-unfolding reportOf
-returns-2 c =
-    let put = c .before .before in
-    let told = put .before .before .before in
-    let read = told .before .before in
-    rw (← read .line-number .ensures, told .number .given .1) (put .put-refused .ensures)
-
 pub put-report-spec : {M : Type 1} → statement M
-put-report-spec =
-    tie.close
-    (tie.spec (λ c κs. search needs) (λ c. search needs) (λ c κs. search needs) (λ c κs. search needs)
-    (λ c. search needs) (λ c κs. search needs) (λ c. search needs) returns (λ c. search needs) returns-2)
+unfolding reportOf
+put-report-spec = tie.close (tie.spec (λ c κs. search needs) (λ c. search needs) (λ c κs. search needs)
+    (λ c κs. search needs) (λ c. search needs) (λ c κs. search needs) (λ c. search needs)
+    (λ c. let put = c .before .before in let told = put .before .before .before .before in
+    rw (← told .before .before .line-number .ensures, told .hz .given .1, ← put .before .system-freq .ensures)
+    (put .put-planned .ensures)) (λ c. search needs)
+    (λ c. let put = c .before .before in let told = put .before .before .before in
+    rw (← told .before .before .line-number .ensures, told .number .given .1) (put .put-refused-line .ensures)))

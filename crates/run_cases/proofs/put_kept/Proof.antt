@@ -7,22 +7,14 @@ use Rattle.replies.proofs.Spaced.{take-least}
 use Rattle.run_cases.proofs.put_kept.Statement.{statement}
 use Rattle.run_cases.proofs.put_kept.Tie as tie
 
-slice-aggregate-put-hex : tie.Need-slice-aggregate-put-hex
-slice-aggregate-put-hex c = simp length-take (omega arith)
-
 returns : tie.Need-returns
 returns c =
-    let put-hex = c .before .before in
-    let least = put-hex .before .before .before in
-    let put-byte2 = least .before .before .before in
-    let put-decimal = put-byte2 .before .before .before .before in
-    let put-byte = put-decimal .before .before .before .before in
+    let put-hex = c .before .before in let least = put-hex .before .before .before in
+    let put-byte2 = least .before .before .before in let put-decimal = put-byte2 .before .before .before .before in
     let shown = rw (least .least .ensures, take-least) at (put-hex .put-hex .ensures) in
-    placed-append (put-byte .put-byte .ensures)
-    (placed-append (put-decimal .put-decimal .ensures) (placed-append (put-byte2 .put-byte2 .ensures) shown))
+    placed-append (put-decimal .before .before .before .before .put-byte .ensures) (placed-append
+    (put-decimal .put-decimal .ensures) (placed-append (put-byte2 .put-byte2 .ensures) shown))
 
 pub put-kept-spec : {M : Type 1} → statement M
-put-kept-spec =
-    tie.close
-    (tie.spec (λ c κs. search needs) (λ c κs. search needs) (λ c κs. search needs) (λ c κs. search needs)
-    slice-aggregate-put-hex (λ c κs. search needs) (λ c. search needs) returns)
+put-kept-spec = tie.close (tie.spec (λ c κs. search needs) (λ c κs. search needs) (λ c κs. search needs)
+    (λ c κs. search needs) (λ c. simp length-take (omega arith)) (λ c κs. search needs) (λ c. search needs) returns)

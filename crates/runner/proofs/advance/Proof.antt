@@ -7,9 +7,8 @@ use Rattle.runner.specs.Run.{Outcome, inRunner, advanceOf}
 use Rattle.runner.proofs.advance.Statement.{statement}
 use Rattle.runner.proofs.advance.Tie as tie
 
-returns : tie.Need-returns
-unfolding advanceOf
-returns c = ap (λ (x : Outcome Stepper). inRunner (c .before .before .before .before .args .r) x) (c .before .before .next-stepper .ensures)
-
 pub advance-spec : {M : Type 1} → statement M
-advance-spec = tie.close (tie.spec (λ c κs. search needs) returns)
+unfolding advanceOf
+advance-spec = tie.close (tie.spec (λ c κs. search needs)
+    (λ c. ap (λ (x : Outcome Stepper). inRunner (c .before .before .before .before .args .r) x)
+    (c .before .before .next-stepper .ensures)))

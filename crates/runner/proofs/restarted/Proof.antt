@@ -6,13 +6,6 @@ use Rattle.runner.proofs.Starts.{start-refused, start-built}
 use Rattle.runner.proofs.restarted.Statement.{statement}
 use Rattle.runner.proofs.restarted.Tie as tie
 
-keep-requires : tie.Need-keep-requires
-keep-requires c κs = size-fits _ cc
-
-returns-2 : tie.Need-returns-2
-returns-2 c = start-built _ _ _ _ _ (cc) (cc) (cc) (c .new .ensures)
-
 pub restarted-spec : {M : Type 1} → statement M
-restarted-spec =
-    tie.close
-    (tie.spec (λ c κs. search needs) (λ c. start-refused _ _ cc) keep-requires (λ c κs. search needs) returns-2)
+restarted-spec = tie.close (tie.spec (λ c κs. search needs) (λ c. start-refused _ _ cc) (λ c κs. size-fits _ cc)
+    (λ c κs. search needs) (λ c. start-built _ _ _ _ _ (cc) (cc) (cc) (c .new .ensures)))

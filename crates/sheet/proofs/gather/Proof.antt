@@ -9,19 +9,16 @@ returns : tie.Need-returns
 unfolding stepsWith
 returns c =
     let put-crystal = c .before .before in let put-voltage = put-crystal .before .before in
-    let put-ring = put-voltage .before .before in
-    let put-start = put-ring .before .before in let facts = put-start .before .before in
+    let put-ring = put-voltage .before .before in let put-start = put-ring .before .before in
     rw (
       c .put-clocks .ensures,
       put-crystal .put-crystal .ensures,
       put-voltage .put-voltage .ensures,
       put-ring .put-ring .ensures,
       put-start .put-start .ensures,
-      facts .facts .ensures,
+      put-start .before .before .facts .ensures,
     ) (simp pushes-append)
 
 pub gather-spec : {M : Type 1} → statement M
-gather-spec =
-    tie.close
-    (tie.spec (λ c κs. search needs) (λ c κs. search needs) (λ c κs. search needs) (λ c κs. search needs)
-    (λ c κs. search needs) (λ c κs. search needs) returns)
+gather-spec = tie.close (tie.spec (λ c κs. search needs) (λ c κs. search needs) (λ c κs. search needs)
+    (λ c κs. search needs) (λ c κs. search needs) (λ c κs. search needs) returns)

@@ -3,13 +3,9 @@ use borrow.Author.Needs.{needs}
 use Rattle.sheet_cases.proofs.put_system.Statement.{statement}
 use Rattle.sheet_cases.proofs.put_system.Tie as tie
 
-returns : tie.Need-returns
-returns c =
-    let put-planned = c .before .before in let system-freq = put-planned .before .before in
-    let number-at = system-freq .before in
-    rw (system-freq .system-freq .ensures, number-at .number-at .ensures) at (put-planned .put-planned .ensures)
-
 pub put-system-spec : {M : Type 1} → statement M
-put-system-spec =
-    tie.close
-    (tie.spec (λ c κs. search needs) (λ c κs. search needs) (λ c κs. search needs) (λ c. search needs) returns)
+put-system-spec = tie.close (tie.spec (λ c κs. search needs) (λ c κs. search needs) (λ c κs. search needs)
+    (λ c. search needs)
+    (λ c. let put-planned = c .before .before in let system-freq = put-planned .before .before in
+    rw (system-freq .system-freq .ensures, system-freq .before .number-at .ensures) at
+    (put-planned .put-planned .ensures)))

@@ -5,16 +5,9 @@ use Rattle.sleep.specs.Sleep.{sleepOf}
 use Rattle.sleep.proofs.sleep.Statement.{statement}
 use Rattle.sleep.proofs.sleep.Tie as tie
 
-returns : tie.Need-returns
-unfolding sleepOf
-returns c = rw (lt-ltb _ _ (c .before .if1 .taken)) (c .refused .ensures)
-
-returns-2 : tie.Need-returns-2
-unfolding sleepOf
-returns-2 c = rw (le-ltb _ _ (c .before .before .if1 .left), c .to-sleep .ensures, c .before .asleep .ensures)
-
 pub sleep-spec : {M : Type 1} → statement M
-sleep-spec =
-    tie.close
-    (tie.spec (λ c κs. search needs) returns (λ c. search needs) (λ c. search needs) (λ c κs. search needs)
-    (λ c κs. search needs) returns-2)
+unfolding sleepOf
+sleep-spec = tie.close (tie.spec (λ c κs. search needs)
+    (λ c. rw (lt-ltb _ _ (c .before .if1 .taken)) (c .refused .ensures)) (λ c. search needs) (λ c. search needs)
+    (λ c κs. search needs) (λ c κs. search needs)
+    (λ c. rw (le-ltb _ _ (c .before .before .if1 .left), c .to-sleep .ensures, c .before .asleep .ensures)))

@@ -12,22 +12,13 @@ returns c =
     let put-steps = put-bytes2 .before .before .before .before .before in
     let put-bytes = put-steps .before .before .before .before in
     let put-words = put-bytes .before .before .before .before .before in
-    let enum-told = put-words .before .before in
-    rw (enum-told .enum-told .given .1)
-    (placed-append (put-words .put-words .ensures)
-    (placed-append (put-bytes .put-bytes .ensures)
-    (placed-append (put-steps .put-steps .ensures)
-    (placed-append (put-bytes2 .put-bytes2 .ensures) (put-slots .put-slots .ensures)))))
-
-returns-2 : tie.Need-returns-2
-unfolding outcomeText
-returns-2 c =
-    let put-refused = c .before .before in let answer = put-refused .before .before .before in
-    rw (answer .answer .given .1) (put-refused .put-refused .ensures)
+    rw (put-words .before .before .enum-told .given .1) (placed-append (put-words .put-words .ensures) (placed-append
+    (put-bytes .put-bytes .ensures) (placed-append (put-steps .put-steps .ensures) (placed-append
+    (put-bytes2 .put-bytes2 .ensures) (put-slots .put-slots .ensures)))))
 
 pub put-change-spec : {M : Type 1} → statement M
-put-change-spec =
-    tie.close
-    (tie.spec (λ c. search needs) (λ c κs. search needs) (λ c. search needs) (λ c κs. search needs)
-    (λ c κs. search needs) (λ c. search needs) (λ c κs. search needs) (λ c κs. search needs) (λ c. search needs)
-    (λ c κs. search needs) (λ c. search needs) returns (λ c. search needs) returns-2)
+unfolding outcomeText
+put-change-spec = tie.close (tie.spec (λ c. search needs) (λ c κs. search needs) (λ c. search needs)
+    (λ c κs. search needs) (λ c κs. search needs) (λ c. search needs) (λ c κs. search needs) (λ c κs. search needs)
+    (λ c. search needs) (λ c κs. search needs) (λ c. search needs) returns (λ c. search needs)
+    (λ c. rw (c .before .before .before .before .before .answer .given .1) (c .before .before .put-refused .ensures)))

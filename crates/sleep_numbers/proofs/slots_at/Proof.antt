@@ -3,18 +3,8 @@ use borrow.Author.Needs.{needs}
 use Rattle.sleep_numbers.proofs.slots_at.Statement.{statement}
 use Rattle.sleep_numbers.proofs.slots_at.Tie as tie
 
-returns : tie.Need-returns
-returns c =
-    let slot-at3 = c .before in let slot-at2 = slot-at3 .before in let slot-at = slot-at2 .before in
-    rw (
-      c .slot-at4 .ensures,
-      slot-at3 .slot-at3 .ensures,
-      slot-at2 .slot-at2 .ensures,
-      slot-at .slot-at .ensures,
-    )
-
 pub slots-at-spec : {M : Type 1} → statement M
-slots-at-spec =
-    tie.close
-    (tie.spec (λ c κs. search needs) (λ c. search needs) (λ c κs. search needs) (λ c. search needs)
-    (λ c κs. search needs) (λ c. search needs) (λ c κs. search needs) returns)
+slots-at-spec = tie.close (tie.spec (λ c κs. search needs) (λ c. search needs) (λ c κs. search needs)
+    (λ c. search needs) (λ c κs. search needs) (λ c. search needs) (λ c κs. search needs)
+    (λ c. let slot-at3 = c .before in let slot-at2 = slot-at3 .before in let slot-at = slot-at2 .before in
+    rw (c .slot-at4 .ensures, slot-at3 .slot-at3 .ensures, slot-at2 .slot-at2 .ensures, slot-at .slot-at .ensures)))

@@ -5,11 +5,6 @@ use borrow.Author.Needs.{needs}
 use Rattle.speed_book.proofs.entry_at.Statement.{statement}
 use Rattle.speed_book.proofs.entry_at.Tie as tie
 
-returns : tie.Need-returns
-returns c = rw (le-ltb _ 1988 (c .if1 .taken))
-
-returns-2 : tie.Need-returns-2
-returns-2 c = rw (lt-ltb _ 1988 (c .before .if1 .left))
-
 pub entry-at-spec : {M : Type 1} → statement M
-entry-at-spec = tie.close (tie.spec (λ c. search needs) (λ c. search needs) returns returns-2)
+entry-at-spec = tie.close (tie.spec (λ c. search needs) (λ c. search needs) (λ c. rw (le-ltb _ 1988 (c .if1 .taken)))
+    (λ c. rw (lt-ltb _ 1988 (c .before .if1 .left))))

@@ -6,14 +6,8 @@ use Rattle.speed_book.specs.Book.{lineIn}
 use Rattle.speed_book.proofs.entry_in.Statement.{statement}
 use Rattle.speed_book.proofs.entry_in.Tie as tie
 
-returns : tie.Need-returns
-unfolding lineIn
-returns c = rw (c .setting-in .ensures, lt-ltb _ 1988 (c .before .before .if1 .taken))
-
-returns-2 : tie.Need-returns-2
-unfolding lineIn
-returns-2 c = rw (le-ltb _ 1988 (c .if1 .left))
-
 pub entry-in-spec : {M : Type 1} → statement M
-entry-in-spec =
-    tie.close (tie.spec (λ c. search needs) (λ c. search needs) (λ c κs. search needs) returns returns-2)
+unfolding lineIn
+entry-in-spec = tie.close (tie.spec (λ c. search needs) (λ c. search needs) (λ c κs. search needs)
+    (λ c. rw (c .setting-in .ensures, lt-ltb _ 1988 (c .before .before .if1 .taken)))
+    (λ c. rw (le-ltb _ 1988 (c .if1 .left))))

@@ -5,8 +5,6 @@ use Rattle.speed_book.proofs.Lookups.{lookup-searches}
 use Rattle.speed_book.proofs.lookup.Statement.{statement}
 use Rattle.speed_book.proofs.lookup.Tie as tie
 
-returns : tie.Need-returns
-returns c = rw (c .lookup-in .ensures, c .before .before .open .ensures) (lookup-searches _ (search needs))
-
 pub lookup-spec : {M : Type 1} → statement M
-lookup-spec = tie.close (tie.spec (λ c κs. search needs) (λ c κs. search needs) returns)
+lookup-spec = tie.close (tie.spec (λ c κs. search needs) (λ c κs. search needs)
+    (λ c. rw (c .lookup-in .ensures, c .before .before .open .ensures) (lookup-searches _ (search needs))))

@@ -8,13 +8,8 @@ use Rattle.speed_book.proofs.lookup_in.Tie as tie
 returns : tie.Need-returns
 unfolding lookupIn
 returns c =
-    let near = c .before in
-    let upper = near .before in
-    let lower = upper .before in
-    let below = lower .before in
-    let before = below .before in
-    let less = before .before in
-    let above = less .before in
+    let near = c .before in let upper = near .before in let lower = upper .before in let below = lower .before in
+    let before = below .before in let less = before .before in
     rw (
       c .setting-in .ensures,
       near .nearer .ensures,
@@ -23,12 +18,10 @@ returns c =
       below .first-from2 .ensures,
       before .entry-at .ensures,
       less .less .ensures,
-      above .first-from .ensures,
+      less .before .first-from .ensures,
     )
 
 pub lookup-in-spec : {M : Type 1} → statement M
-lookup-in-spec =
-    tie.close
-    (tie.spec (λ c. search needs) (λ c κs. search needs) (λ c κs. search needs) (λ c κs. search needs)
-    (λ c. search needs) (λ c κs. search needs) (λ c κs. search needs) (λ c κs. search needs) (λ c κs. search needs)
-    (λ c κs. search needs) returns)
+lookup-in-spec = tie.close (tie.spec (λ c. search needs) (λ c κs. search needs) (λ c κs. search needs)
+    (λ c κs. search needs) (λ c. search needs) (λ c κs. search needs) (λ c κs. search needs) (λ c κs. search needs)
+    (λ c κs. search needs) (λ c κs. search needs) returns)

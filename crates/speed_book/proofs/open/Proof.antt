@@ -12,9 +12,6 @@ from-merged : map packed merged ≡ table
 unfolding table
 from-merged = ap (map packed) (sym book-merged)
 
-returns : tie.Need-returns
-unfolding packed merged mergeEach merge under byOutput insert hertz keep flatMap falling
-returns c = from-merged
-
 pub open-spec : {M : Type 1} → statement M
-open-spec = tie.close (tie.spec returns)
+unfolding byOutput falling flatMap hertz insert keep merge mergeEach merged packed under
+open-spec = tie.close (tie.spec (λ c. from-merged))

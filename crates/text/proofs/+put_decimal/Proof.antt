@@ -47,8 +47,8 @@ returns-2 : (t : ℕ) → lts.Need-returns-2 (claims t) (here t) reads.Post
 returns-2 t c =
     let put = c .before .before in let own = put .before .before .before .before .before in
     let more : 10 ≤ own .before .before .before .before .args .n = omega arith in
-    rw (decimal-more _ more, ← put .before .last-digit2 .ensures)
-    (placed-append (own .put-decimal .ensures) (put .put-byte2 .ensures))
+    rw (decimal-more _ more, ← put .before .last-digit2 .ensures) (placed-append (own .put-decimal .ensures)
+    (put .put-byte2 .ensures))
 
 pub +put-decimal-spec : {M : Type 1} → statement M
 +put-decimal-spec = close μ λ t.

@@ -17,18 +17,6 @@ Inv-loop s i₀ i = (i ≤ length s) × (arePairs (drop i s) ≡ arePairs s)
 abbrev μ-loop : tie.MeasureT-loop
 μ-loop s i₀ i = length s - i
 
-returns : tie.Need-returns Inv-loop μ-loop
-returns c =
-    let at-loop = c .before .before in let s = at-loop .before .before .args .s .now in
-    sym (sym (at-loop .loop .inv .1) ∙ pair-last s (at-loop .loop .i) (omega arith) (omega arith))
-
-returns-2 : tie.Need-returns-2 Inv-loop μ-loop
-returns-2 c =
-    let at-loop = c .before .before .before .before .before .before in
-    let s = at-loop .before .before .args .s .now in
-    let no = sym (c .before .is-pair .ensures) ∙ not-true _ (c .if2 .taken) in
-    sym (sym (at-loop .loop .inv .1) ∙ ap arePairs (pair-step s (at-loop .loop .i) (omega arith)) ∙ rw no)
-
 loop-again : tie.Need-loop-again Inv-loop μ-loop
 loop-again c =
     let at-loop = c .before .before .before .before .before .before in
@@ -37,14 +25,14 @@ loop-again c =
     let step = ap arePairs (pair-step s (at-loop .loop .i) (omega arith)) in
     (omega arith, rw yes at (sym step) ∙ at-loop .loop .inv .1)
 
-returns-3 : tie.Need-returns-3 Inv-loop μ-loop
-returns-3 c =
-    let loop = c .before in let start = loop .before .before in
-    rw (drop-of-length-le (start .args .s .now) (c .loop-test .left)) at (loop .loop .inv .1)
-
 pub are-pairs-spec : {M : Type 1} → statement M
-are-pairs-spec =
-    tie.close
-    (tie.spec Inv-loop μ-loop (λ c. (omega arith, refl)) (λ c. search needs) returns (λ c. search needs)
-    (λ c. search needs) (λ c κs. search needs) returns-2 (λ c. search needs) (λ c. search needs)
-    loop-again returns-3)
+are-pairs-spec = tie.close (tie.spec Inv-loop μ-loop (λ c. (omega arith, refl)) (λ c. search needs)
+    (λ c. let at-loop = c .before .before in let s = at-loop .before .before .args .s .now in sym (sym
+    (at-loop .loop .inv .1) ∙ pair-last s (at-loop .loop .i) (omega arith) (omega arith))) (λ c. search needs)
+    (λ c. search needs) (λ c κs. search needs)
+    (λ c. let at-loop = c .before .before .before .before .before .before in
+    let s = at-loop .before .before .args .s .now in let no = sym (c .before .is-pair .ensures) ∙ not-true _
+    (c .if2 .taken) in sym (sym (at-loop .loop .inv .1) ∙ ap arePairs (pair-step s (at-loop .loop .i)
+    (omega arith)) ∙ rw no)) (λ c. search needs) (λ c. search needs) loop-again
+    (λ c. let loop = c .before in rw (drop-of-length-le (loop .before .before .args .s .now)
+    (c .loop-test .left)) at (loop .loop .inv .1)))

@@ -7,17 +7,6 @@ use Rattle.text.proofs.Hexes.{no-word, no-room, word-read}
 use Rattle.text.proofs.hex_bytes.Statement.{statement}
 use Rattle.text.proofs.hex_bytes.Tie as tie
 
-returns : tie.Need-returns
-returns c =
-    let is-hex-word = c .before in let start = is-hex-word .before .before .before in let args = start .args in
-    no-word (args .s .now) (args .buf .now) (sym (is-hex-word .is-hex-word .ensures) ∙ not-true _ (c .if1 .taken))
-
-returns-2 : tie.Need-returns-2
-returns-2 c =
-    let test = c .before .before in let args = test .before .before .before .args in
-    let word = sym (test .is-hex-word .ensures) ∙ not-false _ (c .before .if1 .left) in
-    no-room (args .s .now) (args .buf .now) word (omega arith)
-
 returns-3 : tie.Need-returns-3
 returns-3 c =
     let put = c .before .before in let if1 = put .before .before .before in let test = if1 .before in
@@ -26,6 +15,9 @@ returns-3 c =
     word-read (args .s .now) (args .buf .now) word (omega arith) _ _ (put .put-pairs .ensures)
 
 pub hex-bytes-spec : {M : Type 1} → statement M
-hex-bytes-spec =
-    tie.close
-    (tie.spec (λ c κs. search needs) returns returns-2 (λ c κs. search needs) (λ c. search needs) returns-3)
+hex-bytes-spec = tie.close (tie.spec (λ c κs. search needs)
+    (λ c. let is-hex-word = c .before in let args = is-hex-word .before .before .before .args in
+    no-word (args .s .now) (args .buf .now) (sym (is-hex-word .is-hex-word .ensures) ∙ not-true _ (c .if1 .taken)))
+    (λ c. let test = c .before .before in let args = test .before .before .before .args in
+    let word = sym (test .is-hex-word .ensures) ∙ not-false _ (c .before .if1 .left) in
+    no-room (args .s .now) (args .buf .now) word (omega arith)) (λ c κs. search needs) (λ c. search needs) returns-3)

@@ -16,33 +16,23 @@ Inv-loop s at b i₀ i = (at ≤ i) × (i ≤ max at (length s)) × (indexFrom s
 abbrev μ-loop : tie.MeasureT-loop
 μ-loop s at b i₀ i = length s - i
 
-loop-holds : tie.Need-loop-holds Inv-loop μ-loop
-loop-holds c = (omega arith, omega arith, refl)
-
-returns : tie.Need-returns Inv-loop μ-loop
-returns c =
-    let at-loop = c .before .before .before in let args = at-loop .before .args in (
-      sym (index-hit (args .s .now) (args .b) (at-loop .loop .i) (omega arith) (c .if1 .taken)) ∙ at-loop .loop .inv .2,
-      (omega arith, omega arith),
-    )
-
-loop-again : tie.Need-loop-again Inv-loop μ-loop
-loop-again c =
-    let at-loop = c .before .before .before in let args = at-loop .before .args in (
+pub index-from-spec : {M : Type 1} → statement M
+index-from-spec = tie.close (tie.spec Inv-loop μ-loop (λ c. (omega arith, omega arith, refl)) (λ c. search needs)
+    (λ c. let at-loop = c .before .before .before in let args = at-loop .before .args in (
+      sym (index-hit
+          (args .s .now) (args .b) (at-loop .loop .i) (omega arith) (c .if1 .taken)) ∙ at-loop .loop .inv .2,
+      (
+        omega arith,
+        omega arith,
+      ),
+    )) (λ c. search needs) (λ c. search needs)
+    (λ c. let at-loop = c .before .before .before in let args = at-loop .before .args in (
       omega arith,
       omega arith,
       index-miss (args .s .now) (args .b) (at-loop .loop .i) (omega arith) (c .if1 .left) ∙ at-loop .loop .inv .2,
-    )
-
-returns-2 : tie.Need-returns-2 Inv-loop μ-loop
-returns-2 c =
-    let at-loop = c .before in let args = at-loop .before .args in (
-      sym (index-end (args .s .now) (args .b) (at-loop .loop .i) (omega arith)) ∙ at-loop .loop .inv .2,
+    ))
+    (λ c. let at-loop = c .before in let args = at-loop .before .args in (
+      sym (index-end (args .s .now) (args .b)
+          (at-loop .loop .i) (omega arith)) ∙ at-loop .loop .inv .2,
       (omega arith, omega arith),
-    )
-
-pub index-from-spec : {M : Type 1} → statement M
-index-from-spec =
-    tie.close
-    (tie.spec Inv-loop μ-loop loop-holds (λ c. search needs) returns (λ c. search needs) (λ c. search needs)
-    loop-again returns-2)
+    )))

@@ -21,22 +21,6 @@ Inv-loop s n₀ i₀ n i =
 abbrev μ-loop : tie.MeasureT-loop
 μ-loop s n₀ i₀ n i = length s - i
 
-returns : tie.Need-returns Inv-loop μ-loop
-returns c =
-    let at-in-range = c .before in let start = at-in-range .before .before in let s = start .args .s .now in
-    sym (bad-length s (sym (at-in-range .in-range .ensures) ∙ not-true _ (c .if1 .taken)))
-
-loop-holds : tie.Need-loop-holds Inv-loop μ-loop
-unfolding valueOf
-loop-holds c = (omega arith, omega arith, refl, refl)
-
-returns-2 : tie.Need-returns-2 Inv-loop μ-loop
-returns-2 c =
-    let at-loop = c .before .before .before .before in
-    let s = at-loop .before .before .before .before .args .s .now in
-    let no = sym (c .before .between .ensures) ∙ not-true _ (c .if2 .taken) in
-    sym (bad-digits s (sym (at-loop .loop .inv .3) ∙ digits-step s (at-loop .loop .i) (omega arith) ∙ rw no))
-
 -- the number with one digit more
 next : (n : ℕ) {d e : ℕ} → d ≡ e → n * 10 + d ≡ n * 10 + e
 next n e = ap (λ (d : ℕ). n * 10 + d) e
@@ -71,8 +55,14 @@ returns-4 c =
     ap value v ∙ sym (good-number s (short .0) (short .1) (sym (rw none at (at-loop .loop .inv .3))) (omega arith))
 
 pub number-spec : {M : Type 1} → statement M
-number-spec =
-    tie.close
-    (tie.spec Inv-loop μ-loop (λ c κs. search needs) returns loop-holds (λ c. search needs) (λ c κs. search needs)
-    returns-2 (λ c. search needs) (λ c κs. search needs) (λ c. search needs) returns-3
-    (λ c. search needs) (λ c. search needs) loop-again (λ c. search needs) returns-4)
+unfolding valueOf
+number-spec = tie.close (tie.spec Inv-loop μ-loop (λ c κs. search needs)
+    (λ c. let at-in-range = c .before in let s = at-in-range .before .before .args .s .now in
+    sym (bad-length s (sym (at-in-range .in-range .ensures) ∙ not-true _ (c .if1 .taken))))
+    (λ c. (omega arith, omega arith, refl, refl)) (λ c. search needs) (λ c κs. search needs)
+    (λ c. let at-loop = c .before .before .before .before in
+    let s = at-loop .before .before .before .before .args .s .now in
+    let no = sym (c .before .between .ensures) ∙ not-true _ (c .if2 .taken) in
+    sym (bad-digits s (sym (at-loop .loop .inv .3) ∙ digits-step s (at-loop .loop .i) (omega arith) ∙ rw no)))
+    (λ c. search needs) (λ c κs. search needs) (λ c. search needs) returns-3 (λ c. search needs) (λ c. search needs)
+    loop-again (λ c. search needs) returns-4)

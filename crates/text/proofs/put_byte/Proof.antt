@@ -1,15 +1,9 @@
 -- `text::put_byte` meets its contract. Assumes nothing.
-use mathlib.Core.Path.{sym}
-use native.Mathlib.Omega.{arith}
 use borrow.Author.Needs.{needs}
-use lib.Seq.{set-out}
+use Rattle.base.proofs.Placing.{placed-none}
 use Rattle.text.proofs.put_byte.Statement.{statement}
 use Rattle.text.proofs.put_byte.Tie as tie
 
-returns-2 : tie.Need-returns-2
-returns-2 c = record { index = omega arith; bytes = sym (set-out _ _ _ (c .if1 .left)) }
-
 pub put-byte-spec : {M : Type 1} → statement M
-put-byte-spec =
-    tie.close
-    (tie.spec (λ c. search needs) (λ c. search needs) (λ c. search needs) (λ c. search needs) returns-2)
+put-byte-spec = tie.close (tie.spec (λ c. search needs) (λ c. search needs) (λ c. search needs) (λ c. search needs)
+    (λ c. placed-none (c .if1 .left)))

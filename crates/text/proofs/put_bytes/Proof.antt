@@ -1,49 +1,19 @@
--- `text::put_bytes` meets its contract. Invariant: the first i bytes of s are placed. Measure: what is left of s.
--- Assumes nothing.
-use mathlib.Core.Path.{_≡_, refl, _∙_}
-use mathlib.Core.List.{[], _∷_, _++_}
-use Prim.Native.Nat.{_+_, _-_, _≤_, _<_}
-use native.Mathlib.Numerals.{add-one}
+-- `text::put_bytes` meets its contract. Measure: the bytes left. Assumes nothing.
+use mathlib.Core.Path.{refl}
+use Prim.Native.Nat.{_-_}
 use native.Mathlib.Omega.{arith}
 use borrow.Author.Needs.{needs}
-use lib.ListN.{length, take, getD}
-use lib.Seq.{take-suc, take-all}
-use Rattle.base.specs.Placed.{Placed}
-use Rattle.base.proofs.Placing.{placed-append}
+use lib.ListN.{length, take}
+use Rattle.base.proofs.Parts.{Parts, parts-none, parts-next, parts-length, parts-of, next-taken}
 use Rattle.text.proofs.put_bytes.Statement.{statement}
 use Rattle.text.proofs.put_bytes.Tie as tie
 
-abbrev Inv-loop : tie.InvT-loop
-Inv-loop buf₀ at s end₀ i₀ buf end i =
-    (i ≤ length s) × (length buf ≡ length buf₀) × Placed buf₀ at (take i s) end buf
-
-abbrev μ-loop : tie.MeasureT-loop
-μ-loop buf₀ at s end₀ i₀ buf end i = length s - i
-
-loop-holds : tie.Need-loop-holds Inv-loop μ-loop
-loop-holds c = (omega arith, refl, record { index = omega arith; bytes = refl })
-
-loop-again : tie.Need-loop-again Inv-loop μ-loop
-loop-again c =
-    let put = c .before .before in let at-loop = put .before .before .before .before in
-    let s = at-loop .before .before .before .before .args .s .now in let i = at-loop .loop .i in
-    let inside : i < length s = omega arith in
-    let one : take (i + 1) s ≡ take i s ++ (getD s i 0 ∷ []) = rw add-one (take-suc s i 0 inside) in (
-      omega arith,
-      put .put-byte .kept .0 ∙ at-loop .loop .inv .1,
-      rw one (placed-append (at-loop .loop .inv .2) (put .put-byte .ensures)),
-    )
-
-same-length : tie.Need-same-length Inv-loop μ-loop
-same-length c = c .before .loop .inv .1
-
-returns : tie.Need-returns Inv-loop μ-loop
-returns c =
-    let loop = c .before in let start = loop .before .before .before .before in let s = start .args .s .now in
-    rw (take-all (loop .loop .i) s (c .loop-test .left)) at (loop .loop .inv .2)
-
 pub put-bytes-spec : {M : Type 1} → statement M
-put-bytes-spec =
-    tie.close
-    (tie.spec Inv-loop μ-loop (λ c κs. search needs) loop-holds (λ c. search needs) (λ c κs. search needs)
-    (λ c. search needs) (λ c. search needs) loop-again same-length returns)
+put-bytes-spec = tie.close (tie.spec
+    (λ buf₀ at s end₀ i₀ buf end i. Parts (λ k. take k s) (length s) buf₀ at i end buf)
+    (λ buf₀ at s end₀ i₀ buf end i. length s - i) (λ c κs. search needs) (λ c. parts-none refl (search needs))
+    (λ c. search needs) (λ c κs. search needs) (λ c. search needs) (λ c. search needs)
+    (λ c. let put = c .before .before in
+    parts-next (put .before .before .before .before .loop .inv) (put .put-byte .ensures) (omega arith)
+    (next-taken _ _)) (λ c. parts-length (c .before .loop .inv))
+    (λ c. parts-of (λ s. s) _ (c .before .loop .inv) (c .loop-test .left)))

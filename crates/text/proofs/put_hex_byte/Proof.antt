@@ -14,7 +14,5 @@ returns c =
     rw e at (placed-append (first .put-byte .ensures) (second .put-byte2 .ensures))
 
 pub put-hex-byte-spec : {M : Type 1} → statement M
-put-hex-byte-spec =
-    tie.close
-    (tie.spec (λ c κs. search needs) (λ c κs. search needs) (λ c κs. search needs) (λ c κs. search needs)
-    (λ c. search needs) returns)
+put-hex-byte-spec = tie.close (tie.spec (λ c κs. search needs) (λ c κs. search needs) (λ c κs. search needs)
+    (λ c κs. search needs) (λ c. search needs) returns)

@@ -15,23 +15,19 @@ use Rattle.text.proofs.put_pairs.Tie as tie
 
 abbrev Inv-loop : tie.InvT-loop
 Inv-loop buf₀ s end₀ i₀ buf end i =
-    (i ≤ length s) × (length buf ≡ length buf₀) × (end ≤ length buf)
-    × ((n : ℕ) (ys : List ℕ) → Placed buf end (pairValues (drop i s)) n ys → Placed buf₀ 0 (pairValues s) n ys)
+    (i ≤ length s) × (length buf ≡ length buf₀) × (end ≤ length buf) × ((n : ℕ) (ys : List ℕ) → Placed buf end
+    (pairValues (drop i s)) n ys → Placed buf₀ 0 (pairValues s) n ys)
 
 abbrev μ-loop : tie.MeasureT-loop
 μ-loop buf₀ s end₀ i₀ buf end i = length s - i
-
-loop-holds : tie.Need-loop-holds Inv-loop μ-loop
-loop-holds c = (omega arith, refl, omega arith, λ n ys p. p)
 
 loop-again : tie.Need-loop-again Inv-loop μ-loop
 loop-again c =
     let put = c .before .before in let low = put .before in let high = low .before .before in
     let at-loop = high .before .before .before .before in let s = at-loop .before .before .before .args .s .now in
     let i = at-loop .loop .i in let step = ap pairValues (pair-step s i (omega arith)) in
-    let value : high .hex-value .result * 16 + low .hex-value2 .result
-    ≡ hexValue (getD s i 0) * 16 + hexValue (getD s (i + 1) 0) =
-    rw (high .hex-value .ensures .0, low .hex-value2 .ensures .0) in
+    let value : high .hex-value .result * 16 + low .hex-value2 .result ≡ hexValue (getD s i 0) * 16 + hexValue
+    (getD s (i + 1) 0) = rw (high .hex-value .ensures .0, low .hex-value2 .ensures .0) in
     let end = put .put-byte .ensures .index in (
       omega arith,
       put .put-byte .kept .0 ∙ at-loop .loop .inv .1,
@@ -39,19 +35,14 @@ loop-again c =
       λ n ys p. at-loop .loop .inv .3 n ys (rw (step, ← value) (placed-append (put .put-byte .ensures) p)),
     )
 
-same-length : tie.Need-same-length Inv-loop μ-loop
-same-length c = c .before .loop .inv .1
-
 returns : tie.Need-returns Inv-loop μ-loop
 returns c =
-    let loop = c .before in let start = loop .before .before .before in
-    let at-loop = loop .loop in let s = start .args .s .now in
+    let loop = c .before in let at-loop = loop .loop in let s = loop .before .before .before .args .s .now in
     let none = pairs-end (drop (at-loop .i) s) (simp length-drop (omega arith)) in
     at-loop .inv .3 (at-loop .end) (at-loop .buf) (rw none (record { index = omega arith; bytes = refl }))
 
 pub put-pairs-spec : {M : Type 1} → statement M
-put-pairs-spec =
-    tie.close
-    (tie.spec Inv-loop μ-loop loop-holds (λ c. search needs) (λ c. search needs) (λ c. search needs)
-    (λ c κs. search needs) (λ c. search needs) (λ c. search needs) (λ c κs. search needs) (λ c. search needs)
-    (λ c κs. search needs) (λ c. search needs) (λ c. search needs) loop-again same-length returns)
+put-pairs-spec = tie.close (tie.spec Inv-loop μ-loop (λ c. (omega arith, refl, omega arith, λ n ys p. p))
+    (λ c. search needs) (λ c. search needs) (λ c. search needs) (λ c κs. search needs) (λ c. search needs)
+    (λ c. search needs) (λ c κs. search needs) (λ c. search needs) (λ c κs. search needs) (λ c. search needs)
+    (λ c. search needs) loop-again (λ c. c .before .loop .inv .1) returns)

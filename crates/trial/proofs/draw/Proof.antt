@@ -5,9 +5,6 @@ use Rattle.trial.specs.Draws.{drawOf}
 use Rattle.trial.proofs.draw.Statement.{statement}
 use Rattle.trial.proofs.draw.Tie as tie
 
-returns : tie.Need-returns
-unfolding drawOf
-returns c = omega arith
-
 pub draw-spec : {M : Type 1} → statement M
-draw-spec = tie.close (tie.spec (λ c κs. search needs) (λ c κs. search needs) returns)
+unfolding drawOf
+draw-spec = tie.close (tie.spec (λ c κs. search needs) (λ c κs. search needs) (λ c. omega arith))

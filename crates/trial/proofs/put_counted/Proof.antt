@@ -7,27 +7,13 @@ use Rattle.trial.specs.Load.{mostCount}
 use Rattle.trial.proofs.put_counted.Statement.{statement}
 use Rattle.trial.proofs.put_counted.Tie as tie
 
-returns : tie.Need-returns
-returns c =
-    let put = c .before .before in
-    let told = put .before .before .before .before .count .given in
-    let over : mostCount < told .0 .0 = omega arith in
-    rw (told .1, lt-ltb _ _ over) (put .put-refused .ensures)
-
-returns-2 : tie.Need-returns-2
-returns-2 c =
-    let put = c .before .before in
-    let told = put .before .before .before .before .count .given in
-    let few : told .0 .0 ≤ mostCount = omega arith in
-    rw (told .1, le-ltb _ _ few) (put .put-trials .ensures)
-
-returns-3 : tie.Need-returns-3
-returns-3 c =
-    let put = c .before .before in
-    rw (put .before .before .before .count2 .given .1) (put .put-refused2 .ensures)
-
 pub put-counted-spec : {M : Type 1} → statement M
-put-counted-spec =
-    tie.close
-    (tie.spec (λ c. search needs) (λ c κs. search needs) (λ c. search needs) returns (λ c κs. search needs) (λ c. search needs)
-    (λ c κs. search needs) (λ c. search needs) returns-2 (λ c. search needs) returns-3)
+put-counted-spec = tie.close (tie.spec (λ c. search needs) (λ c κs. search needs) (λ c. search needs)
+    (λ c. let put = c .before .before in let told = put .before .before .before .before .count .given in
+    let over : mostCount < told .0 .0 = omega arith in rw (told .1, lt-ltb _ _ over) (put .put-refused-line .ensures))
+    (λ c κs. search needs) (λ c. search needs) (λ c κs. search needs) (λ c. search needs)
+    (λ c. let put = c .before .before in let told = put .before .before .before .before .count .given in
+    let few : told .0 .0 ≤ mostCount = omega arith in rw (told .1, le-ltb _ _ few) (put .put-trials .ensures))
+    (λ c. search needs)
+    (λ c. let put = c .before .before in
+    rw (put .before .before .before .count2 .given .1) (put .put-refused-line2 .ensures)))

@@ -14,28 +14,18 @@ use Rattle.trial.proofs.put_load.Tie as tie
 returns : tie.Need-returns
 unfolding loadOf
 returns c =
-    let put = c .before .before in
-    let count = put .before in
-    let told = count .before .before .before in
-    let seed = told .before .before in
-    let space = seed .before in
+    let put = c .before .before in let count = put .before in let told = count .before .before .before in
+    let seed = told .before .before in let space = seed .before in
     let s = space .before .before .before .args .input .now in
     let place : space .index-from .result ≡ length (upTo 32 s) = space .index-from .ensures .0 ∙ space-at s in
-    let counted : numberIs (count .number-up-to2 .result) ≡ numberOf (upTo 10 (drop (length (upTo 32 s) + 1) s))
-    = rw place at (count .number-up-to2 .ensures) in
+    let counted : numberIs (count .number-up-to2 .result) ≡ numberOf
+    (upTo 10 (drop (length (upTo 32 s) + 1) s)) = rw place at (count .number-up-to2 .ensures) in
     rw (← seed .number-up-to .ensures, told .seed .given .1, ← counted) (put .put-counted .ensures)
 
-returns-2 : tie.Need-returns-2
-unfolding loadOf
-returns-2 c =
-    let put = c .before .before in
-    let told = put .before .before .before in
-    let seed = told .before .before in
-    rw (← seed .number-up-to .ensures, told .no-seed .given .1) (put .put-refused .ensures)
-
 pub put-load-spec : {M : Type 1} → statement M
-put-load-spec =
-    tie.close
-    (tie.spec (λ c κs. search needs) (λ c κs. search needs) (λ c. search needs) (λ c. search needs) (λ c κs. search needs)
-    (λ c κs. search needs) (λ c. search needs) (λ c κs. search needs) (λ c. search needs) returns (λ c. search needs)
-    returns-2)
+unfolding loadOf
+put-load-spec = tie.close (tie.spec (λ c κs. search needs) (λ c κs. search needs) (λ c. search needs)
+    (λ c. search needs) (λ c κs. search needs) (λ c κs. search needs) (λ c. search needs) (λ c κs. search needs)
+    (λ c. search needs) returns (λ c. search needs)
+    (λ c. let put = c .before .before in let told = put .before .before .before in
+    rw (← told .before .before .number-up-to .ensures, told .no-seed .given .1) (put .put-refused-line .ensures)))

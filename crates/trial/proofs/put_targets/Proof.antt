@@ -26,9 +26,7 @@ loop-holds c = (search needs, refl, refl, record { index = omega arith; bytes = 
 
 loop-again : tie.Need-loop-again Inv-loop μ-loop
 loop-again c =
-    let put = c .before .before in
-    let next = put .before .before in
-    let at = next .before .before in
+    let put = c .before .before in let next = put .before .before in let at = next .before .before in
     let seed = at .before .before .args .seed in
     let drew = draw-next seed (at .loop .i) (at .loop .inv .2) (next .draw .ensures) in (
       omega arith,
@@ -37,17 +35,8 @@ loop-again c =
       rw (← lines-next seed (at .loop .i) drew) (placed-append (at .loop .inv .3) (put .put-target .ensures)),
     )
 
-same-length : tie.Need-same-length Inv-loop μ-loop
-same-length c = c .before .loop .inv .1
-
-returns : tie.Need-returns Inv-loop μ-loop
-returns c =
-    let at = c .before in
-    let all : at .loop .i ≡ at .before .before .args .count = omega arith in
-    rw all at (at .loop .inv .3)
-
 pub put-targets-spec : {M : Type 1} → statement M
-put-targets-spec =
-    tie.close
-    (tie.spec Inv-loop μ-loop loop-holds (λ c κs. search needs) (λ c κs. search needs) (λ c. search needs)
-    (λ c. search needs) loop-again same-length returns)
+put-targets-spec = tie.close (tie.spec Inv-loop μ-loop loop-holds (λ c κs. search needs) (λ c κs. search needs)
+    (λ c. search needs) (λ c. search needs) loop-again (λ c. c .before .loop .inv .1)
+    (λ c. let at = c .before in let all : at .loop .i ≡ at .before .before .args .count = omega arith in
+    rw all at (at .loop .inv .3)))

@@ -5,14 +5,10 @@ use Rattle.trial.specs.Load.{trials}
 use Rattle.trial.proofs.put_trials.Statement.{statement}
 use Rattle.trial.proofs.put_trials.Tie as tie
 
-returns : tie.Need-returns
-unfolding trials
-returns c =
-    let put = c .before .before in
-    let ran = put .before in
-    let targets = ran .before .before .before .before in
-    rw (← ran .trial-runner .ensures) (placed-append (targets .put-targets .ensures) (put .put-runner .ensures))
-
 pub put-trials-spec : {M : Type 1} → statement M
-put-trials-spec =
-    tie.close (tie.spec (λ c κs. search needs) (λ c κs. search needs) (λ c κs. search needs) (λ c. search needs) returns)
+unfolding trials
+put-trials-spec = tie.close (tie.spec (λ c κs. search needs) (λ c κs. search needs) (λ c κs. search needs)
+    (λ c. search needs)
+    (λ c. let put = c .before .before in let ran = put .before in
+    rw (← ran .trial-runner .ensures) (placed-append (ran .before .before .before .before .put-targets .ensures)
+    (put .put-runner .ensures))))

@@ -18,13 +18,6 @@ Inv-loop sheet seed count runner₀ x₀ i₀ runner x i =
 abbrev μ-loop : tie.MeasureT-loop
 μ-loop sheet seed count runner₀ x₀ i₀ runner x i = count - i
 
-loop-holds : tie.Need-loop-holds Inv-loop μ-loop
-unfolding drawn runnerAfter
-loop-holds c =
-    let restarted = c .before in
-    let entry = restarted .before .before .before in
-    (search needs, refl, begins _ _ (restarted .restarted .result) (entry .pre) (restarted .restarted .ensures))
-
 loop-again : tie.Need-loop-again Inv-loop μ-loop
 loop-again c =
     let call = c .before in
@@ -39,15 +32,13 @@ loop-again c =
           (flag .top-bit .ensures) (call .advance .ensures),
     )
 
-returns : tie.Need-returns Inv-loop μ-loop
-returns c =
-    let at = c .before in
-    let args = at .before .before .before .before .before .args in
-    let all : at .loop .i ≡ args .count = omega arith in
-    at .loop .inv .2 ∙ ap (runnerAfter (args .sheet .now) (flags (args .seed))) all
-
 pub run-spec : {M : Type 1} → statement M
-run-spec =
-    tie.close
-    (tie.spec Inv-loop μ-loop (λ c κs. search needs) (λ c κs. search needs) loop-holds (λ c κs. search needs) (λ c κs. search needs)
-    (λ c κs. search needs) (λ c. search needs) (λ c. search needs) loop-again returns)
+unfolding drawn runnerAfter
+run-spec = tie.close (tie.spec Inv-loop μ-loop (λ c κs. search needs) (λ c κs. search needs)
+    (λ c. let restarted = c .before in let pre = restarted .before .before .before .pre in
+    (search needs, refl, begins _ _ (restarted .restarted .result) pre (restarted .restarted .ensures)))
+    (λ c κs. search needs) (λ c κs. search needs) (λ c κs. search needs) (λ c. search needs) (λ c. search needs)
+    loop-again
+    (λ c. let at = c .before in let args = at .before .before .before .before .before .args in
+    let all : at .loop .i ≡ args .count = omega arith in at .loop .inv .2 ∙ ap
+    (runnerAfter (args .sheet .now) (flags (args .seed))) all))

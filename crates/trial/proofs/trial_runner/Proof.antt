@@ -13,47 +13,24 @@ use Rattle.trial.proofs.Sheets.{written-fits, written, never-refused}
 use Rattle.trial.proofs.trial_runner.Statement.{statement}
 use Rattle.trial.proofs.trial_runner.Tie as tie
 
-returns : tie.Need-returns
-returns c =
-    let told = c .before .enum-told .given in
-    let call = c .before .before .before .before in
-    let crystal = call .before .before in
-    absurd (never-refused _ (crystal .crystal .ensures) _ _ _ (call .init .ensures) (told .0 .0) refl (rw (told .1)))
-
-array-share-prefix-bytes : tie.Need-array-share-prefix-bytes
-array-share-prefix-bytes c =
-    let told = c .before .n .given in
-    let call = c .before .before .before .before in
-    let crystal = call .before .before in
-    written-fits _ (crystal .crystal .ensures) _ _ _ (call .init .ensures) (told .0 .0) (rw (told .1))
-
-slice-aggregate-run : tie.Need-slice-aggregate-run
-slice-aggregate-run c =
-    let told = c .before .before .n .given in
-    let call = c .before .before .before .before .before in
-    let crystal = call .before .before in
-    sym (length-take-le _ _ (written-fits _ (crystal .crystal .ensures) _ _ _ (call .init .ensures) (told .0 .0) (rw (told .1))))
-
-run-requires : tie.Need-run-requires
-run-requires c κs =
-    let told = c .before .before .n .given in
-    let call = c .before .before .before .before .before in
-    let crystal = call .before .before in
-    rw (written _ (crystal .crystal .ensures) _ _ _ (call .init .ensures) (told .0 .0) (rw (told .1)))
-    (sheet-size (crystalPlan Rp2040 12000000) 11)
-
 returns-2 : tie.Need-returns-2
 returns-2 c =
-    let told = c .before .before .before .n .given in
-    let call = c .before .before .before .before .before .before in
-    let crystal = call .before .before in
-    let args = crystal .before .args in
-    c .run .ensures
-    ∙ ap (λ (s : List ℕ). runnerAfter s (flags (args .seed)) (args .count))
-    (written _ (crystal .crystal .ensures) _ _ _ (call .init .ensures) (told .0 .0) (rw (told .1)))
+    let told = c .before .before .before .n .given in let call = c .before .before .before .before .before .before in
+    let crystal = call .before .before in let args = crystal .before .args in
+    c .run .ensures ∙ ap (λ (s : List ℕ). runnerAfter s (flags (args .seed)) (args .count)) (written _
+    (crystal .crystal .ensures) _ _ _ (call .init .ensures) (told .0 .0) (rw (told .1)))
 
 pub trial-runner-spec : {M : Type 1} → statement M
-trial-runner-spec =
-    tie.close
-    (tie.spec (λ c κs. search needs) (λ c. search needs) (λ c κs. search needs) (λ c. search needs) (λ c. search needs)
-    (λ c κs. search needs) returns array-share-prefix-bytes slice-aggregate-run run-requires returns-2)
+trial-runner-spec = tie.close (tie.spec (λ c κs. search needs) (λ c. search needs) (λ c κs. search needs)
+    (λ c. search needs) (λ c. search needs) (λ c κs. search needs)
+    (λ c. let told = c .before .enum-told .given in let call = c .before .before .before .before in
+    absurd (never-refused _ (call .before .before .crystal .ensures) _ _ _ (call .init .ensures) (told .0 .0) refl
+    (rw (told .1))))
+    (λ c. let told = c .before .n .given in let call = c .before .before .before .before in
+    written-fits _ (call .before .before .crystal .ensures) _ _ _ (call .init .ensures) (told .0 .0) (rw (told .1)))
+    (λ c. let told = c .before .before .n .given in let call = c .before .before .before .before .before in
+    sym (length-take-le _ _ (written-fits _ (call .before .before .crystal .ensures) _ _ _ (call .init .ensures)
+    (told .0 .0) (rw (told .1)))))
+    (λ c κs. let told = c .before .before .n .given in let call = c .before .before .before .before .before in
+    rw (written _ (call .before .before .crystal .ensures) _ _ _ (call .init .ensures) (told .0 .0) (rw (told .1)))
+    (sheet-size (crystalPlan Rp2040 12000000) 11)) returns-2)

@@ -8,18 +8,8 @@ use Rattle.up.specs.ComesUp.{longestWait}
 use Rattle.up.proofs.longest_wait.Statement.{statement}
 use Rattle.up.proofs.longest_wait.Tie as tie
 
-returns : tie.Need-returns
-unfolding longestWait
-returns c =
-    let under : c .before .args .k < 1000000 = omega arith in
-    simp (lt-ltb _ _ under) (omega arith)
-
-returns-2 : tie.Need-returns-2
-unfolding longestWait
-returns-2 c =
-    let over : 1000000 ≤ c .before .args .k = omega arith in
-    simp (le-ltb _ _ over)
-
 pub longest-wait-spec : {M : Type 1} → statement M
-longest-wait-spec =
-    tie.close (tie.spec (λ c. search needs) (λ c. search needs) (λ c. search needs) returns returns-2)
+unfolding longestWait
+longest-wait-spec = tie.close (tie.spec (λ c. search needs) (λ c. search needs) (λ c. search needs)
+    (λ c. let under : c .before .args .k < 1000000 = omega arith in simp (lt-ltb _ _ under) (omega arith))
+    (λ c. let over : 1000000 ≤ c .before .args .k = omega arith in simp (le-ltb _ _ over)))

@@ -4,12 +4,8 @@ use borrow.Author.Needs.{needs}
 use Rattle.wording.proofs.explain.Statement.{statement}
 use Rattle.wording.proofs.explain.Tie as tie
 
-returns : tie.Need-returns
-returns c =
-    let args = c .before .before .before .args in
-    explain-printed (args .start .now) (args .n) (search needs) (search needs) (c .put-start .ensures)
-
 pub explain-spec : {M : Type 1} → statement M
-explain-spec =
-    tie.close
-    (tie.spec (λ c κs. search needs) returns)
+explain-spec = tie.close (tie.spec (λ c κs. search needs) (λ c κs. search needs)
+    (λ c. let first = c .before .before in let args = first .before .before .args in
+    explain-printed (args .start .now) (args .n) (search needs) (search needs)
+    (rw (first .first .ensures) at (c .put-explained .ensures))))

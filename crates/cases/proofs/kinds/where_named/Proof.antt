@@ -3,13 +3,7 @@ use borrow.Author.Needs.{needs}
 use Rattle.cases.proofs.kinds.where_named.Statement.{statement}
 use Rattle.cases.proofs.kinds.where_named.Tie as tie
 
-returns : tie.Need-returns
-returns c = rw (← c .before .same-bytes .ensures, c .if1 .taken)
-
-returns-2 : tie.Need-returns-2
-returns-2 c = rw (← c .before .same-bytes .ensures, c .if1 .left)
-
 pub where-named-spec : {M : Type 1} → statement M
-where-named-spec =
-    tie.close
-    (tie.spec (λ c κs. search needs) returns returns-2)
+where-named-spec = tie.close (tie.spec (λ c κs. search needs)
+    (λ c. rw (← c .before .same-bytes .ensures, c .if1 .taken))
+    (λ c. rw (← c .before .same-bytes .ensures, c .if1 .left)))

@@ -3,8 +3,5 @@ use borrow.Author.Needs.{needs}
 use Rattle.config.proofs.ClockConfig.default.Statement.{statement}
 use Rattle.config.proofs.ClockConfig.default.Tie as tie
 
-returns : tie.Need-returns
-returns c = rw (c .plain .ensures)
-
 pub default-spec : {M : Type 1} → statement M
-default-spec = tie.close (tie.spec (λ c κs. search needs) returns)
+default-spec = tie.close (tie.spec (λ c κs. search needs) (λ c. rw (c .plain .ensures)))

@@ -7,11 +7,8 @@ use Rattle.config.proofs.ClockConfig.system_freq_from.Tie as tie
 returns : tie.Need-returns
 unfolding systemPlanFrom
 returns c =
-    let fed = c .before in
-    let voltage = fed .before .before in
-    let usb = voltage .before .before in
-    let usb-searched = usb .before .before in
-    let sys = usb-searched .before .before in
+    let fed = c .before in let voltage = fed .before .before in let usb = voltage .before .before in
+    let usb-searched = usb .before .before in let sys = usb-searched .before .before in
     rw (
       c .from-plls .ensures,
       fed .feeding-both .ensures,
@@ -23,28 +20,15 @@ returns c =
       sys .sys-pll .given .1,
     )
 
-returns-2 : tie.Need-returns-2
+pub system-freq-from-spec : {M : Type 1} → statement M
 unfolding systemPlanFrom
-returns-2 c =
-    let none = c .before in
-    let usb-searched = none .before .before in
-    let sys = usb-searched .before .before in
+system-freq-from-spec = tie.close (tie.spec (λ c κs. search needs) (λ c. search needs) (λ c κs. search needs)
+    (λ c. search needs) (λ c κs. search needs) (λ c κs. search needs) (λ c κs. search needs) (λ c κs. search needs)
+    (λ c. search needs) (λ c. search needs) returns
+    (λ c. let none = c .before in let usb-searched = none .before .before in let sys = usb-searched .before .before in
     rw (
       ← usb-searched .find-usb-pll .ensures,
       none .number .given .1,
       ← sys .before .before .find-pll-params .ensures,
       sys .sys-pll .given .1,
-    )
-
-returns-3 : tie.Need-returns-3
-unfolding systemPlanFrom
-returns-3 c =
-    let searched = c .before .before .before in
-    rw (← searched .find-pll-params .ensures, c .before .number2 .given .1)
-
-pub system-freq-from-spec : {M : Type 1} → statement M
-system-freq-from-spec =
-    tie.close
-    (tie.spec (λ c κs. search needs) (λ c. search needs) (λ c κs. search needs) (λ c. search needs)
-    (λ c κs. search needs) (λ c κs. search needs) (λ c κs. search needs) (λ c κs. search needs)
-    (λ c. search needs) (λ c. search needs) returns returns-2 returns-3)
+    )) (λ c. rw (← c .before .before .before .find-pll-params .ensures, c .before .number2 .given .1)))

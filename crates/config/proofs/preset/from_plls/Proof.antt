@@ -3,8 +3,5 @@ use borrow.Author.Needs.{needs}
 use Rattle.config.proofs.preset.from_plls.Statement.{statement}
 use Rattle.config.proofs.preset.from_plls.Tie as tie
 
-returns : tie.Need-returns
-returns c = rw (c .plain .ensures)
-
 pub from-plls-spec : {M : Type 1} → statement M
-from-plls-spec = tie.close (tie.spec (λ c κs. search needs) returns)
+from-plls-spec = tie.close (tie.spec (λ c κs. search needs) (λ c. rw (c .plain .ensures)))

@@ -9,18 +9,6 @@ use Rattle.export.proofs.Boards.{over-number, over-leaves, bad-number, 
 use Rattle.export.proofs.bench.dizbaral_bench_run.Statement.{statement}
 use Rattle.export.proofs.bench.dizbaral_bench_run.Tie as tie
 
-returns : tie.Need-returns
-returns c =
-    let over = c .before .if1 .taken in
-    (c .refused .ensures ∙ over-number _ _ _ _ _ over, over-leaves _ _ _ _ _ over)
-
-returns-2 : tie.Need-returns-2
-returns-2 c =
-    let one = c .before in
-    let few = one .before .before .before .if1 .left in
-    let bad = rw (one .runner-at .ensures) at (c .if2 .taken) in
-    (bad-number _ _ _ _ _ few bad, bad-leaves _ _ _ _ _ few bad)
-
 returns-3 : tie.Need-returns-3
 returns-3 c =
     let run = c .before .before .before in
@@ -38,7 +26,11 @@ returns-3 c =
     )
 
 pub dizbaral-bench-run-spec : {M : Type 1} → statement M
-dizbaral-bench-run-spec =
-    tie.close
-    (tie.spec (λ c κs. search needs) returns (λ c κs. search needs) (λ c. search needs) returns-2
-    (λ c κs. search needs) (λ c κs. search needs) returns-3)
+dizbaral-bench-run-spec = tie.close (tie.spec (λ c κs. search needs)
+    (λ c. let over = c .before .if1 .taken in
+    (c .refused .ensures ∙ over-number _ _ _ _ _ over, over-leaves _ _ _ _ _ over)) (λ c κs. search needs)
+    (λ c. search needs)
+    (λ c. let one = c .before in let few = one .before .before .before .if1 .left in
+    let bad = rw (one .runner-at .ensures) at (c .if2 .taken) in
+    (bad-number _ _ _ _ _ few bad, bad-leaves _ _ _ _ _ few bad)) (λ c κs. search needs) (λ c κs. search needs)
+    returns-3)

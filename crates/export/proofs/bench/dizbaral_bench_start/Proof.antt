@@ -4,14 +4,7 @@ use Rattle.export.proofs.Boards.{all-started, all-turned}
 use Rattle.export.proofs.bench.dizbaral_bench_start.Statement.{statement}
 use Rattle.export.proofs.bench.dizbaral_bench_start.Tie as tie
 
-returns : tie.Need-returns
-returns c =
-    let if1 = c .before in all-started _ _ _ _ _ _ (if1 .before .dizbaral-start .ensures) (if1 .if1 .taken)
-
-returns-2 : tie.Need-returns-2
-returns-2 c = all-turned _ _ _ _ _ _ (c .before .dizbaral-start .ensures) (c .if1 .left)
-
 pub dizbaral-bench-start-spec : {M : Type 1} → statement M
-dizbaral-bench-start-spec =
-    tie.close
-    (tie.spec (λ c κs. search needs) (λ c. search needs) (λ c. search needs) returns returns-2)
+dizbaral-bench-start-spec = tie.close (tie.spec (λ c κs. search needs) (λ c. search needs) (λ c. search needs)
+    (λ c. let if1 = c .before in all-started _ _ _ _ _ _ (if1 .before .dizbaral-start .ensures) (if1 .if1 .taken))
+    (λ c. all-turned _ _ _ _ _ _ (c .before .dizbaral-start .ensures) (c .if1 .left)))

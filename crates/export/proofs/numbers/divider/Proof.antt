@@ -3,15 +3,9 @@ use borrow.Author.Needs.{needs}
 use Rattle.export.proofs.numbers.divider.Statement.{statement}
 use Rattle.export.proofs.numbers.divider.Tie as tie
 
-returns : tie.Need-returns
-returns c =
-    let on = c .before .before in
-    rw (← on .before .before .chip .ensures, on .on .given .1, c .divider-of .ensures)
-
-returns-2 : tie.Need-returns-2
-returns-2 c = rw (← c .before .before .chip .ensures, c .enum-told .given .1)
-
 pub divider-spec : {M : Type 1} → statement M
-divider-spec =
-    tie.close
-    (tie.spec (λ c κs. search needs) (λ c. search needs) (λ c κs. search needs) (λ c. search needs) returns returns-2)
+divider-spec = tie.close (tie.spec (λ c κs. search needs) (λ c. search needs) (λ c κs. search needs)
+    (λ c. search needs)
+    (λ c. let on = c .before .before in
+    rw (← on .before .before .chip .ensures, on .on .given .1, c .divider-of .ensures))
+    (λ c. rw (← c .before .before .chip .ensures, c .enum-told .given .1)))

@@ -4,17 +4,9 @@ use borrow.Author.Needs.{needs}
 use Rattle.export.proofs.numbers.found.Statement.{statement}
 use Rattle.export.proofs.numbers.found.Tie as tie
 
-returns : tie.Need-returns
-returns c =
-    let answer = c .before .before .before .before .before in
-    rw (answer .answer .given .1)
-
-returns-2 : tie.Need-returns-2
-returns-2 c = rw (c .before .answer2 .given .1)
-
 pub found-spec : {M : Type 1} → statement M
-found-spec =
-    tie.close
-    (tie.spec (λ c. search needs) (λ c. search needs) (λ c. search needs) (λ c. search needs) (λ c. search needs)
+found-spec = tie.close (tie.spec (λ c. search needs) (λ c. search needs) (λ c. search needs) (λ c. search needs)
     (λ c. search needs) (λ c. search needs) (λ c. search needs) (λ c. search needs) (λ c. search needs)
-    (λ c. search needs) (λ c. search needs) (λ c. search needs) (λ c. search needs) returns returns-2)
+    (λ c. search needs) (λ c. search needs) (λ c. search needs) (λ c. search needs) (λ c. search needs)
+    (λ c. let answer = c .before .before .before .before .before in rw (answer .answer .given .1))
+    (λ c. rw (c .before .answer2 .given .1)))

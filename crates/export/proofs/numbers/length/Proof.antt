@@ -4,11 +4,6 @@ use borrow.Author.Needs.{needs}
 use Rattle.export.proofs.numbers.length.Statement.{statement}
 use Rattle.export.proofs.numbers.length.Tie as tie
 
-returns-2 : tie.Need-returns-2
-returns-2 c = rw (c .before .answer2 .given .1)
-
 pub length-spec : {M : Type 1} → statement M
-length-spec =
-    tie.close
-    (tie.spec (λ c. search needs) (λ c. search needs) (λ c. search needs) (λ c. search needs) (λ c. search needs)
-    returns-2)
+length-spec = tie.close (tie.spec (λ c. search needs) (λ c. search needs) (λ c. search needs) (λ c. search needs)
+    (λ c. search needs) (λ c. rw (c .before .answer2 .given .1)))

@@ -3,14 +3,9 @@ use borrow.Author.Needs.{needs}
 use Rattle.export.proofs.numbers.voltage.Statement.{statement}
 use Rattle.export.proofs.numbers.voltage.Tie as tie
 
-returns : tie.Need-returns
-returns c = rw (c .before .before .enum-told .given .1, c .voltage-read .ensures, c .before .core-voltage .ensures)
-
-returns-2 : tie.Need-returns-2
-returns-2 c = rw (c .before .before .enum-told2 .given .1, c .voltage-read-235 .ensures, c .before .core-voltage-235 .ensures)
-
 pub voltage-spec : {M : Type 1} → statement M
-voltage-spec =
-    tie.close
-    (tie.spec (λ c. search needs) (λ c κs. search needs) (λ c κs. search needs) (λ c. search needs)
-    (λ c κs. search needs) (λ c κs. search needs) returns returns-2)
+voltage-spec = tie.close (tie.spec (λ c. search needs) (λ c κs. search needs) (λ c κs. search needs)
+    (λ c. search needs) (λ c κs. search needs) (λ c κs. search needs)
+    (λ c. rw (c .before .before .enum-told .given .1, c .voltage-read .ensures, c .before .core-voltage .ensures))
+    (λ c.
+    rw (c .before .before .enum-told2 .given .1, c .voltage-read-235 .ensures, c .before .core-voltage-235 .ensures)))

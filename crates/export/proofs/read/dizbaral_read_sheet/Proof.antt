@@ -3,10 +3,6 @@ use borrow.Author.Needs.{needs}
 use Rattle.export.proofs.read.dizbaral_read_sheet.Statement.{statement}
 use Rattle.export.proofs.read.dizbaral_read_sheet.Tie as tie
 
-returns : tie.Need-returns
-returns c = rw (c .before .before .read-sheet .ensures) at (c .leave .ensures)
-
 pub dizbaral-read-sheet-spec : {M : Type 1} → statement M
-dizbaral-read-sheet-spec =
-    tie.close
-    (tie.spec (λ c κs. search needs) (λ c κs. search needs) returns)
+dizbaral-read-sheet-spec = tie.close (tie.spec (λ c κs. search needs) (λ c κs. search needs)
+    (λ c. rw (c .before .before .read-sheet .ensures) at (c .leave .ensures)))

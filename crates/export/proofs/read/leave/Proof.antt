@@ -6,16 +6,12 @@ use Rattle.export.proofs.read.leave.Tie as tie
 
 returns : tie.Need-returns
 returns c =
-    let put-plan = c .before in
-    let told = put-plan .before .before .before in
-    rw (told .planned .given .1) (record { answer = c .plan-chip .ensures; numbers = put-plan .put-plan .ensures .bytes })
+    let put-plan = c .before in rw (put-plan .before .before .before .planned .given .1)
+    (record { answer = c .plan-chip .ensures; numbers = put-plan .put-plan .ensures .bytes })
 
 returns-2 : tie.Need-returns-2
-returns-2 c =
-    rw (c .before .before .planned2 .given .1) (record { answer = c .refused .ensures; numbers = refl })
+returns-2 c = rw (c .before .before .planned2 .given .1) (record { answer = c .refused .ensures; numbers = refl })
 
 pub leave-spec : {M : Type 1} → statement M
-leave-spec =
-    tie.close
-    (tie.spec (λ c. search needs) (λ c κs. search needs) (λ c κs. search needs) (λ c. search needs)
+leave-spec = tie.close (tie.spec (λ c. search needs) (λ c κs. search needs) (λ c κs. search needs) (λ c. search needs)
     (λ c κs. search needs) returns returns-2)

@@ -3,13 +3,7 @@ use borrow.Author.Needs.{needs}
 use Rattle.export.proofs.read.plan_chip.Statement.{statement}
 use Rattle.export.proofs.read.plan_chip.Tie as tie
 
-returns : tie.Need-returns
-returns c = rw (← c .before .before .board .ensures .0, c .enum-told .given .1)
-
-returns-2 : tie.Need-returns-2
-returns-2 c = rw (← c .before .before .board .ensures .0, c .enum-told2 .given .1)
-
 pub plan-chip-spec : {M : Type 1} → statement M
-plan-chip-spec =
-    tie.close
-    (tie.spec (λ c κs. search needs) (λ c. search needs) (λ c. search needs) returns returns-2)
+plan-chip-spec = tie.close (tie.spec (λ c κs. search needs) (λ c. search needs) (λ c. search needs)
+    (λ c. rw (← c .before .before .board .ensures .0, c .enum-told .given .1))
+    (λ c. rw (← c .before .before .board .ensures .0, c .enum-told2 .given .1)))

@@ -1,6 +1,5 @@
 -- `export::run::put_started` meets its contract.
 -- Assumes nothing.
-use borrow.Author.Needs.{needs}
 use mathlib.Core.List.{[]}
 use mathlib.Core.Path.{_≡_, refl, _∙_}
 use native.Mathlib.Omega.{arith}
@@ -10,31 +9,15 @@ use Rattle.export.specs.Run.{startedNumbers}
 use Rattle.export.proofs.run.put_started.Statement.{statement}
 use Rattle.export.proofs.run.put_started.Tie as tie
 
-returns : tie.Need-returns
-returns c =
-    let ns = c .args .numbers .now in
-    let len = c .args .len in
-    let fifteen : length ns ≡ 15 = c .pre in
-    let rest : drop 15 ns ≡ [] = drop-of-length-le ns {i = 15} (omega arith) in
-    sets-eq (startedNumbers len) ns 0 (omega arith) ∙ rw rest
-
 pub put-started-spec : {M : Type 1} → statement M
-put-started-spec =
-    tie.close
-    (tie.spec
-    (λ c. omega (arith, c .pre))
-    (λ c. simp length-set (omega (arith, c .pre)))
-    (λ c. simp length-set (omega (arith, c .pre)))
-    (λ c. simp length-set (omega (arith, c .pre)))
-    (λ c. simp length-set (omega (arith, c .pre)))
-    (λ c. simp length-set (omega (arith, c .pre)))
-    (λ c. simp length-set (omega (arith, c .pre)))
-    (λ c. simp length-set (omega (arith, c .pre)))
-    (λ c. simp length-set (omega (arith, c .pre)))
-    (λ c. simp length-set (omega (arith, c .pre)))
-    (λ c. simp length-set (omega (arith, c .pre)))
-    (λ c. simp length-set (omega (arith, c .pre)))
-    (λ c. simp length-set (omega (arith, c .pre)))
-    (λ c. simp length-set (omega (arith, c .pre)))
-    (λ c. simp length-set (omega (arith, c .pre)))
-    (λ c. simp length-set refl) returns)
+put-started-spec = tie.close (tie.spec (λ c. omega (arith, c .pre)) (λ c. simp length-set (omega (arith, c .pre)))
+    (λ c. simp length-set (omega (arith, c .pre))) (λ c. simp length-set (omega (arith, c .pre)))
+    (λ c. simp length-set (omega (arith, c .pre))) (λ c. simp length-set (omega (arith, c .pre)))
+    (λ c. simp length-set (omega (arith, c .pre))) (λ c. simp length-set (omega (arith, c .pre)))
+    (λ c. simp length-set (omega (arith, c .pre))) (λ c. simp length-set (omega (arith, c .pre)))
+    (λ c. simp length-set (omega (arith, c .pre))) (λ c. simp length-set (omega (arith, c .pre)))
+    (λ c. simp length-set (omega (arith, c .pre))) (λ c. simp length-set (omega (arith, c .pre)))
+    (λ c. simp length-set (omega (arith, c .pre))) (λ c. simp length-set refl)
+    (λ c. let ns = c .args .numbers .now in let len = c .args .len in let fifteen : length ns ≡ 15 = c .pre in
+    let rest : drop 15 ns ≡ [] = drop-of-length-le ns {i = 15} (omega arith) in
+    sets-eq (startedNumbers len) ns 0 (omega arith) ∙ rw rest))

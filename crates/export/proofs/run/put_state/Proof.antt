@@ -5,12 +5,7 @@ use Rattle.export.specs.Run.{withState}
 use Rattle.export.proofs.run.put_state.Statement.{statement}
 use Rattle.export.proofs.run.put_state.Tie as tie
 
-returns : tie.Need-returns
-unfolding withState
-returns c = rw (c .bit .ensures)
-
 pub put-state-spec : {M : Type 1} → statement M
-put-state-spec =
-    tie.close
-    (tie.spec (λ c. search needs) (λ c. search needs) (λ c. search needs) (λ c. search needs) (λ c κs. search needs)
-    (λ c. search needs) returns)
+unfolding withState
+put-state-spec = tie.close (tie.spec (λ c. search needs) (λ c. search needs) (λ c. search needs) (λ c. search needs)
+    (λ c κs. search needs) (λ c. search needs) (λ c. rw (c .bit .ensures)))

@@ -11,35 +11,13 @@ use Rattle.export.proofs.run.put_store.Tie as tie
 
 fits : (c : tie.After-struct-known2)
     → (c .before .before .before .args .step .f0 < 10) × (c .before .before .before .args .step .f1 < 4294967296)
-fits c =
-    let e = c .before in
-    store-fits (e .before .before .args .step) (e .before .before .pre) (e .if1 .left)
-
-returns : tie.Need-returns
-unfolding storedBy
-returns c =
-    let a = c .before .before .args in
-    rw (ne-eqb _ _ (c .if1 .taken)) (freqs-kept (a .numbers .now))
-
-cast-numbers : tie.Need-cast-numbers
-cast-numbers c = omega (arith, fits c .1)
-
-add-numbers : tie.Need-add-numbers
-add-numbers c = omega (arith, fits c .0)
-
-mul-numbers : tie.Need-mul-numbers
-mul-numbers c = omega (arith, fits c .0)
-
-element-write-numbers : tie.Need-element-write-numbers
-element-write-numbers c = omega (arith, fits c .0)
-
-returns-2 : tie.Need-returns-2
-unfolding storedBy
-returns-2 c =
-    let e = c .before in let a = e .before .before .args in
-    rw (eq-eqb _ _ (e .if1 .left)) (set-behind (a .numbers .now) (a .step .f0) (a .step .f1))
+fits c = let e = c .before in store-fits (e .before .before .args .step) (e .before .before .pre) (e .if1 .left)
 
 pub put-store-spec : {M : Type 1} → statement M
-put-store-spec =
-    tie.close
-    (tie.spec returns cast-numbers add-numbers mul-numbers element-write-numbers returns-2)
+unfolding storedBy
+put-store-spec = tie.close (tie.spec
+    (λ c. let a = c .before .before .args in rw (ne-eqb _ _ (c .if1 .taken)) (freqs-kept (a .numbers .now)))
+    (λ c. omega (arith, fits c .1)) (λ c. omega (arith, fits c .0)) (λ c. omega (arith, fits c .0))
+    (λ c. omega (arith, fits c .0))
+    (λ c. let e = c .before in let a = e .before .before .args in
+    rw (eq-eqb _ _ (e .if1 .left)) (set-behind (a .numbers .now) (a .step .f0) (a .step .f1))))

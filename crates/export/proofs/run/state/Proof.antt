@@ -4,13 +4,6 @@ use borrow.Author.Needs.{needs}
 use Rattle.export.proofs.run.state.Statement.{statement}
 use Rattle.export.proofs.run.state.Tie as tie
 
-returns : tie.Need-returns
-returns c =
-    let wide = c .before .before .before in let w = wide .wide .ensures in
-    (rw (w .0), w .1)
-
 pub state-spec : {M : Type 1} → statement M
-state-spec =
-    tie.close
-    (tie.spec (λ c. search needs) (λ c κs. search needs) (λ c. search needs) (λ c. search needs) (λ c. search needs)
-    returns)
+state-spec = tie.close (tie.spec (λ c. search needs) (λ c κs. search needs) (λ c. search needs) (λ c. search needs)
+    (λ c. search needs) (λ c. let w = c .before .before .before .wide .ensures in (rw (w .0), w .1)))

@@ -7,8 +7,7 @@ use Rattle.export.proofs.slots.leave.Tie as tie
 returns : tie.Need-returns
 returns c =
     let put-numbers = c .before .before in let put-slots = put-numbers .before .before .before in
-    let enum-told = put-slots .before .before in
-    rw (enum-told .enum-told .given .1) (record {
+    rw (put-slots .before .before .enum-told .given .1) (record {
       answer = c .put-steps .ensures .index;
       slotsLeft = put-slots .put-slots .ensures .bytes;
       wordsLeft = put-numbers .put-numbers .ensures .bytes;
@@ -22,7 +21,5 @@ returns-2 c =
     (record { answer = c .refused .ensures; slotsLeft = refl; wordsLeft = refl; stepsLeft = refl })
 
 pub leave-spec : {M : Type 1} → statement M
-leave-spec =
-    tie.close
-    (tie.spec (λ c. search needs) (λ c κs. search needs) (λ c. search needs) (λ c κs. search needs)
+leave-spec = tie.close (tie.spec (λ c. search needs) (λ c κs. search needs) (λ c. search needs) (λ c κs. search needs)
     (λ c κs. search needs) (λ c. search needs) (λ c κs. search needs) returns returns-2)

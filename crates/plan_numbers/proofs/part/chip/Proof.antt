@@ -4,22 +4,19 @@ use borrow.Author.Needs.{needs}
 use Rattle.plan_numbers.proofs.part.chip.Statement.{statement}
 use Rattle.plan_numbers.proofs.part.chip.Tie as tie
 
-returns : tie.Need-returns
-unfolding chipAt
-returns c =
-    let read = c .before in
-    let told = read .before in
-    rw (c .with-2040 .ensures, read .core-voltage .ensures, told .before .before .byte-at .ensures, told .enum-told .given .1)
-
-returns-2 : tie.Need-returns-2
-unfolding chipAt
-returns-2 c =
-    let read = c .before in
-    let told = read .before in
-    rw (c .with-235x .ensures, read .core-voltage-235 .ensures, told .before .before .byte-at .ensures, told .enum-told2 .given .1)
-
 pub chip-spec : {M : Type 1} → statement M
-chip-spec =
-    tie.close
-    (tie.spec (λ c κs. search needs) (λ c. search needs) (λ c κs. search needs) (λ c κs. search needs)
-    (λ c. search needs) (λ c κs. search needs) (λ c κs. search needs) returns returns-2)
+unfolding chipAt
+chip-spec = tie.close (tie.spec (λ c κs. search needs) (λ c. search needs) (λ c κs. search needs)
+    (λ c κs. search needs) (λ c. search needs) (λ c κs. search needs) (λ c κs. search needs)
+    (λ c. let read = c .before in let told = read .before in rw (
+      c .with-2040 .ensures,
+      read .core-voltage .ensures,
+      told .before .before .byte-at .ensures,
+      told .enum-told .given .1,
+    ))
+    (λ c. let read = c .before in let told = read .before in rw (
+      c .with-235x .ensures,
+      read .core-voltage-235 .ensures,
+      told .before .before .byte-at .ensures,
+      told .enum-told2 .given .1,
+    )))

@@ -5,21 +5,11 @@ use borrow.Author.Needs.{needs}
 use Rattle.plan_numbers.proofs.part.peripheral.Statement.{statement}
 use Rattle.plan_numbers.proofs.part.peripheral.Tie as tie
 
-returns : tie.Need-returns
-unfolding peripheralAt
-returns c = rw (absent (c .before .number-at .ensures) (c .if1 .taken))
-
-returns-2 : tie.Need-returns-2
-unfolding peripheralAt
-returns-2 c =
-    let number-at2 = c .before in let if1 = number-at2 .before in let number-at = if1 .before in
-    rw (
-      there (number-at .number-at .ensures) (if1 .if1 .left),
-      c .peripheral .ensures,
-      number-at2 .number-at2 .ensures,
-    )
-
 pub peripheral-spec : {M : Type 1} → statement M
-peripheral-spec =
-    tie.close
-    (tie.spec (λ c κs. search needs) returns (λ c κs. search needs) (λ c κs. search needs) returns-2)
+unfolding peripheralAt
+peripheral-spec = tie.close (tie.spec (λ c κs. search needs)
+    (λ c. rw (absent (c .before .number-at .ensures) (c .if1 .taken))) (λ c κs. search needs) (λ c. search needs)
+    (λ c κs. search needs)
+    (λ c. let code = c .before in let if1 = code .before in
+    let flag = there (if1 .before .number-at .ensures) (if1 .if1 .left) in
+    rw (flag, c .peri-from .ensures, code .number-at2 .ensures)))

@@ -5,15 +5,8 @@ use borrow.Author.Needs.{needs}
 use Rattle.plan_numbers.proofs.part.pll.Statement.{statement}
 use Rattle.plan_numbers.proofs.part.pll.Tie as tie
 
-returns : tie.Need-returns
-unfolding optionPllAt
-returns c = rw (absent (c .before .number-at .ensures) (c .if1 .taken))
-
-returns-2 : tie.Need-returns-2
-unfolding optionPllAt
-returns-2 c = rw (there (c .before .before .number-at .ensures) (c .before .if1 .left), c .pll-at .ensures)
-
 pub pll-spec : {M : Type 1} → statement M
-pll-spec =
-    tie.close
-    (tie.spec (λ c κs. search needs) returns (λ c. search needs) (λ c κs. search needs) returns-2)
+unfolding optionPllAt
+pll-spec = tie.close (tie.spec (λ c κs. search needs)
+    (λ c. rw (absent (c .before .number-at .ensures) (c .if1 .taken))) (λ c. search needs) (λ c κs. search needs)
+    (λ c. rw (there (c .before .before .number-at .ensures) (c .before .if1 .left), c .pll-at .ensures)))

@@ -5,26 +5,12 @@ use borrow.Author.Needs.{needs}
 use Rattle.plan_numbers.proofs.part.rtc.Statement.{statement}
 use Rattle.plan_numbers.proofs.part.rtc.Tie as tie
 
-returns : tie.Need-returns
-unfolding rtcAt
-returns c = rw (absent (c .before .number-at .ensures) (c .if1 .taken))
-
-returns-2 : tie.Need-returns-2
-unfolding rtcAt
-returns-2 c =
-    let byte-at = c .before in let number-at3 = byte-at .before in let aux = number-at3 .before in
-    let number-at2 = aux .before in let if1 = number-at2 .before in let number-at = if1 .before in
-    rw (
-      there (number-at .number-at .ensures) (if1 .if1 .left),
-      c .byte-at2 .ensures,
-      byte-at .byte-at .ensures,
-      number-at3 .number-at3 .ensures,
-      aux .aux .ensures,
-      number-at2 .number-at2 .ensures,
-    )
-
 pub rtc-spec : {M : Type 1} → statement M
-rtc-spec =
-    tie.close
-    (tie.spec (λ c κs. search needs) returns (λ c κs. search needs) (λ c κs. search needs) (λ c κs. search needs)
-    (λ c κs. search needs) (λ c κs. search needs) returns-2)
+unfolding rtcAt
+rtc-spec = tie.close (tie.spec (λ c κs. search needs)
+    (λ c. rw (absent (c .before .number-at .ensures) (c .if1 .taken))) (λ c κs. search needs) (λ c. search needs)
+    (λ c κs. search needs) (λ c κs. search needs) (λ c κs. search needs) (λ c κs. search needs)
+    (λ c. let frac = c .before in let int = frac .before in let src = int .before in let code = src .before in
+    let if1 = code .before in
+    rw (there (if1 .before .number-at .ensures) (if1 .if1 .left), c .byte-at2 .ensures, frac .byte-at .ensures)
+    (rw (int .number-at3 .ensures, src .aux-from .ensures, code .number-at2 .ensures))))

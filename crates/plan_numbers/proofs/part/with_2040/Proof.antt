@@ -3,16 +3,12 @@ use borrow.Author.Needs.{needs}
 use Rattle.plan_numbers.proofs.part.with_2040.Statement.{statement}
 use Rattle.plan_numbers.proofs.part.with_2040.Tie as tie
 
-returns : tie.Need-returns
-returns c =
-    let number = c .before .before in
-    rw (number .before .before .voltage .given .1, c .rtc .ensures, c .before .byte-at .ensures, number .number-at .ensures)
-
-returns-2 : tie.Need-returns-2
-returns-2 c = rw (c .enum-told .given .1)
-
 pub with-2040-spec : {M : Type 1} → statement M
-with-2040-spec =
-    tie.close
-    (tie.spec (λ c. search needs) (λ c κs. search needs) (λ c κs. search needs) (λ c κs. search needs)
-    (λ c. search needs) returns returns-2)
+with-2040-spec = tie.close (tie.spec (λ c. search needs) (λ c κs. search needs) (λ c κs. search needs)
+    (λ c κs. search needs) (λ c. search needs)
+    (λ c. let number = c .before .before in rw (
+      number .before .before .voltage .given .1,
+      c .rtc .ensures,
+      c .before .byte-at .ensures,
+      number .number-at .ensures,
+    )) (λ c. rw (c .enum-told .given .1)))

@@ -3,15 +3,9 @@ use borrow.Author.Needs.{needs}
 use Rattle.plan_numbers.proofs.part.with_235x.Statement.{statement}
 use Rattle.plan_numbers.proofs.part.with_235x.Tie as tie
 
-returns : tie.Need-returns
-returns c =
-    let whole = c .before in
-    rw (whole .before .before .voltage .given .1, c .half-at2 .ensures, whole .half-at .ensures)
-
-returns-2 : tie.Need-returns-2
-returns-2 c = rw (c .enum-told .given .1)
-
 pub with-235x-spec : {M : Type 1} → statement M
-with-235x-spec =
-    tie.close
-    (tie.spec (λ c. search needs) (λ c κs. search needs) (λ c κs. search needs) (λ c. search needs) returns returns-2)
+with-235x-spec = tie.close (tie.spec (λ c. search needs) (λ c κs. search needs) (λ c κs. search needs)
+    (λ c. search needs)
+    (λ c. let whole = c .before in
+    rw (whole .before .before .voltage .given .1, c .half-at2 .ensures, whole .half-at .ensures))
+    (λ c. rw (c .enum-told .given .1)))

@@ -12,40 +12,37 @@ use Rattle.plan_numbers.proofs.rows.fits.Statement.{statement}
 use Rattle.plan_numbers.proofs.rows.fits.Tie as tie
 
 abbrev Inv-loop : tie.InvT-loop
-Inv-loop n i limits at₀ k₀ at k =
-    (k ≤ length limits) × (at ≡ i + k) × (fitFrom n at (drop k limits) ≡ fitFrom n i limits)
+Inv-loop n i limits there at₀ k₀ at k =
+    (k ≤ length limits) × (at ≡ i + k) × (fitFrom there n at (drop k limits) ≡ fitFrom there n i limits)
 
 abbrev μ-loop : tie.MeasureT-loop
-μ-loop n i limits at₀ k₀ at k = length limits - k
-
-loop-holds : tie.Need-loop-holds Inv-loop μ-loop
-loop-holds c = (omega arith, omega arith, refl)
+μ-loop n i limits there at₀ k₀ at k = length limits - k
 
 returns : tie.Need-returns Inv-loop μ-loop
 returns c =
-    let number-at = c .before in let loop-test = number-at .before .before in let loop = loop-test .before in
-    let start = loop .before .before .before in
-    let step = fit-step (start .args .n .now) (start .args .limits .now) (loop .loop .at) (loop .loop .k) (loop-test .loop-test .taken) in
-    sym (sym (loop .loop .inv .2) ∙ step ∙ rw (← number-at .number-at .ensures, lt-leb _ _ (c .if1 .taken)))
+    let number-at = c .before in let top = number-at .before in let loop-test = top .before .before in
+    let loop = loop-test .before in let a = loop .before .before .before .args in let n = a .n .now in
+    let limits = a .limits .now in let inside = loop-test .loop-test .taken in
+    let step = fit-step (a .there) n limits (loop .loop .at) (loop .loop .k) inside in
+    let over = lt-leb _ _ (c .if1 .taken) in
+    sym (sym (loop .loop .inv .2) ∙ step ∙ rw (← number-at .number-at .ensures, ← top .top .ensures, over))
 
 loop-again : tie.Need-loop-again Inv-loop μ-loop
 loop-again c =
-    let number-at = c .before in let loop-test = number-at .before .before in let loop = loop-test .before in
-    let start = loop .before .before .before in
-    let n = start .args .n .now in let limits = start .args .limits .now in
-    let step = fit-step n limits (loop .loop .at) (loop .loop .k) (loop-test .loop-test .taken) in (
+    let number-at = c .before in let top = number-at .before in let loop-test = top .before .before in
+    let loop = loop-test .before in let a = loop .before .before .before .args in
+    let n = a .n .now in let limits = a .limits .now in let inside = loop-test .loop-test .taken in
+    let step = fit-step (a .there) n limits (loop .loop .at) (loop .loop .k) inside in
+    let fit = le-leb _ _ (c .if1 .left) in (
       omega arith,
       omega arith,
-      sym (step ∙ rw (← number-at .number-at .ensures, le-leb _ _ (c .if1 .left))) ∙ loop .loop .inv .2,
+      sym (step ∙ rw (← number-at .number-at .ensures, ← top .top .ensures, fit)) ∙ loop .loop .inv .2,
     )
 
-returns-2 : tie.Need-returns-2 Inv-loop μ-loop
-returns-2 c =
-    let loop = c .before in let start = loop .before .before .before in
-    rw (drop-of-length-le (start .args .limits .now) (c .loop-test .left)) at (loop .loop .inv .2)
-
 pub fits-spec : {M : Type 1} → statement M
-fits-spec =
-    tie.close
-    (tie.spec Inv-loop μ-loop loop-holds (λ c. search needs) (λ c. search needs) (λ c κs. search needs) returns
-    (λ c. search needs) (λ c. search needs) (λ c. search needs) loop-again returns-2)
+fits-spec = tie.close (tie.spec Inv-loop μ-loop (λ c. (omega arith, omega arith, refl)) (λ c. search needs)
+    (λ c. search needs) (λ c κs. search needs) (λ c κs. search needs) returns (λ c. search needs) (λ c. search needs)
+    (λ c. search needs) loop-again
+    (λ c. let loop = c .before in
+    rw (drop-of-length-le (loop .before .before .before .args .limits .now) (c .loop-test .left)) at
+    (loop .loop .inv .2)))

@@ -4,11 +4,7 @@ use borrow.Author.Needs.{needs}
 use Rattle.plan_numbers.proofs.rows.is_part.Statement.{statement}
 use Rattle.plan_numbers.proofs.rows.is_part.Tie as tie
 
-returns : tie.Need-returns
-unfolding isPart
-returns c = rw (c .zeros .ensures, c .before .number-at .ensures, c .before .before .fits2 .ensures)
-
 pub is-part-spec : {M : Type 1} → statement M
-is-part-spec =
-    tie.close
-    (tie.spec (λ c κs. search needs) (λ c κs. search needs) (λ c κs. search needs) returns)
+unfolding isPart
+is-part-spec = tie.close (tie.spec (λ c κs. search needs) (λ c κs. search needs)
+    (λ c. rw (c .fits2 .ensures, c .before .number-at .ensures)))

@@ -3,13 +3,6 @@ use borrow.Author.Needs.{needs}
 use Rattle.plan_row.proofs.rows.crystal.Statement.{statement}
 use Rattle.plan_row.proofs.rows.crystal.Tie as tie
 
-returns : tie.Need-returns
-returns c = rw (c .before .crystal .given .1)
-
-returns-2 : tie.Need-returns-2
-returns-2 c = rw (c .enum-told .given .1)
-
 pub crystal-spec : {M : Type 1} → statement M
-crystal-spec =
-    tie.close
-    (tie.spec (λ c. search needs) (λ c. search needs) returns returns-2)
+crystal-spec = tie.close (tie.spec (λ c. search needs) (λ c. search needs) (λ c. rw (c .before .crystal .given .1))
+    (λ c. rw (c .enum-told .given .1)))

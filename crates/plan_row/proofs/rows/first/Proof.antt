@@ -3,14 +3,8 @@ use borrow.Author.Needs.{needs}
 use Rattle.plan_row.proofs.rows.first.Statement.{statement}
 use Rattle.plan_row.proofs.rows.first.Tie as tie
 
-returns : tie.Need-returns
-returns c = rw (c .before .before .before .before .ref-code .ensures, c .before .before .given .given .1)
-
-returns-2 : tie.Need-returns-2
-returns-2 c = rw (c .before .before .before .ref-code .ensures, c .before .enum-told .given .1)
-
 pub first-spec : {M : Type 1} → statement M
-first-spec =
-    tie.close
-    (tie.spec (λ c κs. search needs) (λ c. search needs) (λ c. search needs) (λ c. search needs) (λ c. search needs)
-    (λ c. search needs) returns returns-2)
+first-spec = tie.close (tie.spec (λ c κs. search needs) (λ c. search needs) (λ c. search needs) (λ c. search needs)
+    (λ c. search needs) (λ c. search needs)
+    (λ c. rw (c .before .before .before .before .ref-code .ensures, c .before .before .given .given .1))
+    (λ c. rw (c .before .before .before .ref-code .ensures, c .before .enum-told .given .1)))

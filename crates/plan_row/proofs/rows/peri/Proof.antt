@@ -3,13 +3,6 @@ use borrow.Author.Needs.{needs}
 use Rattle.plan_row.proofs.rows.peri.Statement.{statement}
 use Rattle.plan_row.proofs.rows.peri.Tie as tie
 
-returns : tie.Need-returns
-returns c = rw (c .peri-aux .ensures, c .before .before .peri .given .1)
-
-returns-2 : tie.Need-returns-2
-returns-2 c = rw (c .enum-told .given .1)
-
 pub peri-spec : {M : Type 1} → statement M
-peri-spec =
-    tie.close
-    (tie.spec (λ c. search needs) (λ c κs. search needs) (λ c. search needs) (λ c. search needs) returns returns-2)
+peri-spec = tie.close (tie.spec (λ c. search needs) (λ c κs. search needs) (λ c. search needs) (λ c. search needs)
+    (λ c. rw (c .peri-aux .ensures, c .before .before .peri .given .1)) (λ c. rw (c .enum-told .given .1)))

@@ -3,18 +3,11 @@ use borrow.Author.Needs.{needs}
 use Rattle.plan_row.proofs.rows.ring.Statement.{statement}
 use Rattle.plan_row.proofs.rows.ring.Tie as tie
 
-returns : tie.Need-returns
-returns c = rw (
-  c .before .before .before .before .before .before .before .before .before .range-code .ensures,
-  c .before .before .before .before .before .before .before .before .before .before .before .before .ring .given .1,
-)
-
-returns-2 : tie.Need-returns-2
-returns-2 c = rw (c .enum-told .given .1)
-
 pub ring-spec : {M : Type 1} → statement M
-ring-spec =
-    tie.close
-    (tie.spec (λ c. search needs) (λ c κs. search needs) (λ c. search needs) (λ c. search needs) (λ c. search needs)
+ring-spec = tie.close (tie.spec (λ c. search needs) (λ c κs. search needs) (λ c. search needs) (λ c. search needs)
     (λ c. search needs) (λ c. search needs) (λ c. search needs) (λ c. search needs) (λ c. search needs)
-    (λ c. search needs) (λ c. search needs) (λ c. search needs) returns returns-2)
+    (λ c. search needs) (λ c. search needs) (λ c. search needs) (λ c. search needs)
+    (λ c. rw (
+      c .before .before .before .before .before .before .before .before .before .range-code .ensures,
+      c .before .before .before .before .before .before .before .before .before .before .before .before .ring .given .1,
+    )) (λ c. rw (c .enum-told .given .1)))

@@ -3,14 +3,8 @@ use borrow.Author.Needs.{needs}
 use Rattle.plan_row.proofs.rows.rtc.Statement.{statement}
 use Rattle.plan_row.proofs.rows.rtc.Tie as tie
 
-returns : tie.Need-returns
-returns c = rw (c .before .before .aux-code .ensures, c .before .before .before .before .rtc .given .1)
-
-returns-2 : tie.Need-returns-2
-returns-2 c = rw (c .enum-told .given .1)
-
 pub rtc-spec : {M : Type 1} → statement M
-rtc-spec =
-    tie.close
-    (tie.spec (λ c. search needs) (λ c κs. search needs) (λ c. search needs) (λ c. search needs) (λ c. search needs)
-    (λ c. search needs) returns returns-2)
+rtc-spec = tie.close (tie.spec (λ c. search needs) (λ c κs. search needs) (λ c. search needs) (λ c. search needs)
+    (λ c. search needs) (λ c. search needs)
+    (λ c. rw (c .before .before .aux-code .ensures, c .before .before .before .before .rtc .given .1))
+    (λ c. rw (c .enum-told .given .1)))

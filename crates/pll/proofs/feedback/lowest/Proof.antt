@@ -10,31 +10,17 @@ use Rattle.pll.proofs.Ends.{test-served, test-unserved, lowest-none, lo
 use Rattle.pll.proofs.feedback.lowest.Statement.{statement}
 use Rattle.pll.proofs.feedback.lowest.Tie as tie
 
-div-fbdiv : tie.Need-div-fbdiv
-div-fbdiv c =
-    let tested = c .before in
-    omega (arith, test-served (tested .before .args .input-hz) (tested .served .result) (tested .served .ensures) (c .if1 .taken))
-
-add-fbdiv : tie.Need-add-fbdiv
-add-fbdiv c = omega (arith, div-le-self (vcoMin - 1) (c .before .before .args .input-hz))
-
-returns : tie.Need-returns
-returns c =
-    let tested = c .before .before in
-    sym (lowest-at-least _ (test-served _ _ (tested .served .ensures) (c .before .if1 .taken)) (omega arith))
-
-returns-2 : tie.Need-returns-2
-returns-2 c =
-    let tested = c .before .before in
-    sym (lowest-above _ (test-served _ _ (tested .served .ensures) (c .before .if1 .taken)) (omega arith))
-
-returns-3 : tie.Need-returns-3
-returns-3 c =
-    let tested = c .before in
-    sym (lowest-none _ (test-unserved _ _ (tested .served .ensures) (c .if1 .left)))
-
 pub lowest-spec : {M : Type 1} → statement M
-lowest-spec =
-    tie.close
-    (tie.spec (λ c κs. search needs) (λ c. search needs) (λ c. search needs) div-fbdiv add-fbdiv
-    (λ c. search needs) (λ c. search needs) returns returns-2 returns-3)
+lowest-spec = tie.close (tie.spec (λ c κs. search needs) (λ c. search needs) (λ c. search needs)
+    (λ c. let tested = c .before in omega (
+      arith,
+      test-served (tested .before .args .input-hz)
+          (tested .served .result) (tested .served .ensures) (c .if1 .taken),
+    ))
+    (λ c. omega (arith, div-le-self (vcoMin - 1) (c .before .before .args .input-hz))) (λ c. search needs)
+    (λ c. search needs)
+    (λ c. sym (lowest-at-least _ (test-served _ _ (c .before .before .served .ensures)
+    (c .before .if1 .taken)) (omega arith)))
+    (λ c. sym (lowest-above _ (test-served _ _ (c .before .before .served .ensures)
+    (c .before .if1 .taken)) (omega arith)))
+    (λ c. sym (lowest-none _ (test-unserved _ _ (c .before .served .ensures) (c .if1 .left)))))

@@ -1,11 +1,11 @@
 -- `runner::kept::same_bytes` meets its contract. Invariant: what is left decides, with what was seen. Measure: what is left.
 -- Assumes nothing.
-use mathlib.Core.Path.{_≡_, refl, sym, ap, _∙_}
-use mathlib.Core.Bool.{true, false, _&&_}
+use mathlib.Core.Path.{_≡_, refl, sym, _∙_}
+use mathlib.Core.Bool.{_&&_}
 use Prim.Native.Nat.{_-_, _≤_}
 use native.Mathlib.Omega.{arith}
 use borrow.Author.Needs.{needs}
-use lib.ListN.{length, drop, drop-of-length-le}
+use lib.ListN.{length, drop}
 use Rattle.text.specs.Ascii.{same}
 use Rattle.runner.proofs.Same.{same-next, same-other, same-end}
 use Rattle.runner.proofs.kept.same_bytes.Statement.{statement}
@@ -18,32 +18,18 @@ Inv-loop a b equal₀ i₀ equal i =
 abbrev μ-loop : tie.MeasureT-loop
 μ-loop a b equal₀ i₀ equal i = length a - i
 
-returns : tie.Need-returns Inv-loop μ-loop
-returns c =
-    let a = c .before .args .a .now in
-    let b = c .before .args .b .now in
-    sym (same-other a b (λ (e : length a ≡ length b). absurd (omega (arith, e))))
-
-loop-holds : tie.Need-loop-holds Inv-loop μ-loop
-loop-holds c = (omega arith, omega arith, refl)
-
 loop-again : tie.Need-loop-again Inv-loop μ-loop
 loop-again c =
-    let at-loop = c .before .before .before in
-    let a = at-loop .before .before .args .a .now in
+    let at-loop = c .before .before .before in let a = at-loop .before .before .args .a .now in
     let b = at-loop .before .before .args .b .now in
     let next = same-next a b (at-loop .loop .i) (at-loop .loop .equal) (omega arith) (omega arith) in
     (omega arith, at-loop .loop .inv .1, next ∙ at-loop .loop .inv .2)
 
-returns-2 : tie.Need-returns-2 Inv-loop μ-loop
-returns-2 c =
-    let at-loop = c .before in
-    let a = at-loop .before .before .args .a .now in
-    let b = at-loop .before .before .args .b .now in
-    sym (same-end a b (at-loop .loop .i) _ (omega arith) (at-loop .loop .inv .1)) ∙ at-loop .loop .inv .2
-
 pub same-bytes-spec : {M : Type 1} → statement M
-same-bytes-spec =
-    tie.close
-    (tie.spec Inv-loop μ-loop returns loop-holds (λ c. search needs) (λ c. search needs) (λ c. search needs)
-    (λ c. search needs) loop-again returns-2)
+same-bytes-spec = tie.close (tie.spec Inv-loop μ-loop
+    (λ c. let a = c .before .args .a .now in let b = c .before .args .b .now in sym (same-other a b (λ
+    (e : length a ≡ length b). absurd (omega (arith, e))))) (λ c. (omega arith, omega arith, refl))
+    (λ c. search needs) (λ c. search needs) (λ c. search needs) (λ c. search needs) loop-again
+    (λ c. let at-loop = c .before in let a = at-loop .before .before .args .a .now in
+    let b = at-loop .before .before .args .b .now in sym (same-end a b (at-loop .loop .i) _ (omega arith)
+    (at-loop .loop .inv .1)) ∙ at-loop .loop .inv .2))

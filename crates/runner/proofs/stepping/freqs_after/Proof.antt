@@ -27,10 +27,8 @@ unchanged (Refused n) freqs k = refl
 
 pub freqs-after-spec : {M : Type 1} → statement M
 unfolding storedBy
-freqs-after-spec =
-    tie.close
-    (tie.spec
-    (λ c. search needs) (λ c. unchanged (c .before .args .reply) (c .before .args .freqs) (c .match .keys2))
+freqs-after-spec = tie.close (tie.spec (λ c. search needs)
+    (λ c. unchanged (c .before .args .reply) (c .before .args .freqs) (c .match .keys2))
     (λ c. rw (c .before .before .before .reply .given .1, ne-eqb _ _ (c .if1 .taken)))
     (λ c. let handed = c .before .before .before .before in
     omega (arith, store-fits _ (rw (handed .reply .given .1) at (handed .before .before .pre)) (c .before .if1 .left) .1))

@@ -8,6 +8,5 @@ use Rattle.runner.proofs.stepping.one_more.Tie as tie
 
 pub one-more-spec : {M : Type 1} → statement M
 unfolding oneMore
-one-more-spec =
-    tie.close
-    (tie.spec (λ c. search needs) (λ c. simp (lt-ltb _ _ (c .if1 .taken))) (λ c. simp (le-ltb _ _ (c .if1 .left))))
+one-more-spec = tie.close (tie.spec (λ c. search needs) (λ c. simp (lt-ltb _ _ (c .if1 .taken)))
+    (λ c. simp (le-ltb _ _ (c .if1 .left))))

@@ -6,22 +6,11 @@ use Rattle.runner.specs.Run.{takeStep}
 use Rattle.runner.proofs.stepping.take_step.Statement.{statement}
 use Rattle.runner.proofs.stepping.take_step.Tie as tie
 
-returns : tie.Need-returns
-unfolding takeStep
-returns c =
-    let wait = c .before in
-    simp (sym (wait .before .is-wait .ensures) ∙ wait .if1 .taken, c .if2 .taken)
-
-returns-2 : tie.Need-returns-2
-unfolding takeStep
-returns-2 c =
-    let wait = c .before .before in
-    simp (sym (wait .before .is-wait .ensures) ∙ wait .if1 .taken, c .before .if2 .left) (c .wait-unready .ensures)
-
 pub take-step-spec : {M : Type 1} → statement M
 unfolding takeStep
-take-step-spec =
-    tie.close
-    (tie.spec
-    (λ c. search needs) (λ c κs. search needs) returns (λ c κs. search needs) returns-2
+take-step-spec = tie.close (tie.spec (λ c. search needs) (λ c κs. search needs)
+    (λ c. let wait = c .before in simp (sym (wait .before .is-wait .ensures) ∙ wait .if1 .taken, c .if2 .taken))
+    (λ c κs. search needs)
+    (λ c. let wait = c .before .before in
+    simp (sym (wait .before .is-wait .ensures) ∙ wait .if1 .taken, c .before .if2 .left) (c .wait-unready .ensures))
     (λ c. simp (sym (c .before .is-wait .ensures) ∙ c .if1 .left)))

@@ -8,24 +8,11 @@ use Rattle.runner.specs.Run.{unready}
 use Rattle.runner.proofs.stepping.wait_unready.Statement.{statement}
 use Rattle.runner.proofs.stepping.wait_unready.Tie as tie
 
-returns-2 : tie.Need-returns-2
-unfolding unready
-returns-2 c =
-    let lock = c .before .before .before in
-    let polls = lock .before .before .args .s .«lock_polls» in
-    simp (eq-eqb _ _ (lock .if1 .left), lt-ltb (polls + 1) 1000000 (omega arith), lock .before .one-more .ensures)
-
-returns-3 : tie.Need-returns-3
-unfolding unready
-returns-3 c =
-    let lock = c .before .before in
-    let polls = lock .before .before .args .s .«lock_polls» in
-    simp (eq-eqb _ _ (lock .if1 .left), le-ltb (polls + 1) 1000000 (omega arith), lock .before .one-more .ensures)
-
 pub wait-unready-spec : {M : Type 1} → statement M
 unfolding unready
-wait-unready-spec =
-    tie.close
-    (tie.spec
-    (λ c κs. search needs) (λ c. simp (ne-eqb _ _ (c .if1 .taken), c .before .one-more .ensures))
-    (λ c. search needs) returns-2 returns-3)
+wait-unready-spec = tie.close (tie.spec (λ c κs. search needs)
+    (λ c. simp (ne-eqb _ _ (c .if1 .taken), c .before .one-more .ensures)) (λ c. search needs)
+    (λ c. let lock = c .before .before .before in let polls = lock .before .before .args .s .«lock_polls» in
+    simp (eq-eqb _ _ (lock .if1 .left), lt-ltb (polls + 1) 1000000 (omega arith), lock .before .one-more .ensures))
+    (λ c. let lock = c .before .before in let polls = lock .before .before .args .s .«lock_polls» in
+    simp (eq-eqb _ _ (lock .if1 .left), le-ltb (polls + 1) 1000000 (omega arith), lock .before .one-more .ensures)))

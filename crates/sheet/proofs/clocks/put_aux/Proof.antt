@@ -4,24 +4,17 @@ use borrow.Author.Needs.{needs}
 use Rattle.sheet.proofs.clocks.put_aux.Statement.{statement}
 use Rattle.sheet.proofs.clocks.put_aux.Tie as tie
 
-returns : tie.Need-returns
+pub put-aux-spec : {M : Type 1} → statement M
 unfolding auxPart
-returns c =
-    let add2 = c .before .before in let add1 = add2 .before .before .before in
-    let aux-code = add1 .before .before .before in let aux = aux-code .before .before in
+put-aux-spec = tie.close (tie.spec (λ c. search needs) (λ c κs. search needs) (λ c. search needs) (λ c. search needs)
+    (λ c κs. search needs) (λ c. search needs) (λ c κs. search needs) (λ c κs. search needs) (λ c. search needs)
+    (λ c κs. search needs)
+    (λ c. let add2 = c .before .before in let add1 = add2 .before .before .before in
+    let aux-code = add1 .before .before .before in
     rw (
       c .add22 .ensures,
       add2 .add2 .ensures,
       add1 .add1 .ensures,
       aux-code .aux-code .ensures,
-      aux .aux .given .1,
-    )
-
-pub put-aux-spec : {M : Type 1} → statement M
-unfolding auxPart
-put-aux-spec =
-    tie.close
-    (tie.spec
-    (λ c. search needs) (λ c κs. search needs) (λ c. search needs) (λ c. search needs) (λ c κs. search needs)
-    (λ c. search needs) (λ c κs. search needs) (λ c κs. search needs) (λ c. search needs) (λ c κs. search needs)
-    returns (λ c. rw (c .add23 .ensures, c .before .before .enum-told .given .1)))
+      aux-code .before .before .aux .given .1,
+    )) (λ c. rw (c .add23 .ensures, c .before .before .enum-told .given .1)))

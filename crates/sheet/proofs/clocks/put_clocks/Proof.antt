@@ -10,9 +10,8 @@ unfolding clocksPart
 returns c =
     let add1 = c .before .before in let put-rtc = add1 .before .before in let put-aux2 = put-rtc .before .before in
     let put-aux = put-aux2 .before .before .before in let put-peri = put-aux .before .before .before in
-    let put-sys = put-peri .before .before in
-    let put-ref = put-sys .before .before in let put-sources = put-ref .before .before in
-    let release-mask = put-sources .before .before in
+    let put-sys = put-peri .before .before in let put-ref = put-sys .before .before in
+    let put-sources = put-ref .before .before in
     rw (
       c .add12 .ensures,
       add1 .add1 .ensures,
@@ -23,12 +22,10 @@ returns c =
       put-sys .put-sys .ensures,
       put-ref .put-ref .ensures,
       put-sources .put-sources .ensures,
-      release-mask .release-mask .ensures,
+      put-sources .before .before .release-mask .ensures,
     ) (simp pushes-append)
 
 pub put-clocks-spec : {M : Type 1} → statement M
-put-clocks-spec =
-    tie.close
-    (tie.spec (λ c κs. search needs) (λ c κs. search needs) (λ c κs. search needs) (λ c κs. search needs)
-    (λ c κs. search needs) (λ c. search needs) (λ c κs. search needs) (λ c. search needs) (λ c κs. search needs)
-    (λ c κs. search needs) (λ c κs. search needs) (λ c κs. search needs) returns)
+put-clocks-spec = tie.close (tie.spec (λ c κs. search needs) (λ c κs. search needs) (λ c κs. search needs)
+    (λ c κs. search needs) (λ c κs. search needs) (λ c. search needs) (λ c κs. search needs) (λ c. search needs)
+    (λ c κs. search needs) (λ c κs. search needs) (λ c κs. search needs) (λ c κs. search needs) returns)

@@ -4,13 +4,7 @@ use borrow.Author.Needs.{needs}
 use Rattle.sheet.proofs.clocks.put_rtc.Statement.{statement}
 use Rattle.sheet.proofs.clocks.put_rtc.Tie as tie
 
-returns : tie.Need-returns
-unfolding rtcPart
-returns c = rw (c .before .before .enum-told .given .1, c .put-rtc-2040 .ensures)
-
-returns-2 : tie.Need-returns-2
-unfolding rtcPart
-returns-2 c = rw (c .enum-told2 .given .1)
-
 pub put-rtc-spec : {M : Type 1} → statement M
-put-rtc-spec = tie.close (tie.spec (λ c. search needs) (λ c κs. search needs) (λ c. search needs) returns returns-2)
+unfolding rtcPart
+put-rtc-spec = tie.close (tie.spec (λ c. search needs) (λ c κs. search needs) (λ c. search needs)
+    (λ c. rw (c .before .before .enum-told .given .1, c .put-rtc-2040 .ensures)) (λ c. rw (c .enum-told2 .given .1)))

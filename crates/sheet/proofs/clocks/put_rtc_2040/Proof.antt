@@ -4,20 +4,17 @@ use borrow.Author.Needs.{needs}
 use Rattle.sheet.proofs.clocks.put_rtc_2040.Statement.{statement}
 use Rattle.sheet.proofs.clocks.put_rtc_2040.Tie as tie
 
-returns : tie.Need-returns
-unfolding rtcPart
-returns c =
-    let add22 = c .before .before in let add2 = add22 .before .before .before in
-    let aux-code = add2 .before .before .before .before in let rtc = aux-code .before .before in
-    rw (c .add23 .ensures, add22 .add22 .ensures, add2 .add2 .ensures, aux-code .aux-code .ensures, rtc .rtc .given .1)
-
-returns-2 : tie.Need-returns-2
-unfolding rtcPart
-returns-2 c = rw (c .add24 .ensures, c .before .before .enum-told .given .1)
-
 pub put-rtc-2040-spec : {M : Type 1} → statement M
-put-rtc-2040-spec =
-    tie.close
-    (tie.spec (λ c. search needs) (λ c κs. search needs) (λ c. search needs) (λ c. search needs) (λ c. search needs)
-    (λ c κs. search needs) (λ c. search needs) (λ c κs. search needs) (λ c κs. search needs) (λ c. search needs)
-    (λ c κs. search needs) returns returns-2)
+unfolding rtcPart
+put-rtc-2040-spec = tie.close (tie.spec (λ c. search needs) (λ c κs. search needs) (λ c. search needs)
+    (λ c. search needs) (λ c. search needs) (λ c κs. search needs) (λ c. search needs) (λ c κs. search needs)
+    (λ c κs. search needs) (λ c. search needs) (λ c κs. search needs)
+    (λ c. let add22 = c .before .before in let add2 = add22 .before .before .before in
+    let aux-code = add2 .before .before .before .before in
+    rw (
+      c .add23 .ensures,
+      add22 .add22 .ensures,
+      add2 .add2 .ensures,
+      aux-code .aux-code .ensures,
+      aux-code .before .before .rtc .given .1,
+    )) (λ c. rw (c .add24 .ensures, c .before .before .enum-told .given .1)))

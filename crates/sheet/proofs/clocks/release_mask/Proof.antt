@@ -9,20 +9,17 @@ unfolding releaseMask
 returns c =
     let rtc-bits = c .before .before in let aux-bits2 = rtc-bits .before in let aux-bits = aux-bits2 .before in
     let peri-bits = aux-bits .before in
-    let facts = peri-bits .before in
     rw (
       c .less .ensures,
       rtc-bits .rtc-bits .ensures,
       aux-bits2 .aux-bits2 .ensures,
       aux-bits .aux-bits .ensures,
       peri-bits .peri-bits .ensures,
-      facts .facts .ensures,
+      peri-bits .before .facts .ensures,
     )
 
 pub release-mask-spec : {M : Type 1} → statement M
-release-mask-spec =
-    tie.close
-    (tie.spec (λ c κs. search needs) (λ c κs. search needs) (λ c. search needs) (λ c κs. search needs)
-    (λ c. search needs) (λ c. search needs) (λ c κs. search needs) (λ c. search needs) (λ c. search needs)
-    (λ c κs. search needs) (λ c. search needs) (λ c. search needs) (λ c. search needs) (λ c κs. search needs)
-    returns)
+release-mask-spec = tie.close (tie.spec (λ c κs. search needs) (λ c κs. search needs) (λ c. search needs)
+    (λ c κs. search needs) (λ c. search needs) (λ c. search needs) (λ c κs. search needs) (λ c. search needs)
+    (λ c. search needs) (λ c κs. search needs) (λ c. search needs) (λ c. search needs) (λ c. search needs)
+    (λ c κs. search needs) returns)

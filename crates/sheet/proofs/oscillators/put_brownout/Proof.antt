@@ -3,12 +3,7 @@ use borrow.Author.Needs.{needs}
 use Rattle.sheet.proofs.oscillators.put_brownout.Statement.{statement}
 use Rattle.sheet.proofs.oscillators.put_brownout.Tie as tie
 
-returns : tie.Need-returns
-returns c = rw (c .before .before .enum-told .given .1, c .add1 .ensures)
-
-returns-2 : tie.Need-returns-2
-returns-2 c = rw (c .before .before .enum-told2 .given .1, c .add12 .ensures)
-
 pub put-brownout-spec : {M : Type 1} → statement M
-put-brownout-spec =
-    tie.close (tie.spec (λ c. search needs) (λ c κs. search needs) (λ c. search needs) (λ c κs. search needs) returns returns-2)
+put-brownout-spec = tie.close (tie.spec (λ c. search needs) (λ c κs. search needs) (λ c. search needs)
+    (λ c κs. search needs) (λ c. rw (c .before .before .enum-told .given .1, c .add1 .ensures))
+    (λ c. rw (c .before .before .enum-told2 .given .1, c .add12 .ensures)))

@@ -3,12 +3,7 @@ use borrow.Author.Needs.{needs}
 use Rattle.sheet.proofs.oscillators.put_code.Statement.{statement}
 use Rattle.sheet.proofs.oscillators.put_code.Tie as tie
 
-returns : tie.Need-returns
-returns c = rw (c .before .before .enum-told .given .1, c .add1 .ensures)
-
-returns-2 : tie.Need-returns-2
-returns-2 c = rw (c .before .before .enum-told2 .given .1, c .add12 .ensures)
-
 pub put-code-spec : {M : Type 1} → statement M
-put-code-spec =
-    tie.close (tie.spec (λ c. search needs) (λ c κs. search needs) (λ c. search needs) (λ c κs. search needs) returns returns-2)
+put-code-spec = tie.close (tie.spec (λ c. search needs) (λ c κs. search needs) (λ c. search needs)
+    (λ c κs. search needs) (λ c. rw (c .before .before .enum-told .given .1, c .add1 .ensures))
+    (λ c. rw (c .before .before .enum-told2 .given .1, c .add12 .ensures)))

@@ -9,9 +9,8 @@ returns : tie.Need-returns
 unfolding crystalPart
 returns c =
     let pll = c .before .before in let add02 = pll .before .before in let add0 = add02 .before .before in
-    let add1 = add0 .before .before in let crystal = add1 .before .before .before in
-    rw (
-      crystal .crystal .given .1,
+    let add1 = add0 .before .before in rw (
+      add1 .before .before .before .crystal .given .1,
       pushes-append,
       c .put-pll2 .ensures,
       pll .put-pll .ensures,
@@ -22,8 +21,6 @@ returns c =
 
 pub put-crystal-spec : {M : Type 1} → statement M
 unfolding crystalPart
-put-crystal-spec =
-    tie.close
-    (tie.spec
-    (λ c. search needs) (λ c κs. search needs) (λ c κs. search needs) (λ c κs. search needs) (λ c κs. search needs)
-    (λ c κs. search needs) (λ c. search needs) returns (λ c. rw (c .enum-told .given .1)))
+put-crystal-spec = tie.close (tie.spec (λ c. search needs) (λ c κs. search needs) (λ c κs. search needs)
+    (λ c κs. search needs) (λ c κs. search needs) (λ c κs. search needs) (λ c. search needs) returns
+    (λ c. rw (c .enum-told .given .1)))

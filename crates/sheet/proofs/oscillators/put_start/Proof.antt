@@ -3,16 +3,9 @@ use borrow.Author.Needs.{needs}
 use Rattle.sheet.proofs.oscillators.put_start.Statement.{statement}
 use Rattle.sheet.proofs.oscillators.put_start.Tie as tie
 
-returns : tie.Need-returns
-returns c = rw (c .before .before .enum-told .given .1, c .put-head .ensures)
-
-returns-2 : tie.Need-returns-2
-returns-2 c =
-    let add0 = c .before .before in
-    rw (add0 .before .before .enum-told2 .given .1, c .put-head2 .ensures, add0 .add0 .ensures)
-
 pub put-start-spec : {M : Type 1} → statement M
-put-start-spec =
-    tie.close
-    (tie.spec (λ c. search needs) (λ c κs. search needs) (λ c. search needs) (λ c κs. search needs) (λ c κs. search needs)
-    returns returns-2)
+put-start-spec = tie.close (tie.spec (λ c. search needs) (λ c κs. search needs) (λ c. search needs)
+    (λ c κs. search needs) (λ c κs. search needs)
+    (λ c. rw (c .before .before .enum-told .given .1, c .put-head .ensures))
+    (λ c. let add0 = c .before .before in
+    rw (add0 .before .before .enum-told2 .given .1, c .put-head2 .ensures, add0 .add0 .ensures)))

@@ -3,8 +3,5 @@ use borrow.Author.Needs.{needs}
 use Rattle.sleep.proofs.bits.crystal_runs.Statement.{statement}
 use Rattle.sleep.proofs.bits.crystal_runs.Tie as tie
 
-returns : tie.Need-returns
-returns c = rw (c .field .ensures)
-
 pub crystal-runs-spec : {M : Type 1} → statement M
-crystal-runs-spec = tie.close (tie.spec (λ c κs. search needs) returns)
+crystal-runs-spec = tie.close (tie.spec (λ c κs. search needs) (λ c. rw (c .field .ensures)))

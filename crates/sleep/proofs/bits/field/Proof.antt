@@ -8,8 +8,6 @@ use Rattle.sleep.proofs.bits.field.Statement.{statement}
 use Rattle.sleep.proofs.bits.field.Tie as tie
 
 pub field-spec : {M : Type 1} → statement M
-field-spec =
-    tie.close
-    (tie.spec (λ c. search needs) (λ c. search needs)
+field-spec = tie.close (tie.spec (λ c. search needs) (λ c. search needs)
     (λ c. omega (arith, one-shl (c .args .size) (c .pre .1), pow-pos (c .args .size)))
     (λ c. low-bits (c .args .word / 2 ^ c .args .low) (c .args .size) (c .pre .1)))

@@ -20,19 +20,15 @@ add-result-2 c =
     let high = high-exact (a .low) (a .size) (a .value) (a .word) (p .0) (p .1) (omega arith) in
     let value = value-exact (a .low) (a .size) (a .value) (a .word) (p .0) (p .1) (omega arith) in
     let fits = word-fits (a .low) (a .size) (a .value) (a .word) (p .0) (p .1) (omega arith) in
-    let rest = rw div-one at (c .field .ensures) in
-    omega (arith, high, value, fits, rest)
+    let rest = rw div-one at (c .field .ensures) in omega (arith, high, value, fits, rest)
 
 returns : tie.Need-returns
 returns c =
     let a = c .before .args in let p = c .before .pre in
     let high = high-exact (a .low) (a .size) (a .value) (a .word) (p .0) (p .1) (omega arith) in
     let value = value-exact (a .low) (a .size) (a .value) (a .word) (p .0) (p .1) (omega arith) in
-    let rest = rw div-one at (c .field .ensures) in
-    omega (arith, high, value, rest)
+    let rest = rw div-one at (c .field .ensures) in omega (arith, high, value, rest)
 
 pub with-field-spec : {M : Type 1} → statement M
-with-field-spec =
-    tie.close
-    (tie.spec (λ c. search needs) (λ c. search needs) (λ c. search needs) (λ c. search needs) add-result
-    (λ c κs. search needs) add-result-2 returns)
+with-field-spec = tie.close (tie.spec (λ c. search needs) (λ c. search needs) (λ c. search needs) (λ c. search needs)
+    add-result (λ c κs. search needs) add-result-2 returns)

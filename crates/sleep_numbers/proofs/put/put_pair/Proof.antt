@@ -4,12 +4,8 @@ use Rattle.base.proofs.Placing.{placed-append}
 use Rattle.sleep_numbers.proofs.put.put_pair.Statement.{statement}
 use Rattle.sleep_numbers.proofs.put.put_pair.Tie as tie
 
-returns : tie.Need-returns
-returns c =
-    let put-number2 = c .before .before in let put-number = put-number2 .before .before .before .before in
-    placed-append (put-number .put-number .ensures) (put-number2 .put-number2 .ensures)
-
 pub put-pair-spec : {M : Type 1} → statement M
-put-pair-spec =
-    tie.close
-    (tie.spec (λ c κs. search needs) (λ c κs. search needs) (λ c. search needs) returns)
+put-pair-spec = tie.close (tie.spec (λ c κs. search needs) (λ c κs. search needs) (λ c. search needs)
+    (λ c. let put-number2 = c .before .before in
+    placed-append (put-number2 .before .before .before .before .put-number .ensures)
+    (put-number2 .put-number2 .ensures)))

@@ -4,15 +4,10 @@ use Rattle.base.proofs.Placing.{placed-append}
 use Rattle.sleep_numbers.proofs.put.put_slot.Statement.{statement}
 use Rattle.sleep_numbers.proofs.put.put_slot.Tie as tie
 
-returns : tie.Need-returns
-returns c =
-    let put-numbers = c .before .before in let put-number = put-numbers .before .before .before .before .before in
-    let bit = put-number .before in
-    let flag = rw (bit .bit .ensures) at (put-number .put-number .ensures) in
-    placed-append flag (put-numbers .put-numbers .ensures)
-
 pub put-slot-spec : {M : Type 1} → statement M
-put-slot-spec =
-    tie.close
-    (tie.spec (λ c κs. search needs) (λ c κs. search needs) (λ c. search needs) (λ c κs. search needs)
-    (λ c. search needs) returns)
+put-slot-spec = tie.close (tie.spec (λ c κs. search needs) (λ c κs. search needs) (λ c. search needs)
+    (λ c κs. search needs) (λ c. search needs)
+    (λ c. let put-numbers = c .before .before in
+    let put-number = put-numbers .before .before .before .before .before in
+    let flag = rw (put-number .before .bit .ensures) at (put-number .put-number .ensures) in
+    placed-append flag (put-numbers .put-numbers .ensures)))

@@ -15,17 +15,11 @@ use Rattle.step.proofs.access.copy_turned.Tie as tie
 
 abbrev Inv-loop : tie.InvT-loop
 Inv-loop words buf₀ i₀ buf i =
-    (i ≤ length words) × (8 * length words ≤ length buf₀) × (length buf ≡ length buf₀)
-    × (buf ≡ bytesOf (map turnedOf (take i words)) ++ drop (8 * i) buf₀)
+    (i ≤ length words) × (8 * length words ≤ length buf₀) × (length buf ≡ length buf₀) × (buf ≡ bytesOf
+    (map turnedOf (take i words)) ++ drop (8 * i) buf₀)
 
 abbrev μ-loop : tie.MeasureT-loop
 μ-loop words buf₀ i₀ buf i = length words - i
-
-returns : tie.Need-returns Inv-loop μ-loop
-returns c = copied-short _ _ (omega arith)
-
-loop-holds : tie.Need-loop-holds Inv-loop μ-loop
-loop-holds c = (omega arith, omega arith, refl, refl)
 
 loop-again : tie.Need-loop-again Inv-loop μ-loop
 loop-again c =
@@ -40,9 +34,6 @@ loop-again c =
           (turn .loop .inv .3),
     )
 
-same-length : tie.Need-same-length Inv-loop μ-loop
-same-length c = c .before .loop .inv .2
-
 returns-2 : tie.Need-returns-2 Inv-loop μ-loop
 returns-2 c =
     let turn = c .before in let start = turn .before .before .before .before in
@@ -52,7 +43,6 @@ returns-2 c =
     (room .0, turn .loop .inv .3 ∙ rw (all, take-length ws) (room .1))
 
 pub copy-turned-spec : {M : Type 1} → statement M
-copy-turned-spec =
-    tie.close
-    (tie.spec Inv-loop μ-loop returns loop-holds (λ c. omega arith) (λ c. omega arith) (λ c. omega arith)
-    (λ c κs. omega arith) (λ c. omega arith) (λ c. omega arith) loop-again same-length returns-2)
+copy-turned-spec = tie.close (tie.spec Inv-loop μ-loop (λ c. copied-short _ _ (omega arith))
+    (λ c. (omega arith, omega arith, refl, refl)) (λ c. omega arith) (λ c. omega arith) (λ c. omega arith)
+    (λ c κs. omega arith) (λ c. omega arith) (λ c. omega arith) loop-again (λ c. c .before .loop .inv .2) returns-2)

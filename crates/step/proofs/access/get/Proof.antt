@@ -6,11 +6,8 @@ use Rattle.step.proofs.Runs.{eight}
 use Rattle.step.proofs.access.get.Statement.{statement}
 use Rattle.step.proofs.access.get.Tie as tie
 
-returns : tie.Need-returns
-returns c =
-    let s = c .before .before .before in
-    rw (c .turned .ensures, c .before .get-reversed .ensures, eight (now (s .args .buf)) (s .args .at) (s .pre))
-    (word-turned _ _ _ _ _ _ _ _)
-
 pub get-spec : {M : Type 1} → statement M
-get-spec = tie.close (tie.spec (λ c κs. search needs) (λ c κs. search needs) returns)
+get-spec = tie.close (tie.spec (λ c κs. search needs) (λ c κs. search needs)
+    (λ c. let s = c .before .before .before in
+    rw (c .turned .ensures, c .before .get-reversed .ensures, eight (now (s .args .buf)) (s .args .at) (s .pre))
+    (word-turned _ _ _ _ _ _ _ _)))

@@ -4,7 +4,5 @@ use Rattle.step.proofs.access.moved_over.Statement.{statement}
 use Rattle.step.proofs.access.moved_over.Tie as tie
 
 pub moved-over-spec : {M : Type 1} → statement M
-moved-over-spec =
-    tie.close
-    (tie.spec (λ c κs. search needs) (λ c κs. search needs)
+moved-over-spec = tie.close (tie.spec (λ c κs. search needs) (λ c κs. search needs)
     (λ c. rw (c .before .bits .ensures .0) at (c .place .ensures)))

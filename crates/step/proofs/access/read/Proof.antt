@@ -6,13 +6,8 @@ use Rattle.step.proofs.Accesses.{read-room, read-short}
 use Rattle.step.proofs.access.read.Statement.{statement}
 use Rattle.step.proofs.access.read.Tie as tie
 
-returns-3 : tie.Need-returns-3
-returns-3 c =
-    let a = c .before .before .before .before .before .args in
-    cc (c .unpack .ensures, c .before .get .ensures, read-room (now (a .buf)) (a .at) (omega arith))
-
 pub read-spec : {M : Type 1} → statement M
-read-spec =
-    tie.close
-    (tie.spec (λ c. read-short _ _ (omega arith)) (λ c. search needs) (λ c. read-short _ _ (omega arith))
-    (λ c κs. search needs) (λ c κs. search needs) returns-3)
+read-spec = tie.close (tie.spec (λ c. read-short _ _ (omega arith)) (λ c. search needs)
+    (λ c. read-short _ _ (omega arith)) (λ c κs. search needs) (λ c κs. search needs)
+    (λ c. let a = c .before .before .before .before .before .args in
+    cc (c .unpack .ensures, c .before .get .ensures, read-room (now (a .buf)) (a .at) (omega arith))))

@@ -7,13 +7,8 @@ use Rattle.step.proofs.Accesses.{word-room, word-short}
 use Rattle.step.proofs.access.word.Statement.{statement}
 use Rattle.step.proofs.access.word.Tie as tie
 
-returns-3 : tie.Need-returns-3
-returns-3 c =
-    let a = c .before .before .before .before .args in
-    c .get .ensures ∙ sym (word-room (now (a .buf)) (a .at) (omega arith))
-
 pub word-spec : {M : Type 1} → statement M
-word-spec =
-    tie.close
-    (tie.spec (λ c. word-short _ _ (omega arith)) (λ c. search needs) (λ c. word-short _ _ (omega arith))
-    (λ c κs. search needs) returns-3)
+word-spec = tie.close (tie.spec (λ c. word-short _ _ (omega arith)) (λ c. search needs)
+    (λ c. word-short _ _ (omega arith)) (λ c κs. search needs)
+    (λ c. let a = c .before .before .before .before .args in
+    c .get .ensures ∙ sym (word-room (now (a .buf)) (a .at) (omega arith))))

@@ -6,6 +6,4 @@ use Rattle.step.proofs.packing.allowed.Tie as tie
 
 pub allowed-spec : {M : Type 1} → statement M
 unfolding storable
-allowed-spec =
-    tie.close
-    (tie.spec (λ c. refl))
+allowed-spec = tie.close (tie.spec (λ c. refl))

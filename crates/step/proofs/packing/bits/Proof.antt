@@ -6,12 +6,7 @@ use lib.Pow.{pow-pos}
 use Rattle.step.proofs.packing.bits.Statement.{statement}
 use Rattle.step.proofs.packing.bits.Tie as tie
 
-returns : tie.Need-returns
-returns c =
-    let a = c .before .args in
-    (c .low .ensures, rw (c .low .ensures) (mod-lt (a .x / 2 ^ (a .above - a .w)) (pow-pos (a .w))))
-
 pub bits-spec : {M : Type 1} → statement M
-bits-spec =
-    tie.close
-    (tie.spec (λ c. search needs) (λ c. search needs) (λ c. search needs) (λ c κs. search needs) returns)
+bits-spec = tie.close (tie.spec (λ c. search needs) (λ c. search needs) (λ c. search needs) (λ c κs. search needs)
+    (λ c. let a = c .before .args in
+    (c .low .ensures, rw (c .low .ensures) (mod-lt (a .x / 2 ^ (a .above - a .w)) (pow-pos (a .w))))))

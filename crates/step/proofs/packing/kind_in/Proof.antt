@@ -6,6 +6,4 @@ use Rattle.step.proofs.packing.kind_in.Tie as tie
 
 pub kind-in-spec : {M : Type 1} → statement M
 unfolding kindIn
-kind-in-spec =
-    tie.close
-    (tie.spec (λ c κs. search needs) (λ c. search needs) (λ c. c .bits .ensures .0))
+kind-in-spec = tie.close (tie.spec (λ c κs. search needs) (λ c. search needs) (λ c. c .bits .ensures .0))

@@ -7,8 +7,6 @@ use Rattle.step.proofs.packing.low.Statement.{statement}
 use Rattle.step.proofs.packing.low.Tie as tie
 
 pub low-spec : {M : Type 1} → statement M
-low-spec =
-    tie.close
-    (tie.spec
-    (λ c. search needs) (λ c. omega (arith, one-shl (c .args .w) (c .pre), pow-pos (c .args .w)))
+low-spec = tie.close (tie.spec (λ c. search needs)
+    (λ c. omega (arith, one-shl (c .args .w) (c .pre), pow-pos (c .args .w)))
     (λ c. low-bits (c .args .x) (c .args .w) (c .pre)))

@@ -11,13 +11,11 @@ use Rattle.step.proofs.packing.place.Tie as tie
 
 returns : tie.Need-returns
 returns c =
-    let a = c .before .args in let p = c .before .pre in let n : ℕ = a .above - a .w in
-    let v : ℕ = a .v % 2 ^ a .w in let cut : v < 2 ^ a .w = mod-lt (a .v) (pow-pos (a .w)) in
-    let is : bitOr ((c .low .result * 2 ^ n) % 2 ^ 64) (a .rest) ≡ v * 2 ^ n + a .rest =
-    rw (c .low .ensures) (place-bits (a .above) (a .w) v (a .rest) (p .1) (p .2) cut (p .4)) in
-    (is, rw is (field-lt (a .above) (a .w) v (a .rest) (p .1) cut (p .4)))
+    let a = c .before .args in let p = c .before .pre in let n : ℕ = a .above - a .w in let v : ℕ = a .v % 2 ^ a .w in
+    let cut : v < 2 ^ a .w = mod-lt (a .v) (pow-pos (a .w)) in let is : bitOr ((c .low .result * 2 ^ n) % 2 ^ 64)
+    (a .rest) ≡ v * 2 ^ n + a .rest = rw (c .low .ensures) (place-bits (a .above) (a .w) v (a .rest) (p .1) (p .2) cut
+    (p .4)) in (is, rw is (field-lt (a .above) (a .w) v (a .rest) (p .1) cut (p .4)))
 
 pub place-spec : {M : Type 1} → statement M
-place-spec =
-    tie.close
-    (tie.spec (λ c κs. search needs) (λ c. search needs) (λ c. search needs) (λ c. search needs) returns)
+place-spec = tie.close (tie.spec (λ c κs. search needs) (λ c. search needs) (λ c. search needs) (λ c. search needs)
+    returns)

@@ -8,6 +8,4 @@ returns : tie.Need-returns
 returns c = record { placed = c .before .before .put-bytes .ensures; short = omega arith }
 
 pub put-bytes-spec : {M : Type 1} → statement M
-put-bytes-spec =
-    tie.close
-    (tie.spec (λ c κs. search needs) (λ c. search needs) returns)
+put-bytes-spec = tie.close (tie.spec (λ c κs. search needs) (λ c. search needs) returns)

@@ -36,15 +36,8 @@ loop-again c =
           (written-next (at-loop .loop .inv .3) (omega arith) (put .before .number-at .ensures) (put .put-piece .ensures)),
     )
 
-same-length : tie.Need-same-length Inv-loop μ-loop
-same-length c = c .before .loop .inv .2
-
-returns : tie.Need-returns Inv-loop μ-loop
-returns c = written-all (c .before .loop .inv .3) (c .loop-test .left)
-
 pub put-form-spec : {M : Type 1} → statement M
-put-form-spec =
-    tie.close
-    (tie.spec Inv-loop μ-loop (λ c κs. search needs) loop-holds (λ c. search needs) (λ c κs. search needs)
-    (λ c κs. search needs) (λ c κs. search needs) (λ c. search needs) (λ c. search needs) (λ c. search needs) loop-again
-    same-length returns)
+put-form-spec = tie.close (tie.spec Inv-loop μ-loop (λ c κs. search needs) loop-holds (λ c. search needs)
+    (λ c κs. search needs) (λ c κs. search needs) (λ c κs. search needs) (λ c. search needs) (λ c. search needs)
+    (λ c. search needs) loop-again (λ c. c .before .loop .inv .2)
+    (λ c. written-all (c .before .loop .inv .3) (c .loop-test .left)))

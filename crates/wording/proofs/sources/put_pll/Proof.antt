@@ -11,26 +11,14 @@ unfolding pllLine
 returns c =
     let put-form = c .before .before in
     let told = put-form .before .before .before .before .before .before .before .before .before in
-    let put-bytes = told .before .before .before .before in
-    rw (told .pll .given .1)
-    (put-most (omega arith)
-    (put-append (put-bytes .put-bytes .ensures)
-    (put-form .put-form .ensures)))
-
-returns-2 : tie.Need-returns-2
-unfolding pllLine
-returns-2 c =
-    let put-bytes2 = c .before .before in
-    let told = put-bytes2 .before .before .before in
-    let put-bytes = told .before .before .before .before in
-    rw (told .enum-told .given .1)
-    (put-most (omega arith)
-    (put-append (put-bytes .put-bytes .ensures)
-    (put-bytes2 .put-bytes2 .ensures)))
+    rw (told .pll .given .1) (put-most (omega arith) (put-append
+    (told .before .before .before .before .put-bytes .ensures) (put-form .put-form .ensures)))
 
 pub put-pll-spec : {M : Type 1} → statement M
-put-pll-spec =
-    tie.close
-    (tie.spec (λ c κs. search needs) (λ c. search needs) (λ c. search needs) (λ c. search needs) (λ c. search needs)
-    (λ c. search needs) (λ c. search needs) (λ c. search needs) (λ c κs. search needs) (λ c. search needs)
-    (λ c. search needs) (λ c κs. search needs) (λ c. search needs) returns (λ c. search needs) returns-2)
+unfolding pllLine
+put-pll-spec = tie.close (tie.spec (λ c κs. search needs) (λ c. search needs) (λ c. search needs) (λ c. search needs)
+    (λ c. search needs) (λ c. search needs) (λ c. search needs) (λ c. search needs) (λ c κs. search needs)
+    (λ c. search needs) (λ c. search needs) (λ c κs. search needs) (λ c. search needs) returns (λ c. search needs)
+    (λ c. let put-bytes2 = c .before .before in let told = put-bytes2 .before .before .before in
+    rw (told .enum-told .given .1) (put-most (omega arith) (put-append
+    (told .before .before .before .before .put-bytes .ensures) (put-bytes2 .put-bytes2 .ensures)))))

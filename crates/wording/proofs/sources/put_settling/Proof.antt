@@ -6,26 +6,12 @@ use borrow.Author.Needs.{needs}
 use Rattle.wording.proofs.sources.put_settling.Statement.{statement}
 use Rattle.wording.proofs.sources.put_settling.Tie as tie
 
-returns : tie.Need-returns
-unfolding settlingLine
-returns c =
-    let put-form = c .before .before in
-    let told = put-form .before .before .before .before .before in
-    rw (told .settling .given .1)
-    (put-most (omega arith)
-    (put-form .put-form .ensures))
-
-returns-2 : tie.Need-returns-2
-unfolding settlingLine
-returns-2 c =
-    let put-bytes = c .before .before in
-    let told = put-bytes .before .before .before in
-    rw (told .enum-told .given .1)
-    (put-most (omega arith)
-    (put-bytes .put-bytes .ensures))
-
 pub put-settling-spec : {M : Type 1} → statement M
-put-settling-spec =
-    tie.close
-    (tie.spec (λ c. search needs) (λ c. search needs) (λ c. search needs) (λ c κs. search needs) (λ c. search needs)
-    (λ c. search needs) (λ c κs. search needs) (λ c. search needs) returns (λ c. search needs) returns-2)
+unfolding settlingLine
+put-settling-spec = tie.close (tie.spec (λ c. search needs) (λ c. search needs) (λ c. search needs)
+    (λ c κs. search needs) (λ c. search needs) (λ c. search needs) (λ c κs. search needs) (λ c. search needs)
+    (λ c. let put-form = c .before .before in let told = put-form .before .before .before .before .before in
+    rw (told .settling .given .1) (put-most (omega arith) (put-form .put-form .ensures))) (λ c. search needs)
+    (λ c. let put-bytes = c .before .before in
+    rw (put-bytes .before .before .before .enum-told .given .1)
+    (put-most (omega arith) (put-bytes .put-bytes .ensures))))

@@ -6,17 +6,9 @@ use borrow.Author.Needs.{needs}
 use Rattle.wording.proofs.sources.put_voltage.Statement.{statement}
 use Rattle.wording.proofs.sources.put_voltage.Tie as tie
 
-returns : tie.Need-returns
-unfolding voltageLine
-returns c =
-    let put-form = c .before .before in
-    let millivolts = put-form .before .before in
-    rw (← millivolts .millivolts .ensures)
-    (put-most (omega arith)
-    (put-form .put-form .ensures))
-
 pub put-voltage-spec : {M : Type 1} → statement M
-put-voltage-spec =
-    tie.close
-    (tie.spec (λ c. search needs) (λ c κs. search needs) (λ c. search needs) (λ c κs. search needs)
-    (λ c. search needs) returns)
+unfolding voltageLine
+put-voltage-spec = tie.close (tie.spec (λ c. search needs) (λ c κs. search needs) (λ c. search needs)
+    (λ c κs. search needs) (λ c. search needs)
+    (λ c. let put-form = c .before .before in
+    rw (← put-form .before .before .millivolts .ensures) (put-most (omega arith) (put-form .put-form .ensures))))

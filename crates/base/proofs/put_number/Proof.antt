@@ -1,0 +1,9 @@
+-- `base::put_number` meets its contract. Assumes nothing.
+use borrow.Author.Needs.{needs}
+use Rattle.base.proofs.Placing.{placed-none}
+use Rattle.base.proofs.put_number.Statement.{statement}
+use Rattle.base.proofs.put_number.Tie as tie
+
+pub put-number-spec : {M : Type 1} → statement M
+put-number-spec = tie.close (tie.spec (λ c. search needs) (λ c. search needs) (λ c. search needs) (λ c. search needs)
+    (λ c. search needs) (λ c. placed-none (c .if1 .left)))

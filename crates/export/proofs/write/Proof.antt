@@ -1,0 +1,14 @@
+-- `export::write` meets its contract. Assumes nothing.
+use mathlib.Core.Path.{ap, _∙_}
+use borrow.Author.Needs.{needs}
+use Rattle.export.specs.Numbers.{answerNumber, itself}
+use Rattle.export.proofs.write.Statement.{statement}
+use Rattle.export.proofs.write.Tie as tie
+
+returns : tie.Need-returns
+returns c =
+    let o = c .before .before .before .init .ensures in
+    record { answer = c .length .ensures ∙ ap (answerNumber itself) (o .answer); bytes = o .bytes; typed = o .typed }
+
+pub write-spec : {M : Type 1} → statement M
+write-spec = tie.close (tie.spec (λ c κs. search needs) (λ c κs. search needs) (λ c. search needs) returns)

@@ -1,0 +1,3 @@
+-- What belongs to no one function.
+-- Assumes nothing.
+pub mod UsbRows

@@ -1,0 +1,9 @@
+-- `settings::codes::sys_source_from` meets its contract. Assumes nothing.
+use borrow.Author.Needs.{needs}
+use borrow.Author.Tests.{eq-eqb, ne-eqb}
+use Rattle.settings.proofs.codes.sys_source_from.Statement.{statement}
+use Rattle.settings.proofs.codes.sys_source_from.Tie as tie
+
+pub sys-source-from-spec : {M : Type 1} → statement M
+sys-source-from-spec = tie.close (tie.spec (λ c. search needs) (λ c κs. search needs)
+    (λ c. rw (eq-eqb _ _ (c .if1 .taken))) (λ c. rw (ne-eqb _ _ (c .before .if1 .left), c .sys-from .ensures)))
