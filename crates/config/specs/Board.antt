@@ -1,8 +1,9 @@
 -- What a plan's chip comes to: the one place where a plan's chip is looked at by cases.
 -- Assumes nothing.
-use Prim.Native.Nat.{ℕ}
+use Prim.Native.Nat.{ℕ, _<_}
 use Rattle.chip.specs.declared.Chip.{Chip}
 use Rattle.chip.specs.declared.Chip.the-variants.{Rp2040, Rp235x}
+use Rattle.chip.specs.Chips.{factsOf}
 use Rattle.voltage.specs.declared.Volts.{Volts}
 use Rattle.voltage.specs.Voltage.{voltsOf}
 use Rattle.voltage.specs.Voltage235.{volts235Of}
@@ -27,3 +28,7 @@ boardOf (ChipConfig.Rp2040 c) =
     boardWith Rp2040 (voltsOf (c .«core_voltage»)) (c .«div_int») (c .«div_frac») (c .«rtc_clk»)
 boardOf (ChipConfig.Rp235x c) =
     boardWith Rp235x (volts235Of (c .«core_voltage»)) (c .«div_int») (c .«div_frac») OptionRtc.None
+
+-- the fraction of the system divider is one of the chip's
+abbrev pub FractionFits : Board → Type 0
+FractionFits b = b .fraction < factsOf (b .chip) .scale

@@ -7,7 +7,7 @@ ghost use mathlib.Core.Path.{_≡_};
 ghost use Prim.Native.Nat.{_*_, _≤_, _<_, min};
 ghost use Rattle.base.specs.Answer.{numberIs};
 ghost use Rattle.pll.specs.Ranges.{referenceMin, feedbackMax, vcoMax};
-ghost use Rattle.pll.specs.Setting.{postsOf, vcoOf, outputHz, dividersOf, validOf, outputOf};
+ghost use Rattle.pll.specs.Setting.{postsOf, vcoOf, outputHz, dividersOf, validOf, validHz, outputOf};
 ghost use Rattle.pll.specs.Search.{searchOf, foundIs};
 ghost use Rattle.pll.specs.Law.{VcoPermits, LowestPermitted};
 ghost use Rattle.pll.specs.Walk.{PostCode, WantedProduct, NearestPosts, scoreOf, codeRankOf, settingOf};
@@ -77,10 +77,26 @@ impl PllConfig {
     }
 
     // The output frequency as a plain number: both divisions rounded down, and 0 for a zero divisor.
-    pub fn output_hz(self, input_hz: u32) -> u64
+    fn output_hz(self, input_hz: u32) -> u64
         ensures { λ r. ⌜ r ≡ outputHz self «input_hz» ⌝ }
     {
         base::quotient(self.vco(input_hz), self.posts())
+    }
+
+    // The output frequency of a valid setting, 0 for another. The test and the output share the reference's division.
+    pub fn valid_hz(self, input_hz: u32) -> u32
+        ensures { λ r. ⌜ r ≡ validHz self «input_hz» ⌝ }
+    {
+        let reference = base::quotient32(input_hz, self.refdiv as u32);
+        let vco = (reference as u64) * (self.fbdiv as u64);
+        let valid = self.dividers_valid()
+            & base::in_range(REFERENCE_MIN, REFERENCE_MAX, reference as u64)
+            & base::in_range(VCO_MIN, VCO_MAX, vco);
+        if valid {
+            vco as u32 / (self.post_div1 as u32 * self.post_div2 as u32)
+        } else {
+            0
+        }
     }
 
     // The output frequency, with no test of validity.

@@ -104,16 +104,14 @@ pub steps-in : {sheet : List ℕ} {reading : ℕ} {q : ClockConfig} → Gives sh
     → stepsIn sheet ≡ stepsOf reading (settingsOf q reading)
 unfolding sheetBytes
 steps-in {sheet} {reading} {q} g =
-    let s : Settings = settingsOf q reading in
-    rw (← g .bytes) (steps-encoded (stepsOf reading s) (steps-formed s reading (g .accepted) (g .typed)))
+    rw (← g .bytes) (steps-encoded (stepsOf reading (settingsOf q reading)) (steps-formed q reading (g .accepted) (g .typed)))
 
 -- where some plan gives the bytes, it is the plan of that plan's settings
 pub plan-in : {sheet : List ℕ} {reading : ℕ} {q : ClockConfig} → Gives sheet reading q
     → planIn sheet reading ≡ planOf (settingsOf q reading)
 unfolding planIn
 plan-in {sheet} {reading} {q} g =
-    let s : Settings = settingsOf q reading in
-    rw (steps-in g, settings-back q reading (g .accepted), settings-fixed s reading (g .accepted) (g .typed))
+    rw (steps-in g, settings-back q reading (g .accepted), settings-fixed q reading (g .accepted) (g .typed))
 
 module _ {sheet : List ℕ} {reading : ℕ} where
   -- the plan made of the bytes has the settings of every plan that gives them

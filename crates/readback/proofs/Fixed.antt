@@ -16,7 +16,8 @@ use Rattle.config.specs.declared.OptionPll.{OptionPll}
 use Rattle.config.specs.declared.OptionPll.the-variants.{Some as pll, None as noPll}
 use Rattle.config.specs.declared.ChipConfig.{ChipConfig}
 use Rattle.config.specs.declared.ChipConfig.the-variants.{Rp2040 as on2040, Rp235x as on235x}
-use Rattle.config.specs.Board.{boardOf}
+use Rattle.config.specs.Board.{boardOf, FractionFits}
+use Rattle.config.specs.declared.ClockConfig.{ClockConfig}
 use Rattle.chip.specs.Chips.{factsOf}
 use Rattle.config.specs.declared.OptionAux.{OptionAux}
 use Rattle.config.specs.declared.OptionAux.the-variants.{Some as aux, None as noAux}
@@ -24,12 +25,10 @@ use Rattle.config.specs.declared.OptionRtc.{OptionRtc}
 use Rattle.config.specs.declared.OptionRtc.the-variants.{Some as rtc, None as noRtc}
 use Rattle.settings.specs.declared.OptionCrystal.{OptionCrystal}
 use Rattle.settings.specs.declared.OptionCrystal.the-variants.{Some as crystal, None as noCrystal}
-use Rattle.settings.specs.declared.Settings.{Settings}
-use Rattle.settings.specs.declared.Sources.{Sources}
-use Rattle.settings.specs.Settings.{ringHz}
-use Rattle.settings.specs.Frequencies.{auxSource, sourcesOf, sourcesIn, frequenciesOf, boardIn}
+use Rattle.settings.specs.Settings.{ringHz, settingsOf}
+use Rattle.settings.specs.Frequencies.{sourcesOf, frequenciesOf}
 use Rattle.settings.specs.Typed.{RtcTyped, Typed}
-use Rattle.refusals.specs.Refusals.{strengthsOver, ringDividerOver, pllInvalid, sysPllInvalid, usbPllInvalid, wholeBad, rtcBad, refusalOf}
+use Rattle.refusals.specs.Refusals.{strengthsOver, ringDividerOver, pllInvalid, sysPllInvalid, usbPllInvalid, wholeBad, rtcBad, Accepted}
 use Rattle.refusals.proofs.Accepted.{accepted-by, strengths-few, divider-good, whole-good}
 use Rattle.sheet.proofs.Facts.{none-more, AuxFits, aux-fits}
 use Rattle.sheet.proofs.Stores.{ring-source}
@@ -80,34 +79,37 @@ aux-fixed : (o : OptionAux) → AuxFits o → cutAux o ≡ o
 aux-fixed (aux a) h = rw (fits 8 (a .div) (omega arith), fits 8 (a .phase) (omega arith))
 aux-fixed noAux h = refl
 
-rtc-fixed : (f : Sources) (hz : ℕ) (o : OptionRtc) → RtcTyped o → rtcBad f hz o ≡ false → cutRtc o ≡ o
+rtc-fixed : (source hz : ℕ) (o : OptionRtc) → RtcTyped o → rtcBad source hz o ≡ false → cutRtc o ≡ o
 unfolding rtcBad
-rtc-fixed f hz (rtc r) t e =
-    let still : Bool = eqb (auxSource f (r .src)) 0 in
+rtc-fixed source hz (rtc r) t e =
+    let still : Bool = eqb source 0 in
     let h3 = none-more (still || wholeBad 16777215 (r .«div_int») || ltb 3 (r .phase)) 65535 hz e in
     let h2 = none-more (still || wholeBad 16777215 (r .«div_int»)) 3 (r .phase) (h3 .0) in
     let w = whole-good 16777215 (r .«div_int») (both-false still (wholeBad 16777215 (r .«div_int»)) (h2 .0) .1) in
     rw (fits 32 (r .«div_int») (omega arith), fits 8 (r .«div_frac») t, fits 8 (r .phase) (omega arith))
-rtc-fixed f hz noRtc t e = refl
+rtc-fixed source hz noRtc t e = refl
 
 -- the chip's part, by what acceptance and the types leave of its numbers
-chip-fixed : (c : ChipConfig) (f : Sources) (hz : ℕ) → boardOf c .fraction < factsOf (boardOf c .chip) .scale
-    → RtcTyped (boardOf c .rtc) → wholeBad (factsOf (boardOf c .chip) .«top_whole») (boardOf c .whole) ≡ false
-    → rtcBad f hz (boardOf c .rtc) ≡ false → cutChip c ≡ c
-chip-fixed (on2040 c) f hz t u w e =
+chip-fixed : (c : ChipConfig) (source hz : ℕ) → FractionFits (boardOf c) → RtcTyped (boardOf c .rtc)
+    → wholeBad (factsOf (boardOf c .chip) .«top_whole») (boardOf c .whole) ≡ false
+    → rtcBad source hz (boardOf c .rtc) ≡ false → cutChip c ≡ c
+chip-fixed (on2040 c) source hz t u w e =
     let g = whole-good 16777215 (c .«div_int») w in
-    rw (fits 32 (c .«div_int») (omega arith), fits 8 (c .«div_frac») t, rtc-fixed f hz (c .«rtc_clk») u e)
-chip-fixed (on235x c) f hz t u w e =
+    rw (fits 32 (c .«div_int») (omega arith), fits 8 (c .«div_frac») t, rtc-fixed source hz (c .«rtc_clk») u e)
+chip-fixed (on235x c) source hz t u w e =
     let g = whole-good 65535 (c .«div_int») w in rw (fits 16 (c .«div_int») (omega arith), fits 16 (c .«div_frac») t)
 
-pub settings-fixed : (s : Settings) (reading : ℕ) → refusalOf s reading ≡ 0 → Typed s → cutSettings s ≡ s
+pub settings-fixed : (p : ClockConfig) (reading : ℕ) → Accepted p reading → Typed (settingsOf p reading)
+    → cutSettings (settingsOf p reading) ≡ settingsOf p reading
 unfolding cutSettings
-settings-fixed s reading ok t =
+settings-fixed p reading ok t =
+    let s = settingsOf p reading in
+    let f = frequenciesOf s in
     let a = accepted-by s reading ok in
     let d = divider-good (s .reference .div) (a 7) in
     rw (
-      chip-fixed (s .chip) (sourcesIn s) (frequenciesOf s .rtc) (t .fraction) (t .rtc) (a 9) (a 14),
-      ring-fixed (factsOf (boardIn s .chip) .pass) (s .rosc) (rw (← ring-source (s .rosc) (s .xosc)) (t .rosc)) (a 1) (a 2),
+      chip-fixed (p .chip) (f .«rtc_source») (f .rtc) (t .fraction) (t .rtc) (a 9) (a 14),
+      ring-fixed (factsOf (s .board .chip) .pass) (s .rosc) (rw (← ring-source (s .rosc) (s .xosc)) (t .rosc)) (a 1) (a 2),
       crystal-fixed (s .rosc) (s .xosc) (t .xosc) (a 5) (a 6),
       fits 8 (s .reference .div) (omega arith),
       aux-fixed (s .usb) (aux-fits _ _ (a 12)),

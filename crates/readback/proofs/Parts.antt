@@ -7,6 +7,8 @@ use lib.ListN.{drop}
 use lib.Seq.{getD-drop, drop-drop}
 use borrow.Author.Tests.{eq-eqb}
 use Rattle.config.specs.declared.OptionPll.{OptionPll}
+use Rattle.config.specs.declared.ChipConfig.{ChipConfig}
+use Rattle.config.specs.Board.{boardOf}
 use Rattle.settings.specs.declared.OptionCrystal.the-variants.{Some as crystal}
 use Rattle.settings.specs.declared.Settings.{Settings}
 use Rattle.step.specs.declared.Step.{Step}
@@ -63,14 +65,19 @@ pub past-tick : (chip : Chip) (n : ℕ) (xs : List Step) → pastTick chip (drop
 past-tick Rp2040 n xs = drop-drop 1 n xs
 past-tick Rp235x n xs = drop-drop 4 n xs
 
+-- the chip's part of the plan
+abbrev pub chipThere : ℕ → List Step → ChipConfig
+chipThere reading xs =
+    chipFrom (valueIn (chipPart xs)) (valueIn (voltagePart reading xs) .code)
+    (valueIn (sysPart reading xs) .whole) (valueIn (sysPart reading xs) .fraction)
+    (readRtc (restIn (adcPart reading xs)))
+
 -- the settings of the parts
 pub settings-there : (reading : ℕ) (xs : List Step)
     → _≡_ {A = Settings} (settingsFrom reading xs)
     (record {
-      chip =
-          chipFrom (valueIn (chipPart xs)) (valueIn (voltagePart reading xs) .code)
-          (valueIn (sysPart reading xs) .whole) (valueIn (sysPart reading xs) .fraction)
-          (readRtc (restIn (adcPart reading xs)));
+      chip = chipThere reading xs;
+      board = boardOf (chipThere reading xs);
       rosc = valueIn (ringPart xs);
       xosc = valueIn (crystalPart reading xs);
       settling = valueIn (voltagePart reading xs) .settling;

@@ -20,7 +20,7 @@ use Rattle.config.specs.declared.OptionRosc.the-variants.{Some as ring, None as
 use Rattle.chip.specs.declared.Chip.{Chip}
 use Rattle.chip.specs.declared.Chip.the-variants.{Rp2040, Rp235x}
 use Rattle.chip.specs.Chips.{factsOf}
-use Rattle.config.specs.Board.{boardOf}
+use Rattle.config.specs.Board.{boardOf, FractionFits}
 use Rattle.config.specs.declared.ChipConfig.{ChipConfig}
 use Rattle.config.specs.declared.ChipConfig.the-variants.{Rp2040 as on2040, Rp235x as on235x}
 use Rattle.config.specs.declared.OptionRtc.{OptionRtc}
@@ -29,13 +29,13 @@ use Rattle.settings.specs.declared.OptionCrystal.{OptionCrystal}
 use Rattle.settings.specs.declared.OptionCrystal.the-variants.{Some as crystal, None as noCrystal}
 use Rattle.settings.specs.declared.Settings.{Settings}
 use Rattle.settings.specs.Settings.{crystalOf, ringHz, settingsOf}
-use Rattle.settings.specs.Frequencies.{sourcesOf, boardIn}
+use Rattle.settings.specs.Frequencies.{sourcesOf}
 use Rattle.settings.specs.Typed.{RtcTyped, Typed}
 use Rattle.refusals.proofs.Accepted.{accepted-by}
 use Rattle.sheet.proofs.Stores.{ring-source}
 use Rattle.refusals.specs.Refusals.{Accepted}
 use Rattle.step.specs.declared.Step.{Step}
-use Rattle.sheet.specs.Steps.{markSteps, headPart, stepsWith, stepsOf}
+use Rattle.sheet.specs.Steps.{markSteps, headPart, stepsOf}
 use Rattle.sheet.specs.Read.{readChip}
 use Rattle.sheet.specs.Writer.{sheetBytes, refusalIn}
 use Rattle.sheet.proofs.Demand3.{same-sheets}
@@ -64,8 +64,7 @@ rtc-typed : (o : OptionRtc) → RtcTyped (cutRtc o)
 rtc-typed (rtc r) = few 8 (r .«div_frac»)
 rtc-typed noRtc = tt
 
-chip-typed : (c : ChipConfig) → (boardOf (cutChip c) .fraction < factsOf (boardOf (cutChip c) .chip) .scale)
-    × RtcTyped (boardOf (cutChip c) .rtc)
+chip-typed : (c : ChipConfig) → FractionFits (boardOf (cutChip c)) × RtcTyped (boardOf (cutChip c) .rtc)
 chip-typed (on2040 c) = (few 8 (c .«div_frac»), rtc-typed (c .«rtc_clk»))
 chip-typed (on235x c) = (few 16 (c .«div_frac»), tt)
 
@@ -125,9 +124,9 @@ unfolding headPart
 mark-there Rp2040 ys = refl
 mark-there Rp235x ys = refl
 
-chip-there : (reading : ℕ) (s : Settings) → valueIn (readChip (stepsOf reading s)) ≡ boardIn s .chip
-unfolding stepsWith
-chip-there reading s = mark-there (boardIn s .chip) _
+chip-there : (reading : ℕ) (s : Settings) → valueIn (readChip (stepsOf reading s)) ≡ s .board .chip
+unfolding stepsOf
+chip-there reading s = mark-there (s .board .chip) _
 
 top-there : {sheet : List ℕ} {reading : ℕ} {q : ClockConfig} → Gives sheet reading q
     → topReading sheet ≡ factsOf (boardOf (q .chip) .chip) .«top_reading»
@@ -140,7 +139,7 @@ top-there {sheet} {reading} {q} g =
 in-reach : {sheet : List ℕ} {reading : ℕ} {q : ClockConfig} → Gives sheet reading q → reading ≤ topReading sheet
 in-reach {sheet} {reading} {q} g =
     let s : Settings = settingsOf q reading in
-    rw (top-there g) (ltb-false (factsOf (boardIn s .chip) .«top_reading») reading (accepted-by s reading (g .accepted) 18))
+    rw (top-there g) (ltb-false (factsOf (s .board .chip) .«top_reading») reading (accepted-by s reading (g .accepted) 18))
 
 -- the sheet of an accepted plan is read back to the plan of its settings
 pub written-read : (q : ClockConfig) (reading : ℕ) → Typed (settingsOf q reading) → Accepted q reading

@@ -12,6 +12,7 @@ use Rattle.config.specs.declared.OptionRtc.{OptionRtc}
 use Rattle.config.specs.declared.OptionRtc.the-variants.{Some as rtc, None as noRtc}
 use Rattle.config.specs.declared.ChipConfig.{ChipConfig}
 use Rattle.config.specs.declared.ChipConfig.the-variants.{Rp2040 as on2040, Rp235x as on235x}
+use Rattle.config.specs.Board.{boardOf}
 use Rattle.settings.specs.declared.OptionCrystal.{OptionCrystal}
 use Rattle.settings.specs.declared.OptionCrystal.the-variants.{Some as crystal, None as noCrystal}
 use Rattle.settings.specs.declared.Settings.{Settings}
@@ -97,6 +98,7 @@ unfoldable pub cutSettings : Settings → Settings
 cutSettings s =
     record {
       chip = cutChip (s .chip);
+      board = boardOf (cutChip (s .chip));
       rosc = cutRing (s .rosc);
       xosc = cutCrystal (s .xosc);
       settling = s .settling;

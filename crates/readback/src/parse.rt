@@ -42,8 +42,10 @@ pub(crate) fn settings_in(sheet: &[u8], reading: u8) -> Settings
     let a = clocks::read_aux(sheet, u.at, kind::ADC_DIVIDER);
     let adc = a.aux;
     let chip = clocks::read_config(sheet, a.at, on, voltage.code, s.whole, s.fraction);
+    let board = chip.board();
     Settings {
         chip,
+        board,
         rosc,
         xosc,
         settling,

@@ -11,7 +11,7 @@ use Rattle.base.specs.Choice.{pick, inRange}
 use Rattle.base.proofs.Bools.{both-false, in-range}
 use Rattle.config.specs.declared.DriveStrength.{DriveStrength}
 use Rattle.settings.specs.declared.Settings.{Settings}
-use Rattle.settings.specs.Frequencies.{boardIn, frequenciesOf}
+use Rattle.settings.specs.Frequencies.{frequenciesOf}
 use Rattle.refusals.specs.Refusals.{strengthOver, dividerBad, referenceBad, wholeBad, testsOf, first, refusalOf}
 
 -- every number is from 1 on
@@ -42,16 +42,16 @@ test-false n ((number, test) ∷ rest) h = either (eqb n number) (h .0) (test-fa
     either true x y = x
     either false x y = y
 
-positive : (s : Settings) (reading : ℕ) → Positive (testsOf s (boardIn s) (frequenciesOf s) reading)
+positive : (s : Settings) (reading : ℕ) → Positive (testsOf s (frequenciesOf s) reading)
 positive s reading = omega arith
 
 -- the test of each number is false
 pub accepted-by : (s : Settings) (reading : ℕ) → refusalOf s reading ≡ 0
-    → (n : ℕ) → testOf n (testsOf s (boardIn s) (frequenciesOf s) reading) ≡ false
+    → (n : ℕ) → testOf n (testsOf s (frequenciesOf s) reading) ≡ false
 unfolding refusalOf
 accepted-by s reading e n =
-    test-false n (testsOf s (boardIn s) (frequenciesOf s) reading)
-    (none-holds (testsOf s (boardIn s) (frequenciesOf s) reading) (positive s reading) e)
+    test-false n (testsOf s (frequenciesOf s) reading)
+    (none-holds (testsOf s (frequenciesOf s) reading) (positive s reading) e)
 
 -- no strength is over 7
 pub record Few (g : DriveStrength) : Type 0 where

@@ -18,7 +18,7 @@ use Rattle.config.specs.Presets.{ringConfig, feedingBoth, fromPlls, systemVolta
 use Rattle.config.proofs.Systems.{Found, system-from-found}
 use Rattle.settings.specs.declared.Settings.{Settings}
 use Rattle.settings.specs.Settings.{settingsOf}
-use Rattle.settings.specs.Frequencies.{pllHz, sourcesOf, boardIn, frequenciesOf}
+use Rattle.settings.specs.Frequencies.{pllHz, sourcesOf, frequenciesOf}
 use Rattle.refusals.specs.Refusals.{sysPllInvalid, usbPllInvalid, testsOf, first, refusalOf}
 
 -- a test of this number holds
@@ -50,13 +50,13 @@ module _ (chip : Chip) (from hz reading : ℕ) (p : ClockConfig) (planned : syst
   abbrev set : Settings
   set = settingsOf plan reading
 
-  never : (n : ℕ) → 1 ≤ n → holdsAt n (testsOf set (boardIn set) (frequenciesOf set) reading) ≡ false
+  never : (n : ℕ) → 1 ≤ n → holdsAt n (testsOf set (frequenciesOf set) reading) ≡ false
       → refusalOf (settingsOf p reading) reading ≡ n → ⊥
   unfolding refusalOf
   never n l none e =
       let here : refusalOf (settingsOf plan reading) reading ≡ n
       = subst (λ q. refusalOf (settingsOf q reading) reading ≡ n) (made .is) e in
-      let held = first-holds n (testsOf set (boardIn set) (frequenciesOf set) reading) l here in
+      let held = first-holds n (testsOf set (frequenciesOf set) reading) l here in
       let z : _≡_ {A = ℕ} 0 1 = cc (held, none) in
       omega arith
 

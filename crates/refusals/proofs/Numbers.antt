@@ -8,12 +8,13 @@ use native.Mathlib.Omega.{arith}
 use native.Mathlib.Decide.{decLe}
 use lib.ListN.{drop}
 use borrow.Author.Tests.{lt-ltb, le-ltb}
+use Rattle.chip.specs.Chips.{factsOf}
 use Rattle.settings.specs.declared.Settings.{Settings}
-use Rattle.settings.specs.Frequencies.{boardIn, factsIn, frequenciesOf}
+use Rattle.settings.specs.Frequencies.{frequenciesOf}
 use Rattle.refusals.specs.Refusals.{testsOf, first, refusalOf}
 
 abbrev pub top : Settings → ℕ
-top s = factsIn s .«top_reading»
+top s = factsOf (s .board .chip) .«top_reading»
 
 pub record Numbered (s : Settings) (reading : ℕ) : Type 0 where
   pub over : top s < reading → refusalOf s reading ≡ 18
@@ -38,7 +39,7 @@ refusal-numbers s reading = record { over = over; only-over = only-over; others 
     over h = rw (lt-ltb (top s) reading h)
 
     others : reading ≤ top s → refusalOf s reading ≤ 14
-    others h = rw (le-ltb (top s) reading h) (first-low (drop 1 (testsOf s (boardIn s) (frequenciesOf s) reading)) (omega arith))
+    others h = rw (le-ltb (top s) reading h) (first-low (drop 1 (testsOf s (frequenciesOf s) reading)) (omega arith))
 
     only-over : refusalOf s reading ≡ 18 → top s < reading
     only-over e = go (decLe reading (top s))

@@ -10,12 +10,13 @@ use borrow.Author.Tests.{ltb-false}
 use Rattle.base.proofs.Bools.{both-false}
 use Rattle.chip.specs.declared.Chip.{Chip}
 use Rattle.chip.specs.declared.Chip.the-variants.{Rp2040, Rp235x}
+use Rattle.chip.specs.Chips.{factsOf}
 use Rattle.config.specs.declared.OptionRtc.{OptionRtc}
 use Rattle.config.specs.declared.OptionRtc.the-variants.{Some as rtc, None as noRtc}
 use Rattle.settings.specs.declared.Sources.{Sources}
 use Rattle.settings.specs.declared.Settings.{Settings}
 use Rattle.settings.specs.declared.Frequencies.{Frequencies}
-use Rattle.settings.specs.Frequencies.{auxSource, rtcHz, boardIn, factsIn, sourcesIn, refIn, sysIn}
+use Rattle.settings.specs.Frequencies.{rtcHz, sourcesIn, refIn, sysIn}
 use Rattle.settings.specs.Frequencies.{frequenciesOf, tenthOf, storedOf, tenOf}
 use Rattle.settings.specs.Typed.{Typed}
 use Rattle.settings.proofs.Small.{Hz, AllHz, sources-hz, ref-small, sys-small, peri-small, aux-small}
@@ -23,14 +24,14 @@ use Rattle.refusals.specs.Refusals.{wholeBad, rtcBad, refusalOf}
 use Rattle.refusals.proofs.Accepted.{accepted-by, whole-good}
 
 -- an accepted RTC has 16 bits
-rtc-small : (f : Sources) (o : OptionRtc) → rtcBad f (rtcHz f o) o ≡ false → rtcHz f o ≤ 65535
+rtc-small : (source : ℕ) (f : Sources) (o : OptionRtc) → rtcBad source (rtcHz f o) o ≡ false → rtcHz f o ≤ 65535
 unfolding rtcBad
-rtc-small f (rtc r) e =
+rtc-small source f (rtc r) e =
     ltb-false 65535 (rtcHz f (rtc r))
     (both-false
-    (eqb (auxSource f (r .src)) 0 || wholeBad 16777215 (r .«div_int») || ltb 3 (r .phase))
+    (eqb source 0 || wholeBad 16777215 (r .«div_int») || ltb 3 (r .phase))
     (ltb 65535 (rtcHz f (rtc r))) e .1)
-rtc-small f noRtc e = omega arith
+rtc-small source f noRtc e = omega arith
 
 pub record Stored (f : Frequencies) : Type 0 where
   pub sources : AllHz (f .sources)
@@ -46,8 +47,8 @@ stored s reading t e =
     let a = accepted-by s reading e in
     let h = sources-hz s t in
     let r : Hz (refIn s) = ref-small (sourcesIn s) h (s .reference) in
-    let whole = whole-good (factsIn s .«top_whole») (boardIn s .whole) (a 9) in
-    let y : Hz (sysIn s) = sys-small (sourcesIn s) h (boardIn s) (refIn s) (s .sys) r (whole .0) in
+    let whole = whole-good (factsOf (s .board .chip) .«top_whole») (s .board .whole) (a 9) in
+    let y : Hz (sysIn s) = sys-small (sourcesIn s) h (s .board) (refIn s) (s .sys) r (whole .0) in
     record {
       sources = h;
       reference = r;
@@ -55,7 +56,7 @@ stored s reading t e =
       peri = peri-small (sourcesIn s) h (sysIn s) (s .peri) y;
       usb = aux-small (sourcesIn s) h (s .usb);
       adc = aux-small (sourcesIn s) h (s .adc);
-      rtc = rtc-small (sourcesIn s) (boardIn s .rtc) (a 14);
+      rtc = rtc-small (frequenciesOf s .«rtc_source») (sourcesIn s) (s .board .rtc) (a 14);
     }
 
 abbrev pub EachHz : List ℕ → Type 0
@@ -71,7 +72,7 @@ unfolding storedOf
 stored-small s reading t e =
     let h = stored s reading t e in
     let f = h .sources in
-    let tenth = tenth-small (boardIn s .chip) (frequenciesOf s .rtc) (omega (arith, h .rtc)) in
+    let tenth = tenth-small (s .board .chip) (frequenciesOf s .rtc) (omega (arith, h .rtc)) in
     (f .rosc, (f .xosc, (f .pll-sys, (f .pll-usb, (h .reference, (h .sys, (h .peri, (h .usb, (h .adc, tenth)))))))))
 
 pub ten-small : (s : Settings) (reading : ℕ) → Typed s → refusalOf s reading ≡ 0 → EachHz (tenOf s)

@@ -15,14 +15,12 @@ use Rattle.config.specs.declared.OptionPeri.{OptionPeri}
 use Rattle.config.specs.declared.OptionAux.{OptionAux}
 use Rattle.config.specs.declared.OptionRtc.{OptionRtc}
 use Rattle.config.specs.declared.ClockConfig.{ClockConfig}
-use Rattle.config.specs.declared.Board.{Board}
 use Rattle.settings.specs.declared.OptionCrystal.{OptionCrystal}
 use Rattle.settings.specs.declared.OptionCycles.{OptionCycles}
 use Rattle.settings.specs.declared.Settings.{Settings}
-use Rattle.settings.specs.declared.Sources.{Sources}
 use Rattle.settings.specs.declared.Frequencies.{Frequencies}
 use Rattle.settings.specs.Settings.{settingsOf}
-use Rattle.settings.specs.Frequencies.{auxSource, boardIn, frequenciesWith}
+use Rattle.settings.specs.Frequencies.{frequenciesOf}
 use Rattle.refusals.specs.declared.Examined.{Examined}
 
 abbrev pub strengthOver : DriveStrength → Bool
@@ -82,34 +80,34 @@ periBad hz (OptionPeri.Some src) = eqb hz 0
 periBad hz OptionPeri.None = false
 
 -- 12 and 13: source 0 Hz, divider not 1 to 4 or phase over 3
-unfoldable pub auxBad : Sources → OptionAux → Bool
-auxBad f (OptionAux.Some a) = eqb (auxSource f (a .src)) 0 || dividerBad (a .div) || ltb 3 (a .phase)
-auxBad f OptionAux.None = false
+unfoldable pub auxBad : ℕ → OptionAux → Bool
+auxBad source (OptionAux.Some a) = eqb source 0 || dividerBad (a .div) || ltb 3 (a .phase)
+auxBad source OptionAux.None = false
 
 -- 14: source 0 Hz, whole part as in 9 on the RP2040, phase over 3, or over 65535 Hz
-unfoldable pub rtcBad : Sources → ℕ → OptionRtc → Bool
-rtcBad f hz (OptionRtc.Some r) =
-    eqb (auxSource f (r .src)) 0 || wholeBad 16777215 (r .«div_int») || ltb 3 (r .phase) || ltb 65535 hz
-rtcBad f hz OptionRtc.None = false
+unfoldable pub rtcBad : ℕ → ℕ → OptionRtc → Bool
+rtcBad source hz (OptionRtc.Some r) =
+    eqb source 0 || wholeBad 16777215 (r .«div_int») || ltb 3 (r .phase) || ltb 65535 hz
+rtcBad source hz OptionRtc.None = false
 
 -- 18: reading over the chip's greatest, 15 or 31; then 1 to 14 rising
-abbrev pub testsOf : Settings → Board → Frequencies → ℕ → List (ℕ × Bool)
-testsOf s b f reading =
-    (18, ltb (factsOf (b .chip) .«top_reading») reading)
+abbrev pub testsOf : Settings → Frequencies → ℕ → List (ℕ × Bool)
+testsOf s f reading =
+    (18, ltb (factsOf (s .board .chip) .«top_reading») reading)
     ∷ (1, strengthsOver (s .rosc))
-    ∷ (2, ringDividerOver (factsOf (b .chip) .pass) (s .rosc))
+    ∷ (2, ringDividerOver (factsOf (s .board .chip) .pass) (s .rosc))
     ∷ (3, settlingOver (s .settling))
     ∷ (4, startupOver (s .xosc))
     ∷ (5, sysPllInvalid (s .xosc))
     ∷ (6, usbPllInvalid (s .xosc))
     ∷ (7, dividerBad (s .reference .div))
     ∷ (8, referenceBad (f .reference))
-    ∷ (9, wholeBad (factsOf (b .chip) .«top_whole») (b .whole))
+    ∷ (9, wholeBad (factsOf (s .board .chip) .«top_whole») (s .board .whole))
     ∷ (10, eqb (f .sys) 0)
     ∷ (11, periBad (f .peri) (s .peri))
-    ∷ (12, auxBad (f .sources) (s .usb))
-    ∷ (13, auxBad (f .sources) (s .adc))
-    ∷ (14, rtcBad (f .sources) (f .rtc) (b .rtc))
+    ∷ (12, auxBad (f .«usb_source») (s .usb))
+    ∷ (13, auxBad (f .«adc_source») (s .adc))
+    ∷ (14, rtcBad (f .«rtc_source») (f .rtc) (s .board .rtc))
     ∷ []
 
 -- the number of the first test that holds; 0: none does
@@ -118,16 +116,13 @@ first [] = 0
 first ((number, test) ∷ rest) = pick test number (first rest)
 
 -- the refusal of settings at a reading; 0: accepted
-abbrev pub refusalWith : Settings → Board → ℕ → ℕ
-refusalWith s b reading = first (testsOf s b (frequenciesWith s b) reading)
-
 unfoldable pub refusalOf : Settings → ℕ → ℕ
-refusalOf s reading = refusalWith s (boardIn s) reading
+refusalOf s reading = first (testsOf s (frequenciesOf s) reading)
 
 -- a plan is accepted for a reading where it gets neither 18 nor any of 1 to 14
 abbrev pub Accepted : ClockConfig → ℕ → Type 0
 Accepted p reading = refusalOf (settingsOf p reading) reading ≡ 0
 
 -- what `examine` answers
-abbrev pub examinedOf : Settings → Board → ℕ → Examined
-examinedOf s b reading = record { number = refusalWith s b reading; frequencies = frequenciesWith s b }
+abbrev pub examinedOf : Settings → ℕ → Examined
+examinedOf s reading = record { number = refusalOf s reading; frequencies = frequenciesOf s }

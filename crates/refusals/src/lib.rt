@@ -1,5 +1,4 @@
 // The refusals of settings at a reading, in their order.
-use config::Board;
 use config::DriveStrength;
 use config::OptionAux;
 use config::OptionPeri;
@@ -14,12 +13,13 @@ use settings::Sources;
 ghost use mathlib.Core.Path.{_≡_};
 ghost use Prim.Native.Nat.{ℕ};
 ghost use Rattle.config.specs.declared.OptionRosc.{OptionRosc};
-ghost use Rattle.settings.specs.Frequencies.{pllHz, sourcesOf, frequenciesWith};
-ghost use Rattle.settings.specs.Typed.{BoardIs, Typed};
+ghost use Rattle.settings.specs.Frequencies.{pllHz, sourcesOf, frequenciesOf};
+ghost use Rattle.config.specs.Board.{FractionFits};
+ghost use Rattle.settings.specs.Typed.{Typed};
 ghost use Rattle.refusals.specs.Refusals.{strengthOver, strengthsOver, ringDividerOver, settlingOver};
 ghost use Rattle.refusals.specs.Refusals.{startupOver, pllInvalid, sysPllInvalid, usbPllInvalid};
 ghost use Rattle.refusals.specs.Refusals.{dividerBad, referenceBad, wholeBad, periBad, auxBad, rtcBad};
-ghost use Rattle.refusals.specs.Refusals.{refusalWith, examinedOf};
+ghost use Rattle.refusals.specs.Refusals.{refusalOf, examinedOf};
 
 fn strength_over(g: DriveStrength) -> bool
     ensures { λ r. ⌜ r ≡ strengthOver g ⌝ }
@@ -135,37 +135,31 @@ fn peri_bad(hz: u64, peri: OptionPeri) -> bool
     }
 }
 
-fn aux_bad(f: Sources, aux: OptionAux) -> bool
-    ensures { λ r. ⌜ r ≡ auxBad f aux ⌝ }
+fn aux_bad(source: u32, aux: OptionAux) -> bool
+    ensures { λ r. ⌜ r ≡ auxBad source aux ⌝ }
 {
     match aux {
-        OptionAux::Some(on) => {
-            let src = on.src;
-            (settings::aux_source(f, src) == 0) | divider_bad(on.div) | (3 < on.phase)
-        }
+        OptionAux::Some(on) => (source == 0) | divider_bad(on.div) | (3 < on.phase),
         OptionAux::None => false,
     }
 }
 
-fn rtc_bad(f: Sources, hz: u64, rtc: OptionRtc) -> bool
-    ensures { λ r. ⌜ r ≡ rtcBad f hz rtc ⌝ }
+fn rtc_bad(source: u32, hz: u64, rtc: OptionRtc) -> bool
+    ensures { λ r. ⌜ r ≡ rtcBad source hz rtc ⌝ }
 {
     match rtc {
         OptionRtc::Some(on) => {
-            let src = on.src;
-            (settings::aux_source(f, src) == 0)
-                | whole_bad(16777215, on.div_int)
-                | (3 < on.phase)
-                | (65535 < hz)
+            (source == 0) | whole_bad(16777215, on.div_int) | (3 < on.phase) | (65535 < hz)
         }
         OptionRtc::None => false,
     }
 }
 
 // 18, then 1 to 14 rising; 0: none of them.
-fn refusal_of(s: Settings, b: Board, f: Frequencies, reading: u8) -> u8
-    ensures { λ r. ⌜ (f ≡ frequenciesWith s b → r ≡ refusalWith s b reading) ⌝ }
+fn refusal_of(s: Settings, f: Frequencies, reading: u8) -> u8
+    ensures { λ r. ⌜ (f ≡ frequenciesOf s → r ≡ refusalOf s reading) ⌝ }
 {
+    let b = s.board;
     let chip = b.chip;
     let on = chip.facts();
     let ring = s.rosc;
@@ -187,9 +181,9 @@ fn refusal_of(s: Settings, b: Board, f: Frequencies, reading: u8) -> u8
     let reference = reference_bad(f.reference);
     let whole = whole_bad(on.top_whole, b.whole);
     let peri = peri_bad(f.peri, peri_clk);
-    let usb = aux_bad(sources, usb_clk);
-    let adc = aux_bad(sources, adc_clk);
-    let rtc = rtc_bad(sources, f.rtc, rtc_clk);
+    let usb = aux_bad(f.usb_source, usb_clk);
+    let adc = aux_bad(f.adc_source, adc_clk);
+    let rtc = rtc_bad(f.rtc_source, f.rtc, rtc_clk);
     // From the last to the first: an earlier one decides.
     let n = base::number_when(rtc, 14, 0);
     let n = base::number_when(adc, 13, n);
@@ -214,13 +208,13 @@ pub struct Examined {
     pub frequencies: Frequencies,
 }
 
-// Looks at settings, with what their chip comes to. The numbers of the settings are of their types.
-pub fn examine(s: Settings, board: Board, reading: u8) -> Examined
-    ensures { λ r. ⌜ (r ≡ examinedOf s board reading) × (BoardIs s board → Typed s) ⌝ }
+// Looks at settings. Their numbers are of their types.
+pub fn examine(s: Settings, reading: u8) -> Examined
+    ensures { λ r. ⌜ (r ≡ examinedOf s reading) × (FractionFits (s .board) → Typed s) ⌝ }
 {
-    let frequencies = settings::frequencies_of(s, board);
+    let frequencies = settings::frequencies_of(s);
     Examined {
-        number: refusal_of(s, board, frequencies, reading),
+        number: refusal_of(s, frequencies, reading),
         frequencies,
     }
 }

@@ -18,7 +18,7 @@ use Rattle.text.proofs.Decimals.{length-decimal}
 use Rattle.text.proofs.Lines.{line-start}
 use Rattle.config.specs.declared.ClockConfig.{ClockConfig}
 use Rattle.settings.specs.Settings.{settingsOf}
-use Rattle.settings.specs.Frequencies.{boardIn, tenOf}
+use Rattle.settings.specs.Frequencies.{tenOf}
 use Rattle.settings.proofs.Small.{Hz}
 use Rattle.refusals.proofs.Stored.{EachHz, ten-small}
 use Rattle.sheet.proofs.Formed.{masks}
@@ -93,8 +93,8 @@ report-most input = go (report-cases input)
     go (inl e) = rw e (omega (arith, refused-most 1 24 (omega arith)))
     go (inr r) =
         let s = settingsOf (r .plan) reading in
-        let mask : ℕ = releaseMask (boardIn s .chip) (s .peri) (s .usb) (s .adc) (boardIn s .rtc) in
-        let few : ones mask ≤ 25 = ones-le 25 mask (omega (arith, masks (boardIn s .chip) .2)) in
+        let mask : ℕ = releaseMask (s .board .chip) (s .peri) (s .usb) (s .adc) (s .board .rtc) in
+        let few : ones mask ≤ 25 = ones-le 25 mask (omega (arith, masks (s .board .chip) .2)) in
         let each = each-append (tenOf s) (ones mask ∷ [])
         (ten-small s reading (r .served .typed) (r .served .accepted)) (omega arith, tt) in
         rw (r .lines) (omega (arith, lines-most reportNames (numbersOf s) each))

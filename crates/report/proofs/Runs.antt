@@ -17,10 +17,10 @@ use Rattle.step.proofs.Sheets.{length-encoded}
 use Rattle.config.specs.declared.ClockConfig.{ClockConfig}
 use Rattle.settings.specs.declared.Settings.{Settings}
 use Rattle.settings.specs.Settings.{settingsOf}
-use Rattle.settings.specs.Frequencies.{boardIn, tenOf}
+use Rattle.settings.specs.Frequencies.{tenOf}
 use Rattle.settings.specs.Typed.{Typed}
 use Rattle.refusals.specs.Refusals.{Accepted}
-use Rattle.sheet.specs.Steps.{releaseMask, clocksPart, stepsWith, stepsOf}
+use Rattle.sheet.specs.Steps.{releaseMask, clocksPart, stepsOf}
 use Rattle.sheet.specs.Writer.{sheetBytes}
 use Rattle.runner.specs.declared.Runner.{Runner}
 use Rattle.runner.specs.declared.Stepped.{Stepped}
@@ -58,8 +58,8 @@ releases-append [] ys mask = refl
 releases-append (x ∷ xs) ys mask = releases-append xs ys (releasedIn x mask)
 
 last-release : (reading : ℕ) (s : Settings) (mask : ℕ)
-    → releases (stepsOf reading s) mask ≡ releaseMask (boardIn s .chip) (s .peri) (s .usb) (s .adc) (boardIn s .rtc)
-unfolding stepsWith clocksPart releasedIn
+    → releases (stepsOf reading s) mask ≡ releaseMask (s .board .chip) (s .peri) (s .usb) (s .adc) (s .board .rtc)
+unfolding stepsOf clocksPart releasedIn
 last-release reading s mask = simp releases-append
 
 -- a wait is no release

@@ -12,7 +12,7 @@ use Rattle.config.specs.declared.ClockConfig.{ClockConfig}
 use Rattle.config.specs.Presets.{systemPlan}
 use Rattle.settings.specs.declared.Settings.{Settings}
 use Rattle.settings.specs.Settings.{settingsOf}
-use Rattle.settings.specs.Frequencies.{boardIn, tenOf}
+use Rattle.settings.specs.Frequencies.{tenOf}
 use Rattle.sheet.specs.Steps.{releaseMask}
 use Rattle.sheet.specs.Writer.{refusalIn}
 use Rattle.replies.specs.Reply.{refusedLine}
@@ -24,7 +24,7 @@ reading = 11
 
 -- the stored values of the sheet, then the count of ones in the last release mask
 abbrev pub numbersOf : Settings → List ℕ
-numbersOf s = tenOf s ++ (ones (releaseMask (boardIn s .chip) (s .peri) (s .usb) (s .adc) (boardIn s .rtc)) ∷ [])
+numbersOf s = tenOf s ++ (ones (releaseMask (s .board .chip) (s .peri) (s .usb) (s .adc) (s .board .rtc)) ∷ [])
 
 -- a plan that is refused at the reading has no sheet
 unfoldable pub planReport : ClockConfig → List ℕ

@@ -1,15 +1,12 @@
 -- The frequency of each clock in Hz, 0 where it is absent: the ten values that a sheet stores.
 -- Assumes nothing.
-use Prim.Native.Nat.{ℕ, _-_, _/_}
-use lib.Dec.{eqb}
+use Prim.Native.Nat.{ℕ, _/_}
 use mathlib.Core.List.{List, [], _∷_, _++_}
-use Rattle.base.specs.Choice.{pick}
 use Rattle.chip.specs.declared.Chip.{Chip}
 use Rattle.chip.specs.declared.Chip.the-variants.{Rp2040, Rp235x}
-use Rattle.chip.specs.declared.Facts.{Facts}
 use Rattle.chip.specs.Chips.{factsOf}
 use Rattle.divider.specs.Clock.{dividedHz}
-use Rattle.pll.specs.Setting.{validOf, outputHz}
+use Rattle.pll.specs.Setting.{validHz}
 use Rattle.config.specs.declared.OptionRosc.{OptionRosc}
 use Rattle.config.specs.declared.OptionPll.{OptionPll}
 use Rattle.config.specs.declared.RefClkSrc.{RefClkSrc}
@@ -17,7 +14,6 @@ use Rattle.config.specs.declared.SysClkSrc.{SysClkSrc}
 use Rattle.config.specs.declared.PeriClkSrc.{PeriClkSrc}
 use Rattle.config.specs.declared.RefClkConfig.{RefClkConfig}
 use Rattle.config.specs.declared.Board.{Board}
-use Rattle.config.specs.Board.{boardOf}
 use Rattle.config.specs.declared.OptionPeri.{OptionPeri}
 use Rattle.config.specs.declared.AuxClkSrc.{AuxClkSrc}
 use Rattle.config.specs.declared.OptionAux.{OptionAux}
@@ -27,11 +23,10 @@ use Rattle.settings.specs.declared.Settings.{Settings}
 use Rattle.settings.specs.declared.Sources.{Sources}
 use Rattle.settings.specs.declared.Frequencies.{Frequencies}
 use Rattle.settings.specs.Settings.{ringHz}
-use Rattle.settings.specs.Codes.{choose4, sysCode, periAux}
 
 -- a plan with an invalid PLL is refused: its 0 Hz reaches no sheet
 unfoldable pub pllHz : ℕ → OptionPll → ℕ
-pllHz hz (OptionPll.Some p) = pick (validOf p hz) (outputHz p hz) 0
+pllHz hz (OptionPll.Some p) = validHz p hz
 pllHz hz OptionPll.None = 0
 
 -- what the clocks are made of
@@ -53,19 +48,23 @@ refSource f RefClkSrc.PllUsb = f .«pll_usb»
 unfoldable pub refHz : Sources → RefClkConfig → ℕ
 refHz f c = refSource f (c .src) / c .div
 
--- by the codes of `sysCode` and `periAux`: the clock before it, then PLL sys, PLL USB, ring, crystal
-abbrev pub sourceAt : Sources → ℕ → ℕ → ℕ
-sourceAt f before code = pick (eqb code 0) before (choose4 (code - 1) (f .«pll_sys») (f .«pll_usb») (f .rosc) (f .xosc))
-
 abbrev pub sysSource : Sources → ℕ → SysClkSrc → ℕ
-sysSource f reference src = sourceAt f reference (sysCode src)
+sysSource f reference SysClkSrc.Ref = reference
+sysSource f reference SysClkSrc.PllSys = f .«pll_sys»
+sysSource f reference SysClkSrc.PllUsb = f .«pll_usb»
+sysSource f reference SysClkSrc.Rosc = f .rosc
+sysSource f reference SysClkSrc.Xosc = f .xosc
 
 -- the divider is the board's, in the chip's scale
 unfoldable pub sysHz : Board → Sources → ℕ → SysClkSrc → ℕ
 sysHz b f reference src = dividedHz (factsOf (b .chip) .scale) (sysSource f reference src) (b .whole) (b .fraction)
 
 abbrev pub periSource : Sources → ℕ → PeriClkSrc → ℕ
-periSource f system src = sourceAt f system (periAux src)
+periSource f system PeriClkSrc.Sys = system
+periSource f system PeriClkSrc.PllSys = f .«pll_sys»
+periSource f system PeriClkSrc.PllUsb = f .«pll_usb»
+periSource f system PeriClkSrc.Rosc = f .rosc
+periSource f system PeriClkSrc.Xosc = f .xosc
 
 abbrev pub periHz : Sources → ℕ → OptionPeri → ℕ
 periHz f system (OptionPeri.Some src) = periSource f system src
@@ -78,6 +77,15 @@ auxSource f AuxClkSrc.PllSys = f .«pll_sys»
 auxSource f AuxClkSrc.Rosc = f .rosc
 auxSource f AuxClkSrc.Xosc = f .xosc
 
+-- its frequency, 0 where the clock is absent
+abbrev pub auxSourceIn : Sources → OptionAux → ℕ
+auxSourceIn f (OptionAux.Some a) = auxSource f (a .src)
+auxSourceIn f OptionAux.None = 0
+
+abbrev pub rtcSourceIn : Sources → OptionRtc → ℕ
+rtcSourceIn f (OptionRtc.Some r) = auxSource f (r .src)
+rtcSourceIn f OptionRtc.None = 0
+
 abbrev pub auxHz : Sources → OptionAux → ℕ
 auxHz f (OptionAux.Some a) = auxSource f (a .src) / a .div
 auxHz f OptionAux.None = 0
@@ -88,38 +96,29 @@ rtcHz f OptionRtc.None = 0
 
 -- of settings
 
-abbrev pub boardIn : Settings → Board
-boardIn s = boardOf (s .chip)
-
-abbrev pub factsIn : Settings → Facts
-factsIn s = factsOf (boardIn s .chip)
-
 abbrev pub sourcesIn : Settings → Sources
 sourcesIn s = sourcesOf (s .rosc) (s .xosc)
 
 abbrev pub refIn : Settings → ℕ
 refIn s = refHz (sourcesIn s) (s .reference)
 
-abbrev pub sysWith : Settings → Board → ℕ
-sysWith s b = sysHz b (sourcesIn s) (refIn s) (s .sys)
-
 abbrev pub sysIn : Settings → ℕ
-sysIn s = sysWith s (boardIn s)
+sysIn s = sysHz (s .board) (sourcesIn s) (refIn s) (s .sys)
 
-abbrev pub frequenciesWith : Settings → Board → Frequencies
-frequenciesWith s b =
+abbrev pub frequenciesOf : Settings → Frequencies
+frequenciesOf s =
     record {
       sources = sourcesIn s;
       reference = refIn s;
-      sys = sysWith s b;
-      peri = periHz (sourcesIn s) (sysWith s b) (s .peri);
+      sys = sysIn s;
+      peri = periHz (sourcesIn s) (sysIn s) (s .peri);
       usb = auxHz (sourcesIn s) (s .usb);
       adc = auxHz (sourcesIn s) (s .adc);
-      rtc = rtcHz (sourcesIn s) (b .rtc);
+      rtc = rtcHz (sourcesIn s) (s .board .rtc);
+      «usb_source» = auxSourceIn (sourcesIn s) (s .usb);
+      «adc_source» = auxSourceIn (sourcesIn s) (s .adc);
+      «rtc_source» = rtcSourceIn (sourcesIn s) (s .board .rtc);
     }
-
-abbrev pub frequenciesOf : Settings → Frequencies
-frequenciesOf s = frequenciesWith s (boardIn s)
 
 -- the nine that a sheet of either chip stores, in the order of the clocks
 abbrev pub nineOf : Frequencies → List ℕ
@@ -141,7 +140,7 @@ tenthOf Rp2040 hz = hz ∷ []
 tenthOf Rp235x hz = []
 
 unfoldable pub storedOf : Settings → List ℕ
-storedOf s = nineOf (frequenciesOf s) ++ tenthOf (boardIn s .chip) (frequenciesOf s .rtc)
+storedOf s = nineOf (frequenciesOf s) ++ tenthOf (s .board .chip) (frequenciesOf s .rtc)
 
 -- what a fresh runner holds after the sheet: the RTC of an RP235x has 0 Hz
 unfoldable pub tenOf : Settings → List ℕ

@@ -9,7 +9,6 @@ use Rattle.config.specs.declared.OptionRosc.{OptionRosc}
 use Rattle.config.specs.declared.OptionXosc.{OptionXosc}
 use Rattle.config.specs.declared.OptionU32.{OptionU32}
 use Rattle.config.specs.declared.ClockConfig.{ClockConfig}
-use Rattle.config.specs.declared.Board.{Board}
 use Rattle.config.specs.Board.{boardOf}
 use Rattle.settings.specs.declared.OptionCrystal.{OptionCrystal}
 use Rattle.settings.specs.declared.OptionCycles.{OptionCycles}
@@ -37,25 +36,20 @@ unfoldable pub settlingStep : ℕ → ℕ → ℕ → ℕ → OptionCycles
 settlingStep reading code time hz =
     pick (eqb code reading) OptionCycles.None (pick (eqb time 0) OptionCycles.None (OptionCycles.Some (settlingCycles time hz)))
 
--- the settling step of a plan for this board
-abbrev pub settlingIn : ClockConfig → ℕ → Board → OptionCycles
-settlingIn p reading b =
-    settlingStep reading (b .code) (settlingTime (p .«voltage_stabilization_delay_us») (b .«settling_us»)) (ringHz (p .rosc))
-
--- a plan's settings, with what its chip comes to
-abbrev pub settingsWith : ClockConfig → Board → ℕ → Settings
-settingsWith p b reading =
+-- the board is what the chip's part comes to
+abbrev pub settingsOf : ClockConfig → ℕ → Settings
+settingsOf p reading =
+    let b = boardOf (p .chip) in
+    let time = settlingTime (p .«voltage_stabilization_delay_us») (b .«settling_us») in
     record {
       chip = p .chip;
+      board = b;
       rosc = p .rosc;
       xosc = crystalOf (p .xosc);
-      settling = settlingIn p reading b;
+      settling = settlingStep reading (b .code) time (ringHz (p .rosc));
       reference = p .«ref_clk»;
       sys = p .«sys_clk_src»;
       peri = p .«peri_clk_src»;
       usb = p .«usb_clk»;
       adc = p .«adc_clk»;
     }
-
-abbrev pub settingsOf : ClockConfig → ℕ → Settings
-settingsOf p reading = settingsWith p (boardOf (p .chip)) reading

@@ -34,10 +34,10 @@ use Rattle.settings.specs.declared.OptionCycles.the-variants.{Some as cycles, N
 use Rattle.settings.specs.declared.Settings.{Settings}
 use Rattle.settings.specs.declared.Frequencies.{Frequencies}
 use Rattle.settings.specs.Codes.{sysSelect}
-use Rattle.settings.specs.Frequencies.{boardIn}
+use Rattle.settings.specs.Frequencies.{frequenciesOf}
 use Rattle.sheet.specs.Steps.{step1, step2, markSteps, headPart, ringPart, settlingSteps, voltagePart, pllSteps}
 use Rattle.sheet.specs.Steps.{crystalPart, tickSteps, switchSteps, sysPart, periPart, auxPart, rtcPart, clocksPart}
-use Rattle.sheet.specs.Steps.{stepsWith, stepsOf, mostSteps}
+use Rattle.sheet.specs.Steps.{stepsOf, mostSteps}
 
 -- the sum of a weight over kinds, and over the kinds of steps
 abbrev pub weight : (ℕ → ℕ) → List ℕ → ℕ
@@ -166,9 +166,10 @@ module _ (w : ℕ → ℕ) where
   rtc-most Rp2040 hz noRtc = omega arith
   rtc-most Rp235x hz o = omega arith
 
-  clocks-most : (s : Settings) (b : Board) (f : Frequencies) → weigh w (clocksPart s b f) ≤ weight w (clocksKinds (b .chip))
+  clocks-most : (s : Settings) (f : Frequencies) → weigh w (clocksPart s f) ≤ weight w (clocksKinds (s .board .chip))
   unfolding clocksPart clocksKinds
-  clocks-most s b f =
+  clocks-most s f =
+      let b = s .board in
       simp (weigh-append w, weight-append w)
       (omega (
         arith,
@@ -180,10 +181,10 @@ module _ (w : ℕ → ℕ) where
         rtc-most (b .chip) (f .rtc) (b .rtc),
       ))
 
-  with-most : (reading : ℕ) (s : Settings) (b : Board) (f : Frequencies)
-      → weigh w (stepsWith reading s b f) ≤ weight w (sheetKinds (b .chip))
-  unfolding stepsWith headPart sheetKinds
-  with-most reading s b f =
+  pub steps-most : (reading : ℕ) (s : Settings) → weigh w (stepsOf reading s) ≤ weight w (sheetKinds (s .board .chip))
+  unfolding stepsOf headPart sheetKinds
+  steps-most reading s =
+      let b = s .board in
       simp (weigh-append w, weight-append w)
       (omega (
         arith,
@@ -191,11 +192,8 @@ module _ (w : ℕ → ℕ) where
         ring-most (factsOf (b .chip) .pass) (s .rosc),
         voltage-most reading b (s .settling),
         crystal-most (s .xosc),
-        clocks-most s b f,
+        clocks-most s (frequenciesOf s),
       ))
-
-  pub steps-most : (reading : ℕ) (s : Settings) → weigh w (stepsOf reading s) ≤ weight w (sheetKinds (boardIn s .chip))
-  steps-most reading s = with-most reading s _ _
 
 counted : (xs : List Step) → weigh (λ k. 1) xs ≡ length xs
 counted [] = omega arith
@@ -207,9 +205,9 @@ chip-count Rp2040 = (refl, omega arith)
 chip-count Rp235x = (refl, omega arith)
 
 -- a sheet has at most its chip's steps: 65 of the RP2040
-pub chip-few : (reading : ℕ) (s : Settings) → length (stepsOf reading s) ≤ mostSteps (boardIn s .chip)
+pub chip-few : (reading : ℕ) (s : Settings) → length (stepsOf reading s) ≤ mostSteps (s .board .chip)
 chip-few reading s =
-    omega (arith, steps-most (λ k. 1) reading s, counted (stepsOf reading s), chip-count (boardIn s .chip) .0)
+    omega (arith, steps-most (λ k. 1) reading s, counted (stepsOf reading s), chip-count (s .board .chip) .0)
 
 pub steps-few : (reading : ℕ) (s : Settings) → length (stepsOf reading s) ≤ maxSteps
-steps-few reading s = omega (arith, chip-few reading s, chip-count (boardIn s .chip) .1)
+steps-few reading s = omega (arith, chip-few reading s, chip-count (s .board .chip) .1)

@@ -38,7 +38,7 @@ same-sheets p q reading tp tq ep eq = (
       sym (settings-back p reading ep)
       ∙ ap (settingsFrom reading)
       (encoded-injective (stepsOf reading (settingsOf p reading)) (stepsOf reading (settingsOf q reading))
-      (steps-formed (settingsOf p reading) reading ep tp) (steps-formed (settingsOf q reading) reading eq tq) e)
+      (steps-formed p reading ep tp) (steps-formed q reading eq tq) e)
       ∙ settings-back q reading eq),
   λ e. ap (λ (s : Settings). encoded (stepsOf reading s)) e,
 )
@@ -48,7 +48,7 @@ pub one-chip : (p q : ClockConfig) (reading : ℕ) → Typed (settingsOf p readi
     → refusalIn p reading ≡ 0 → refusalIn q reading ≡ 0
     → sheetBytes p reading ≡ sheetBytes q reading → boardOf (p .chip) .chip ≡ boardOf (q .chip) .chip
 one-chip p q reading tp tq ep eq e =
-    ap (λ (s : Settings). boardOf (s .chip) .chip) (same-sheets p q reading tp tq ep eq .0 e)
+    ap (λ (s : Settings). s .board .chip) (same-sheets p q reading tp tq ep eq .0 e)
 
 -- ---- of the writer
 

@@ -13,16 +13,15 @@ use Rattle.step.specs.Bytes.{turnedOf, bytesOf}
 use Rattle.step.specs.Sheet.{maxSteps, maxBytes, encoded}
 use Rattle.step.specs.Access.{roomFor, copied}
 use Rattle.step.proofs.Sheets.{length-encoded}
-use Rattle.chip.specs.Chips.{factsOf}
 use Rattle.config.specs.declared.ClockConfig.{ClockConfig}
-use Rattle.config.specs.declared.Board.{Board}
-use Rattle.config.specs.Board.{boardOf}
-use Rattle.settings.specs.Settings.{settingsOf, settingsWith}
+use Rattle.settings.specs.Settings.{settingsOf}
 use Rattle.settings.specs.declared.Settings.{Settings}
-use Rattle.settings.specs.Typed.{BoardIs, Typed}
+use Rattle.settings.specs.Frequencies.{frequenciesOf}
+use Rattle.config.specs.Board.{FractionFits}
+use Rattle.settings.specs.Typed.{Typed}
 use Rattle.refusals.specs.declared.Examined.{Examined}
 use Rattle.refusals.specs.Refusals.{refusalOf, examinedOf, Accepted}
-use Rattle.sheet.specs.Steps.{stepsOf, stepsWith}
+use Rattle.sheet.specs.Steps.{stepsOf}
 use Rattle.sheet.proofs.Counts.{steps-few}
 use Rattle.sheet.specs.Gather.{Gathered, held, wordOf, pushes}
 use Rattle.sheet.specs.Writer.{sheetBytes, refusalIn, initAnswer, initBuffer, InitCall}
@@ -70,34 +69,29 @@ module _ (g : Gathered) (bytes b : List ℕ) (y : Ready g bytes) where
   )
 
 -- what the writer knows of a plan before it gathers
-pub record Looked (p : ClockConfig) (reading : ℕ) (b : Board) (s : Settings) (x : Examined) : Type 0 where
-  pub board-is : b ≡ boardOf (p .chip)
+pub record Looked (p : ClockConfig) (reading : ℕ) (s : Settings) (x : Examined) : Type 0 where
   pub settings-are : s ≡ settingsOf p reading
-  pub examined : x ≡ examinedOf (settingsOf p reading) (boardOf (p .chip)) reading
   pub number-is : x .number ≡ refusalIn p reading
+  pub frequencies-are : x .frequencies ≡ frequenciesOf s
   pub typed : Typed (settingsOf p reading)
 
-pub looked : (p : ClockConfig) (reading : ℕ) {b : Board} {s : Settings} {x : Examined}
-    → (b ≡ boardOf (p .chip)) × (b .fraction < factsOf (b .chip) .scale) → s ≡ settingsWith p b reading
-    → (x ≡ examinedOf s b reading) × (BoardIs s b → Typed s) → Looked p reading b s x
-unfolding refusalOf
-looked p reading {b} {s} {x} k e h =
-    let set : s ≡ settingsOf p reading = e ∙ ap (λ (b : Board). settingsWith p b reading) (k .0) in
-    let found : x ≡ examinedOf (settingsOf p reading) (boardOf (p .chip)) reading = rw (set, k .0) at (h .0) in
+pub looked : (p : ClockConfig) (reading : ℕ) {s : Settings} {x : Examined}
+    → (s ≡ settingsOf p reading) × FractionFits (s .board)
+    → (x ≡ examinedOf s reading) × (FractionFits (s .board) → Typed s) → Looked p reading s x
+looked p reading {s} {x} k h =
     record {
-      board-is = k .0;
-      settings-are = set;
-      examined = found;
-      number-is = ap (λ (x : Examined). x .number) found;
-      typed = rw set at (h .1) k;
+      settings-are = k .0;
+      number-is = ap (λ (x : Examined). x .number) (h .0) ∙ ap (λ (s : Settings). refusalOf s reading) (k .0);
+      frequencies-are = ap (λ (x : Examined). x .frequencies) (h .0);
+      typed = rw (k .0) at (h .1 (k .1));
     }
 
-pub ready : (p : ClockConfig) (reading : ℕ) {b : Board} {s : Settings} {x : Examined} {g : Gathered}
-    → Looked p reading b s x → g ≡ pushes (held (replicate maxSteps 0) 0) (stepsWith reading s b (x .frequencies))
+pub ready : (p : ClockConfig) (reading : ℕ) {s : Settings} {x : Examined} {g : Gathered} → Looked p reading s x
+    → (x .frequencies ≡ frequenciesOf s → g ≡ pushes (held (replicate maxSteps 0) 0) (stepsOf reading s))
     → Ready g (sheetBytes p reading)
 unfolding sheetBytes
 ready p reading l e =
-    ready-of _ (steps-few reading (settingsOf p reading)) (rw (l .settings-are, l .examined, l .board-is) at e)
+    ready-of _ (steps-few reading (settingsOf p reading)) (rw (l .settings-are) at (e (l .frequencies-are)))
 
 -- the greatest number of bytes is enough for every sheet
 pub sheet-most : (p : ClockConfig) (reading : ℕ) → length (sheetBytes p reading) ≤ maxBytes

@@ -25,7 +25,7 @@ use Rattle.refusals.specs.Refusals.{usbPllInvalid, dividerBad, referenceBad, wh
 use Rattle.refusals.specs.Refusals.{refusalOf, Accepted}
 use Rattle.settings.specs.Typed.{Typed}
 use Rattle.sheet.specs.Steps.{step0, step1, headPart, ringPart, voltagePart, crystalPart, switchSteps, sysPart}
-use Rattle.sheet.specs.Steps.{periPart, auxPart, rtcPart, releaseMask, clocksPart, stepsWith, stepsOf}
+use Rattle.sheet.specs.Steps.{periPart, auxPart, rtcPart, releaseMask, clocksPart, stepsOf}
 
 -- a plan of numbers of their types that is accepted at a reading and gives a sheet of n steps
 pub record Gives (p : ClockConfig) (reading n : ℕ) : Type 0 where
@@ -58,7 +58,7 @@ counts : Gives (crystalPlan Rp2040 12000000) 11 62 × Gives (crystalPlan Rp235x 
 unfolding longestPlan longest235 startupSum cyclesPerUs settlingCycles dividedHz settlingStep pllHz sourcesOf refHz sysHz
     strengthsOver ringDividerOver settlingOver startupOver sysPllInvalid usbPllInvalid dividerBad referenceBad wholeBad
     periBad auxBad rtcBad refusalOf headPart ringPart voltagePart crystalPart switchSteps sysPart periPart auxPart rtcPart
-    clocksPart stepsWith
+    clocksPart stepsOf
 counts = (
   record {
     typed = record { rosc = omega arith; xosc = omega arith; fraction = omega arith; rtc = omega arith };
@@ -109,7 +109,7 @@ pub crystal-kinds-235 : map (λ (x : Step). x .kind) (stepsOf 11 (settingsOf (cr
 unfolding startupSum cyclesPerUs settlingCycles dividedHz settlingStep pllHz sourcesOf refHz sysHz strengthsOver
     ringDividerOver settlingOver startupOver sysPllInvalid usbPllInvalid dividerBad referenceBad wholeBad periBad auxBad rtcBad
     refusalOf headPart ringPart voltagePart crystalPart switchSteps
-    sysPart periPart auxPart rtcPart clocksPart stepsWith
+    sysPart periPart auxPart rtcPart clocksPart stepsOf
 crystal-kinds-235 = refl
 
 abbrev pub at : ℕ → Step
@@ -120,5 +120,5 @@ pub crystal-fields-235 :
 unfolding releaseMask startupSum cyclesPerUs settlingCycles dividedHz settlingStep pllHz sourcesOf refHz sysHz strengthsOver
     ringDividerOver settlingOver startupOver sysPllInvalid usbPllInvalid dividerBad referenceBad wholeBad periBad auxBad rtcBad
     refusalOf headPart ringPart voltagePart crystalPart switchSteps
-    sysPart periPart auxPart rtcPart clocksPart stepsWith
+    sysPart periPart auxPart rtcPart clocksPart stepsOf
 crystal-fields-235 = (refl, refl, refl, refl)

@@ -10,9 +10,7 @@ use Rattle.base.proofs.Bools.{both-false}
 use Rattle.config.specs.declared.OptionAux.{OptionAux}
 use Rattle.config.specs.declared.OptionAux.the-variants.{Some as aux, None as noAux}
 use Rattle.settings.specs.declared.OptionCycles.the-variants.{None as noCycles}
-use Rattle.settings.specs.declared.Sources.{Sources}
 use Rattle.settings.specs.Settings.{settlingStep}
-use Rattle.settings.specs.Frequencies.{auxSource}
 use Rattle.refusals.specs.Refusals.{dividerBad, auxBad}
 use Rattle.refusals.proofs.Accepted.{divider-good}
 use Rattle.settings.proofs.Decoded.{Small, AuxSmall}
@@ -26,13 +24,12 @@ abbrev pub AuxFits : OptionAux → Type 0
 AuxFits (aux a) = Small (a .div) × (a .phase < 4)
 AuxFits noAux = Unit {0}
 
-pub aux-fits : (f : Sources) (o : OptionAux) → auxBad f o ≡ false → AuxFits o
+pub aux-fits : (source : ℕ) (o : OptionAux) → auxBad source o ≡ false → AuxFits o
 unfolding auxBad
-aux-fits f (aux a) e =
-    let still : Bool = eqb (auxSource f (a .src)) 0 in
-    let h = none-more (still || dividerBad (a .div)) 3 (a .phase) e in
-    (divider-good (a .div) (both-false still (dividerBad (a .div)) (h .0) .1), omega (arith, h .1))
-aux-fits f noAux e = tt
+aux-fits source (aux a) e =
+    let h = none-more (eqb source 0 || dividerBad (a .div)) 3 (a .phase) e in
+    (divider-good (a .div) (both-false (eqb source 0) (dividerBad (a .div)) (h .0) .1), omega (arith, h .1))
+aux-fits source noAux e = tt
 
 pub aux-divider : (o : OptionAux) → AuxFits o → AuxSmall o
 aux-divider (aux a) h = h .0

@@ -40,7 +40,6 @@ use Rattle.settings.specs.declared.OptionCycles.the-variants.{Some as cycles, N
 use Rattle.settings.specs.declared.Sources.{Sources}
 use Rattle.settings.specs.Codes.{sysSelect}
 use Rattle.settings.specs.Settings.{ringHz}
-use Rattle.settings.specs.Frequencies.{auxSource}
 use Rattle.settings.specs.Typed.{RtcTyped}
 use Rattle.settings.proofs.Small.{Hz, AllHz}
 use Rattle.refusals.specs.Refusals.{strengthsOver, ringDividerOver, settlingOver, startupOver, pllInvalid}
@@ -214,19 +213,19 @@ aux-good false hz h (aux a) d = record { each = omega (arith, aux-code (a .src) 
 aux-good true hz h noAux d = record { each = omega arith }
 aux-good false hz h noAux d = record { each = omega arith }
 
-pub rtc-good : (chip : Chip) (f : Sources) (hz : ℕ) → hz ≤ 65535 → (o : OptionRtc) → RtcTyped o → rtcBad f hz o ≡ false
+pub rtc-good : (chip : Chip) (source hz : ℕ) → hz ≤ 65535 → (o : OptionRtc) → RtcTyped o → rtcBad source hz o ≡ false
     → GoodSteps (rtcPart chip hz o)
 unfolding rtcPart rtcBad known widths width rows storable
-rtc-good Rp2040 f hz few (rtc r) t e =
-    let still : Bool = eqb (auxSource f (r .src)) 0 in
+rtc-good Rp2040 source hz few (rtc r) t e =
+    let still : Bool = eqb source 0 in
     let h3 = none-more (still || wholeBad 16777215 (r .«div_int») || ltb 3 (r .phase)) 65535 hz e in
     let h2 = none-more (still || wholeBad 16777215 (r .«div_int»)) 3 (r .phase) (h3 .0) in
     let w = whole-good 16777215 (r .«div_int») (both-false still (wholeBad 16777215 (r .«div_int»)) (h2 .0) .1) in
     let turn : r .phase ≤ 3 = h2 .1 in
     let held : Good (storeStep 9 hz) = (tt, omega (arith, few), le→leb hz 65535 few) in
     record { each = (omega (arith, w), (omega (arith, aux-code (r .src) .1), (held, tt))) }
-rtc-good Rp2040 f hz few noRtc t e = record { each = ((tt, omega (arith, few), le→leb hz 65535 few), tt) }
-rtc-good Rp235x f hz few o t e = record { each = tt }
+rtc-good Rp2040 source hz few noRtc t e = record { each = ((tt, omega (arith, few), le→leb hz 65535 few), tt) }
+rtc-good Rp235x source hz few o t e = record { each = tt }
 
 pub last-good : (chip : Chip) (p : OptionPeri) (u a : OptionAux) (r : OptionRtc)
     → GoodSteps (lastPart (releaseMask chip p u a r))

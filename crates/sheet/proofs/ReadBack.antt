@@ -20,6 +20,7 @@ use Rattle.config.specs.declared.Board.{Board}
 use Rattle.config.specs.declared.ChipConfig.{ChipConfig}
 use Rattle.config.specs.declared.ChipConfig.the-variants.{Rp2040 as on2040, Rp235x as on235x}
 use Rattle.config.specs.Board.{boardOf}
+use Rattle.config.specs.declared.ClockConfig.{ClockConfig}
 use Rattle.config.specs.declared.OptionRosc.{OptionRosc}
 use Rattle.config.specs.declared.OptionRosc.the-variants.{Some as ring, None as noRing}
 use Rattle.config.specs.declared.OptionPll.{OptionPll}
@@ -35,11 +36,12 @@ use Rattle.settings.specs.declared.OptionCrystal.the-variants.{Some as crystal,
 use Rattle.settings.specs.declared.OptionCycles.{OptionCycles}
 use Rattle.settings.specs.declared.OptionCycles.the-variants.{Some as cycles, None as noCycles}
 use Rattle.settings.specs.declared.Settings.{Settings}
-use Rattle.settings.specs.Frequencies.{sourcesOf, boardIn}
+use Rattle.settings.specs.Settings.{settingsOf}
+use Rattle.settings.specs.Frequencies.{sourcesOf}
 use Rattle.settings.proofs.Decoded.{range-code, ref-code, peri-code, aux-code, chip-back, Small, AuxSmall, div-back}
 use Rattle.sheet.specs.Steps.{step1, storeStep, markSteps, headPart, ringPart, settlingSteps, voltagePart}
 use Rattle.sheet.specs.Steps.{pllSteps, crystalPart, tickSteps, switchSteps, sysPart, periPart, auxPart, rtcPart}
-use Rattle.sheet.specs.Steps.{lastPart, clocksPart, stepsWith, stepsOf}
+use Rattle.sheet.specs.Steps.{lastPart, clocksPart, stepsOf}
 use Rattle.sheet.specs.Read.{part, Voltage, readChip, readRing, readVoltage, pastTick, readPll, readCrystal}
 use Rattle.sheet.specs.Read.{readSys, readPeri, readAux, readRtc, settingsFrom}
 
@@ -157,17 +159,19 @@ rtc-back (on2040 c) hz mask = go (c .«rtc_clk»)
     go noRtc = refl
 rtc-back (on235x c) hz mask = refl
 
--- settings that are read back: those of every accepted plan are
+-- plans whose settings are read back: every accepted plan is one
 pub record Readable (reading : ℕ) (s : Settings) : Type 0 where
-  pub still : boardIn s .code ≡ reading → s .settling ≡ noCycles
+  pub still : s .board .code ≡ reading → s .settling ≡ noCycles
   pub reference : Small (s .reference .div)
   pub usb : AuxSmall (s .usb)
   pub adc : AuxSmall (s .adc)
 
-pub readable-back : (reading : ℕ) (s : Settings) → Readable reading s → settingsFrom reading (stepsOf reading s) ≡ s
-unfolding settingsFrom stepsWith headPart clocksPart
-readable-back reading s h =
-    let b = boardIn s in
+pub readable-back : (reading : ℕ) (p : ClockConfig) → Readable reading (settingsOf p reading)
+    → settingsFrom reading (stepsOf reading (settingsOf p reading)) ≡ settingsOf p reading
+unfolding settingsFrom stepsOf headPart clocksPart
+readable-back reading p h =
+    let s = settingsOf p reading in
+    let b = s .board in
     rw (
       mark-back (b .chip),
       ring-back _ (s .rosc),

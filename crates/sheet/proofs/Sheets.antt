@@ -6,15 +6,14 @@ use Prim.Native.Nat.{ℕ}
 use Rattle.config.specs.Board.{boardOf}
 use Rattle.step.specs.Sheet.{AllFormed}
 use Rattle.config.specs.declared.ClockConfig.{ClockConfig}
-use Rattle.settings.specs.declared.Settings.{Settings}
 use Rattle.settings.specs.Settings.{settingsOf}
-use Rattle.settings.specs.Frequencies.{boardIn, frequenciesOf}
+use Rattle.settings.specs.Frequencies.{frequenciesOf}
 use Rattle.settings.specs.Typed.{Typed}
-use Rattle.refusals.specs.Refusals.{refusalOf, Accepted}
+use Rattle.refusals.specs.Refusals.{Accepted}
 use Rattle.refusals.proofs.Accepted.{accepted-by, divider-good, whole-good, reference-good}
 use Rattle.refusals.proofs.Stored.{stored}
 use Rattle.settings.proofs.Decoded.{board-small}
-use Rattle.sheet.specs.Steps.{clocksPart, stepsWith, stepsOf}
+use Rattle.sheet.specs.Steps.{clocksPart, stepsOf}
 use Rattle.sheet.specs.Read.{settingsFrom}
 use Rattle.sheet.proofs.Facts.{aux-fits, aux-divider, settling-none}
 use Rattle.sheet.proofs.Stores.{ring-source}
@@ -27,7 +26,7 @@ pub settings-back : (p : ClockConfig) (reading : ℕ) → Accepted p reading
 settings-back p reading ok =
     let s = settingsOf p reading in
     let a = accepted-by s reading ok in
-    readable-back reading s
+    readable-back reading p
     (record {
       still = settling-none reading (boardOf (p .chip) .code) _ _;
       reference = divider-good (p .«ref_clk» .div) (a 7);
@@ -35,11 +34,13 @@ settings-back p reading ok =
       adc = aux-divider (s .adc) (aux-fits _ _ (a 13));
     })
 
-pub steps-formed : (s : Settings) (reading : ℕ) → refusalOf s reading ≡ 0 → Typed s → AllFormed (stepsOf reading s)
-unfolding stepsWith clocksPart
-steps-formed s reading ok t =
+pub steps-formed : (p : ClockConfig) (reading : ℕ) → Accepted p reading → Typed (settingsOf p reading)
+    → AllFormed (stepsOf reading (settingsOf p reading))
+unfolding stepsOf clocksPart
+steps-formed p reading ok t =
+    let s = settingsOf p reading in
     let a = accepted-by s reading ok in
-    let b = boardIn s in
+    let b = s .board in
     let chip = b .chip in
     let f = frequenciesOf s in
     let hz = stored s reading t ok in
@@ -47,7 +48,7 @@ steps-formed s reading ok t =
     (mark-good chip
     and head-good chip
     and ring-good _ (s .rosc) (rw (← ring-source (s .rosc) (s .xosc)) (t .rosc)) (a 1) (a 2)
-    and voltage-good reading b (s .settling) (board-small (s .chip)) (a 3)
+    and voltage-good reading b (s .settling) (board-small (p .chip)) (a 3)
     and crystal-good (s .xosc) (a 4) (a 5) (a 6)
     and source-good (f .sources) (hz .sources)
     and ref-good chip (f .reference) (s .reference) (reference-good (f .reference) (a 8))
@@ -55,5 +56,5 @@ steps-formed s reading ok t =
     and peri-good (f .peri) (hz .peri) (s .peri)
     and aux-good true (f .usb) (hz .usb) (s .usb) (aux-fits _ _ (a 12))
     and aux-good false (f .adc) (hz .adc) (s .adc) (aux-fits _ _ (a 13))
-    and rtc-good chip (f .sources) (f .rtc) (hz .rtc) (b .rtc) (t .rtc) (a 14)
+    and rtc-good chip (f .«rtc_source») (f .rtc) (hz .rtc) (b .rtc) (t .rtc) (a 14)
     and last-good chip (s .peri) (s .usb) (s .adc) (b .rtc))

@@ -31,10 +31,10 @@ use Rattle.settings.specs.declared.OptionCycles.the-variants.{Some as cycles, N
 use Rattle.settings.specs.declared.Settings.{Settings}
 use Rattle.settings.specs.Codes.{sysSelect, sysAux}
 use Rattle.settings.specs.Settings.{ringHz}
-use Rattle.settings.specs.Frequencies.{sourcesOf, tenthOf, boardIn, storedOf}
+use Rattle.settings.specs.Frequencies.{sourcesOf, tenthOf, storedOf}
 use Rattle.sheet.specs.Steps.{step1, step2, storeStep, markSteps, headPart, ringPart, settlingSteps, voltagePart}
 use Rattle.sheet.specs.Steps.{pllSteps, crystalPart, refPart, switchSteps, sysPart, periPart, auxPart, rtcPart}
-use Rattle.sheet.specs.Steps.{lastPart, clocksPart, stepsWith, stepsOf}
+use Rattle.sheet.specs.Steps.{lastPart, clocksPart, stepsOf}
 use Rattle.sheet.specs.Stores.{storesIn, storesFrom}
 
 mark-stores : (chip : Chip) (ys : List Step) → storesIn (markSteps chip ++ ys) ≡ storesIn ys
@@ -124,9 +124,9 @@ ring-source r (crystal x) = refl
 ring-source r noCrystal = refl
 
 pub sheet-stores : (reading : ℕ) (s : Settings) → storesIn (stepsOf reading s) ≡ storesFrom 0 (storedOf s)
-unfolding stepsWith headPart clocksPart storedOf
+unfolding stepsOf headPart clocksPart storedOf
 sheet-stores reading s =
-    let b = boardIn s in
+    let b = s .board in
     rw (
       mark-stores (b .chip),
       ring-stores _ (s .rosc),

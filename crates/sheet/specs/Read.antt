@@ -19,6 +19,7 @@ use Rattle.config.specs.declared.OptionPll.{OptionPll}
 use Rattle.config.specs.declared.OptionPeri.{OptionPeri}
 use Rattle.config.specs.declared.OptionAux.{OptionAux}
 use Rattle.config.specs.declared.OptionRtc.{OptionRtc}
+use Rattle.config.specs.Board.{boardOf}
 use Rattle.settings.specs.declared.OptionCrystal.{OptionCrystal}
 use Rattle.settings.specs.declared.OptionCycles.{OptionCycles}
 use Rattle.settings.specs.declared.Settings.{Settings}
@@ -168,8 +169,10 @@ settingsFrom reading xs =
     readPeri xs then λ peri xs.
     readAux kind.usb-divider xs then λ usb xs.
     readAux kind.adc-divider xs then λ adc xs.
+    let on = chipFrom chip (v .code) (sys .whole) (sys .fraction) (readRtc xs) in
     record {
-      chip = chipFrom chip (v .code) (sys .whole) (sys .fraction) (readRtc xs);
+      chip = on;
+      board = boardOf on;
       rosc = rosc;
       xosc = xosc;
       settling = v .settling;

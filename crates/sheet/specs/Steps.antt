@@ -26,7 +26,7 @@ use Rattle.settings.specs.declared.Sources.{Sources}
 use Rattle.settings.specs.declared.Frequencies.{Frequencies}
 use Rattle.settings.specs.Codes.{rangeCode, refCode, sysSelect, sysAux, periAux, auxCode}
 use Rattle.settings.specs.Settings.{ringHz}
-use Rattle.settings.specs.Frequencies.{boardIn, frequenciesOf}
+use Rattle.settings.specs.Frequencies.{frequenciesOf}
 
 -- steps of a kind with fewer than five fields
 abbrev pub step4 : ℕ → ℕ → ℕ → ℕ → ℕ → Step
@@ -209,29 +209,26 @@ abbrev pub lastPart : ℕ → List Step
 lastPart mask = step1 kind.release mask ∷ step1 kind.wait-released mask ∷ []
 
 -- from the sources on
-unfoldable pub clocksPart : Settings → Board → Frequencies → List Step
-clocksPart s b f =
+unfoldable pub clocksPart : Settings → Frequencies → List Step
+clocksPart s f =
     sourcePart (f .sources)
-    ++ (refPart (b .chip) (f .reference) (s .reference)
-    ++ (sysPart b (f .sys) (s .sys)
+    ++ (refPart (s .board .chip) (f .reference) (s .reference)
+    ++ (sysPart (s .board) (f .sys) (s .sys)
     ++ (periPart (f .peri) (s .peri)
     ++ (auxPart kind.usb-divider kind.usb-control 7 (f .usb) (s .usb)
     ++ (auxPart kind.adc-divider kind.adc-control 8 (f .adc) (s .adc)
-    ++ (rtcPart (b .chip) (f .rtc) (b .rtc)
-    ++ lastPart (releaseMask (b .chip) (s .peri) (s .usb) (s .adc) (b .rtc))))))))
+    ++ (rtcPart (s .board .chip) (f .rtc) (s .board .rtc)
+    ++ lastPart (releaseMask (s .board .chip) (s .peri) (s .usb) (s .adc) (s .board .rtc))))))))
 
--- the whole sheet, of settings, what their chip comes to, and their frequencies
-unfoldable pub stepsWith : ℕ → Settings → Board → Frequencies → List Step
-stepsWith reading s b f =
-    markSteps (b .chip)
-    ++ (headPart (b .chip)
-    ++ (ringPart (factsOf (b .chip) .pass) (s .rosc)
-    ++ (voltagePart reading b (s .settling)
+-- the whole sheet
+unfoldable pub stepsOf : ℕ → Settings → List Step
+stepsOf reading s =
+    markSteps (s .board .chip)
+    ++ (headPart (s .board .chip)
+    ++ (ringPart (factsOf (s .board .chip) .pass) (s .rosc)
+    ++ (voltagePart reading (s .board) (s .settling)
     ++ (crystalPart (s .xosc)
-    ++ clocksPart s b f))))
-
-abbrev pub stepsOf : ℕ → Settings → List Step
-stepsOf reading s = stepsWith reading s (boardIn s) (frequenciesOf s)
+    ++ clocksPart s (frequenciesOf s)))))
 
 -- the greatest number of steps of a chip's sheet
 abbrev pub mostSteps : Chip → ℕ

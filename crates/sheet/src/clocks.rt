@@ -190,15 +190,10 @@ fn release_mask(chip: Chip, peri: OptionPeri, usb: OptionAux, adc: OptionAux, rt
     base::less(k.last as usize, kept) as u64
 }
 
-pub(crate) fn put_clocks(
-    words: &mut Words,
-    at: usize,
-    s: Settings,
-    b: Board,
-    f: Frequencies,
-) -> usize
-    ensures { λ r. ⌜ held (now (words .exit)) r ≡ pushes (held (now (words .entry)) at) (clocksPart s b f) ⌝ }
+pub(crate) fn put_clocks(words: &mut Words, at: usize, s: Settings, f: Frequencies) -> usize
+    ensures { λ r. ⌜ held (now (words .exit)) r ≡ pushes (held (now (words .entry)) at) (clocksPart s f) ⌝ }
 {
+    let b = s.board;
     let chip = b.chip;
     let rtc = b.rtc;
     let sources = f.sources;

@@ -5,19 +5,20 @@ mod words;
 
 use crate::words::Words;
 use base::Length;
-use config::Board;
 use config::ClockConfig;
 use settings::Frequencies;
 use settings::Settings;
 ghost use mathlib.Core.Path.{_≡_};
-ghost use Rattle.sheet.specs.Steps.{stepsWith};
+ghost use Rattle.settings.specs.Frequencies.{frequenciesOf};
+ghost use Rattle.sheet.specs.Steps.{stepsOf};
 ghost use Rattle.sheet.specs.Gather.{held, pushes};
 ghost use Rattle.sheet.specs.Writer.{InitCall};
 
-// The steps of settings at a regulator reading, with what their chip comes to and their frequencies, from the first word on.
-fn gather(words: &mut Words, s: Settings, b: Board, f: Frequencies, reading: u8) -> usize
-    ensures { λ r. ⌜ held (now (words .exit)) r ≡ pushes (held (now (words .entry)) 0) (stepsWith reading s b f) ⌝ }
+// The steps of settings at a regulator reading, with their frequencies, from the first word on.
+fn gather(words: &mut Words, s: Settings, f: Frequencies, reading: u8) -> usize
+    ensures { λ r. ⌜ (f ≡ frequenciesOf s → held (now (words .exit)) r ≡ pushes (held (now (words .entry)) 0) (stepsOf reading s)) ⌝ }
 {
+    let b = s.board;
     let chip = b.chip;
     let k = chip.facts();
     let ring = s.rosc;
@@ -27,23 +28,21 @@ fn gather(words: &mut Words, s: Settings, b: Board, f: Frequencies, reading: u8)
     let at = oscillators::put_ring(words, at, k.pass, ring);
     let at = oscillators::put_voltage(words, at, reading, b, settling);
     let at = oscillators::put_crystal(words, at, crystal);
-    clocks::put_clocks(words, at, s, b, f)
+    clocks::put_clocks(words, at, s, f)
 }
 
 // Writes the sheet of a plan at a regulator reading to the start of the caller's bytes. A refusal changes nothing.
 pub fn init(config: ClockConfig, reading: u8, sheet: &mut [u8]) -> Length
     ensures { λ r. ⌜ InitCall config reading (now (sheet .entry)) r (now (sheet .exit)) ⌝ }
 {
-    let chip = config.chip;
-    let b = chip.board();
-    let s = settings::settings_of(config, b, reading);
-    let found = refusals::examine(s, b, reading);
+    let s = settings::settings_of(config, reading);
+    let found = refusals::examine(s, reading);
     if found.number != 0 {
         return Length::Refused(found.number);
     }
     let f = found.frequencies;
     let mut words = [0u64; step::MAX_STEPS];
-    let count = gather(&mut words, s, b, f, reading);
+    let count = gather(&mut words, s, f, reading);
     if !step::copy_turned(&words[..count], sheet) {
         return Length::Refused(19);
     }

@@ -19,7 +19,7 @@ use Rattle.settings.specs.Frequencies.{pllHz, sourcesOf, refHz, sysHz, tenOf}
 use Rattle.settings.specs.Typed.{Typed}
 use Rattle.refusals.specs.Refusals.{Accepted}
 use Rattle.sheet.specs.Steps.{headPart, ringPart, voltagePart, crystalPart, switchSteps, sysPart, periPart, auxPart}
-use Rattle.sheet.specs.Steps.{rtcPart, clocksPart, stepsWith, mostSteps}
+use Rattle.sheet.specs.Steps.{rtcPart, clocksPart, stepsOf, mostSteps}
 use Rattle.sheet.specs.Writer.{sheetBytes}
 use Rattle.sheet.proofs.Counts.{chip-few, steps-few}
 use Rattle.sheet.proofs.Sheets.{steps-formed}
@@ -39,20 +39,20 @@ module _ (p : ClockConfig) (reading : ℕ) (ok : Accepted p reading) (t : Typed 
   comes-up k small ready hears =
       let s = settingsOf p reading in
       let steps = planSteps p reading in
-      let up = steps-come-up steps (steps-formed s reading ok t) (steps-few reading s) k small ready hears in
+      let up = steps-come-up steps (steps-formed p reading ok t) (steps-few reading s) k small ready hears in
       let polls : k * waitsIn steps ≤ k * maxWaits = mul-le-mul-left k (waits-ten reading s) in
       record {
         calls = up .calls;
         few = omega (arith, up .few, polls, chip-few reading s);
-        up = rw (steps-store reading s) at (up .up);
+        up = rw (steps-store reading p) at (up .up);
       }
 
   pub comes-up-ready : ComesUpReady p reading
   unfolding sheetBytes
   comes-up-ready ready hears =
       let s = settingsOf p reading in
-      rw (steps-store reading s) at
-      (steps-come-up-ready (planSteps p reading) (steps-formed s reading ok t) (steps-few reading s) ready hears)
+      rw (steps-store reading p) at
+      (steps-come-up-ready (planSteps p reading) (steps-formed p reading ok t) (steps-few reading s) ready hears)
 
 -- the bound is reached: the longest plan of each chip at reading 11, kept waiting by the slowest stream
 abbrev pub longest : Chip → ClockConfig
@@ -65,7 +65,7 @@ longest-gives Rp235x = longest-steps-235
 
 longest-waits : (chip : Chip) → waitsIn (planSteps (longest chip) 11) ≡ maxWaits
 unfolding longestPlan longest235 cyclesPerUs settlingCycles dividedHz settlingStep pllHz sourcesOf refHz sysHz headPart ringPart
-    voltagePart crystalPart switchSteps sysPart periPart auxPart rtcPart clocksPart stepsWith
+    voltagePart crystalPart switchSteps sysPart periPart auxPart rtcPart clocksPart stepsOf
 longest-waits Rp2040 = refl
 longest-waits Rp235x = refl
 
@@ -79,8 +79,8 @@ bound-reached chip k small =
     let xs = planSteps (longest chip) 11 in
     let calls : length xs + k * waitsIn xs ≡ mostCalls chip k = rw (g .count, longest-waits chip) (omega arith) in (
       slow-few k (encoded xs),
-      rw (calls, steps-store 11 s) at
-          (steps-come-up-slowest xs (steps-formed s 11 (g .accepted) (g .typed)) (steps-few 11 s) k small),
+      rw (calls, steps-store 11 (longest chip)) at
+          (steps-come-up-slowest xs (steps-formed (longest chip) 11 (g .accepted) (g .typed)) (steps-few 11 s) k small),
     )
 
 least : (n m : ℕ) (sheet : List ℕ) (ready : ℕ → Bool) (held freqs : List ℕ) → UpAfter n sheet ready held

@@ -36,11 +36,11 @@ module _ (p : ClockConfig) (reading : ℕ) (ok : Accepted p reading) (t : Typed 
   unfolding sheetBytes
   sheet-answers =
       let s = settingsOf p reading in
-      ready-answers (planSteps p reading) (steps-formed s reading ok t) (steps-few reading s)
+      ready-answers (planSteps p reading) (steps-formed p reading ok t) (steps-few reading s)
 
   pub sheet-run : LeavesStored p reading
   unfolding sheetBytes
   sheet-run =
       let s = settingsOf p reading in
-      ready-stores (planSteps p reading) (steps-formed s reading ok t) (steps-few reading s)
-      ∙ ap (readyAt (sheetBytes p reading) (length (planSteps p reading))) (steps-store reading s)
+      ready-stores (planSteps p reading) (steps-formed p reading ok t) (steps-few reading s)
+      ∙ ap (readyAt (sheetBytes p reading) (length (planSteps p reading))) (steps-store reading p)

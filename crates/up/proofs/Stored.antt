@@ -11,9 +11,10 @@ use Rattle.step.specs.declared.Step.{Step}
 use Rattle.step.specs.Kinds as kind
 use Rattle.config.specs.declared.ChipConfig.{ChipConfig}
 use Rattle.config.specs.declared.ChipConfig.the-variants.{Rp2040 as on2040, Rp235x as on235x}
+use Rattle.config.specs.declared.ClockConfig.{ClockConfig}
 use Rattle.config.specs.Board.{boardOf}
-use Rattle.settings.specs.declared.Settings.{Settings}
 use Rattle.settings.specs.declared.Sources.{Sources}
+use Rattle.settings.specs.Settings.{settingsOf}
 use Rattle.settings.specs.Frequencies.{rtcHz, tenthOf, storedOf, tenOf}
 use Rattle.sheet.specs.Steps.{stepsOf}
 use Rattle.sheet.specs.Stores.{storesIn, storesFrom}
@@ -44,9 +45,11 @@ unfolding storedBy
 tenth (on2040 c) f a₀ a₁ a₂ a₃ a₄ a₅ a₆ a₇ a₈ = refl
 tenth (on235x c) f a₀ a₁ a₂ a₃ a₄ a₅ a₆ a₇ a₈ = refl
 
-pub steps-store : (reading : ℕ) (s : Settings) → storesOf (stepsOf reading s) (replicate 10 0) ≡ tenOf s
+pub steps-store : (reading : ℕ) (p : ClockConfig)
+    → storesOf (stepsOf reading (settingsOf p reading)) (replicate 10 0) ≡ tenOf (settingsOf p reading)
 unfolding storedOf tenOf storedBy
-steps-store reading s =
+steps-store reading p =
+    let s = settingsOf p reading in
     stores-alone (stepsOf reading s) (replicate 10 0)
     ∙ ap (λ (xs : List Step). storesOf xs (replicate 10 0)) (sheet-stores reading s)
-    ∙ tenth (s .chip) _ _ _ _ _ _ _ _ _ _
+    ∙ tenth (p .chip) _ _ _ _ _ _ _ _ _ _

@@ -9,7 +9,6 @@ use Rattle.step.specs.declared.Step.{Step}
 use Rattle.chip.specs.declared.Chip.{Chip}
 use Rattle.chip.specs.declared.Chip.the-variants.{Rp2040, Rp235x}
 use Rattle.settings.specs.declared.Settings.{Settings}
-use Rattle.settings.specs.Frequencies.{boardIn}
 use Rattle.sheet.specs.Steps.{stepsOf}
 use Rattle.sheet.proofs.Counts.{weight, weigh, clocksKinds, sheetKinds, steps-most}
 use Rattle.runner.specs.Run.{isWait}
@@ -27,5 +26,5 @@ chip-waits Rp235x = refl
 
 pub waits-ten : (reading : ℕ) (s : Settings) → waitsIn (stepsOf reading s) ≤ maxWaits
 waits-ten reading s =
-    let count = chip-waits (boardIn s .chip) in
+    let count = chip-waits (s .board .chip) in
     omega (arith, steps-most (λ k. bit (isWait k)) reading s, weighed (stepsOf reading s), count)

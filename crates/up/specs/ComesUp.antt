@@ -9,7 +9,7 @@ use Rattle.step.specs.Sheet.{maxSteps}
 use Rattle.chip.specs.declared.Chip.{Chip}
 use Rattle.config.specs.declared.ClockConfig.{ClockConfig}
 use Rattle.settings.specs.Settings.{settingsOf}
-use Rattle.settings.specs.Frequencies.{boardIn, tenOf}
+use Rattle.settings.specs.Frequencies.{tenOf}
 use Rattle.sheet.specs.Steps.{mostSteps}
 use Rattle.sheet.specs.Writer.{sheetBytes}
 use Rattle.up.specs.Up.{planSteps}
@@ -27,7 +27,7 @@ mostCalls chip k = mostSteps chip + maxWaits * k
 abbrev pub ComesUp : ClockConfig → ℕ → Type 0
 ComesUp p reading =
     (k : ℕ) → k < 1000000 → (ready : ℕ → Bool) → HearsAtMost k (sheetBytes p reading) ready
-    → UpWithin (mostCalls (boardIn (settingsOf p reading) .chip) k) (sheetBytes p reading) ready (tenOf (settingsOf p reading))
+    → UpWithin (mostCalls (settingsOf p reading .board .chip) k) (sheetBytes p reading) ready (tenOf (settingsOf p reading))
 
 -- with none, after as many as the sheet has steps
 abbrev pub ComesUpReady : ClockConfig → ℕ → Type 0

@@ -1,3 +1,4 @@
 pub mod Commas
 pub mod Forms
 pub mod Starts
+pub mod Named

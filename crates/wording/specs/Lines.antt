@@ -20,8 +20,7 @@ use Rattle.settings.specs.declared.OptionCrystal.{OptionCrystal}
 use Rattle.settings.specs.declared.OptionCycles.{OptionCycles}
 use Rattle.plan_text.specs.Text.{chipName}
 use Rattle.wording.specs.Form.{formed}
-use Rattle.settings.specs.Codes.{rangeCode, refCode, sysCode, periAux, auxCode}
-use Rattle.wording.specs.Names.{namedForm, rangeNames, refNames, sysNames, periNames, auxNames}
+use Rattle.wording.specs.Names.{namedForm, rangeName, refName, sysName, periName, auxName}
 
 unfoldable pub chipLine : Chip → List ℕ
 chipLine chip = ascii "chip " ++ (chipName chip ++ ascii "\n")
@@ -29,7 +28,7 @@ chipLine chip = ascii "chip " ++ (chipName chip ++ ascii "\n")
 unfoldable pub ringLine : OptionRosc → List ℕ
 ringLine (OptionRosc.Some r) =
     let d = r .«drive_strength» in
-    namedForm (ascii "rosc # Hz, range ") (r .hz) rangeNames (rangeCode (r .range))
+    namedForm (ascii "rosc # Hz, range ") (r .hz) (rangeName (r .range))
     (ascii ", strengths # # # # # # # #, divider #\n")
     (d .s0 ∷ d .s1 ∷ d .s2 ∷ d .s3 ∷ d .s4 ∷ d .s5 ∷ d .s6 ∷ d .s7 ∷ r .div ∷ [])
 ringLine OptionRosc.None = ascii "rosc absent\n"
@@ -63,29 +62,29 @@ settlingLine OptionCycles.None = ascii "settling absent\n"
 
 unfoldable pub refLine : ℕ → RefClkConfig → List ℕ
 refLine hz c =
-    namedForm (ascii "ref # Hz from ") hz refNames (refCode (c .src)) (ascii ", divider #\n") (c .div ∷ [])
+    namedForm (ascii "ref # Hz from ") hz (refName (c .src)) (ascii ", divider #\n") (c .div ∷ [])
 
 -- the divider's whole part, and its fraction over the chip's scale
 unfoldable pub sysLine : ℕ → SysClkSrc → ℕ → ℕ → ℕ → List ℕ
 sysLine hz src whole fraction scale =
-    namedForm (ascii "sys # Hz from ") hz sysNames (sysCode src) (ascii ", divider # + #/#\n")
+    namedForm (ascii "sys # Hz from ") hz (sysName src) (ascii ", divider # + #/#\n")
     (whole ∷ fraction ∷ scale ∷ [])
 
 unfoldable pub periLine : ℕ → OptionPeri → List ℕ
-periLine hz (OptionPeri.Some src) = namedForm (ascii "peri # Hz from ") hz periNames (periAux src) (ascii "\n") []
+periLine hz (OptionPeri.Some src) = namedForm (ascii "peri # Hz from ") hz (periName src) (ascii "\n") []
 periLine hz OptionPeri.None = ascii "peri absent\n"
 
 -- USB or ADC by its name
 unfoldable pub auxLine : List ℕ → ℕ → OptionAux → List ℕ
 auxLine name hz (OptionAux.Some a) =
     name
-    ++ namedForm (ascii " # Hz from ") hz auxNames (auxCode (a .src)) (ascii ", divider #, phase #\n")
+    ++ namedForm (ascii " # Hz from ") hz (auxName (a .src)) (ascii ", divider #, phase #\n")
     (a .div ∷ a .phase ∷ [])
 auxLine name hz OptionAux.None = name ++ ascii " absent\n"
 
 unfoldable pub rtcLine : ℕ → OptionRtc → List ℕ
 rtcLine hz (OptionRtc.Some r) =
-    namedForm (ascii "rtc # Hz from ") hz auxNames (auxCode (r .src)) (ascii ", divider # + #/256, phase #\n")
+    namedForm (ascii "rtc # Hz from ") hz (auxName (r .src)) (ascii ", divider # + #/256, phase #\n")
     (r .«div_int» ∷ r .«div_frac» ∷ r .phase ∷ [])
 rtcLine hz OptionRtc.None = ascii "rtc absent\n"
 

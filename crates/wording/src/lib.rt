@@ -5,7 +5,6 @@ mod names;
 mod sources;
 
 use base::Number;
-use config::Board;
 use config::ClockConfig;
 use form::put_bytes;
 use read_cases::Asked;
@@ -22,15 +21,10 @@ ghost use Rattle.wording.specs.Words.{sourceLines, coreLines, clockLines
 ghost use Rattle.wording.specs.Explain.{sheetWords, secondLine, readingWords, explainOf};
 
 // Chip, ring, crystal and PLLs.
-fn put_sources(
-    out: &mut [u8],
-    plan: ClockConfig,
-    s: Settings,
-    board: Board,
-    f: Frequencies,
-) -> usize
-    ensures { λ r. ⌜ Put (now (out .entry)) 0 (sourceLines plan s board f) 740 r (now (out .exit)) ⌝ }
+fn put_sources(out: &mut [u8], plan: ClockConfig, s: Settings, f: Frequencies) -> usize
+    ensures { λ r. ⌜ Put (now (out .entry)) 0 (sourceLines plan s f) 740 r (now (out .exit)) ⌝ }
 {
+    let board = s.board;
     let chip = board.chip;
     let ring = s.rosc;
     let crystal = s.xosc;
@@ -44,9 +38,10 @@ fn put_sources(
 }
 
 // Voltage, settling, reference and system clock.
-fn put_core(out: &mut [u8], at: usize, s: Settings, board: Board, f: Frequencies) -> usize
-    ensures { λ r. ⌜ Put (now (out .entry)) at (coreLines s board f) 420 r (now (out .exit)) ⌝ }
+fn put_core(out: &mut [u8], at: usize, s: Settings, f: Frequencies) -> usize
+    ensures { λ r. ⌜ Put (now (out .entry)) at (coreLines s f) 420 r (now (out .exit)) ⌝ }
 {
+    let board = s.board;
     let chip = board.chip;
     let facts = chip.facts();
     let settling = s.settling;
@@ -67,9 +62,10 @@ fn put_core(out: &mut [u8], at: usize, s: Settings, board: Board, f: Frequencies
 }
 
 // The other clocks, and what stays in reset.
-fn put_clocks(out: &mut [u8], at: usize, s: Settings, board: Board, f: Frequencies) -> usize
-    ensures { λ r. ⌜ Put (now (out .entry)) at (clockLines s board f) 560 r (now (out .exit)) ⌝ }
+fn put_clocks(out: &mut [u8], at: usize, s: Settings, f: Frequencies) -> usize
+    ensures { λ r. ⌜ Put (now (out .entry)) at (clockLines s f) 560 r (now (out .exit)) ⌝ }
 {
+    let board = s.board;
     let chip = board.chip;
     let rtc = board.rtc;
     let peri = s.peri;
@@ -100,13 +96,11 @@ fn put_plan(out: &mut [u8], at: usize, plan: ClockConfig) -> usize
 fn put_words(out: &mut [u8], plan: ClockConfig, reading: u8) -> usize
     ensures { λ r. ⌜ Put (now (out .entry)) 0 (wordsOf plan reading) 2300 r (now (out .exit)) ⌝ }
 {
-    let on = plan.chip;
-    let board = on.board();
-    let s = settings::settings_of(plan, board, reading);
-    let f = settings::frequencies_of(s, board);
-    let at = put_sources(out, plan, s, board, f);
-    let at = put_core(out, at, s, board, f);
-    let at = put_clocks(out, at, s, board, f);
+    let s = settings::settings_of(plan, reading);
+    let f = settings::frequencies_of(s);
+    let at = put_sources(out, plan, s, f);
+    let at = put_core(out, at, s, f);
+    let at = put_clocks(out, at, s, f);
     put_plan(out, at, plan)
 }
 

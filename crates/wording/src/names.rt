@@ -33,7 +33,7 @@ pub(crate) fn put_named(
     last: &[u8],
     ns: &[u64],
 ) -> usize
-    ensures { λ r. ⌜ Put (now (out .entry)) at (namedForm (now (first .entry)) n (now (names .entry)) code (now (last .entry)) (now (ns .entry))) (mostOf (now (first .entry)) + (length (now (names .entry)) + mostOf (now (last .entry)))) r (now (out .exit)) ⌝ }
+    ensures { λ r. ⌜ Put (now (out .entry)) at (namedForm (now (first .entry)) n (nameAt (now (names .entry)) code) (now (last .entry)) (now (ns .entry))) (mostOf (now (first .entry)) + (length (now (names .entry)) + mostOf (now (last .entry)))) r (now (out .exit)) ⌝ }
 {
     let at = put_form(out, at, first, &[n]);
     let at = put_name(out, at, names, code);

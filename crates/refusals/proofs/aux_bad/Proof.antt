@@ -6,6 +6,5 @@ use Rattle.refusals.proofs.aux_bad.Tie as tie
 
 pub aux-bad-spec : {M : Type 1} → statement M
 unfolding auxBad
-aux-bad-spec = tie.close (tie.spec (λ c. search needs) (λ c κs. search needs) (λ c κs. search needs)
-    (λ c. search needs) (λ c. rw (c .before .before .before .before .aux .given .1) cc)
-    (λ c. rw (c .enum-told .given .1)))
+aux-bad-spec = tie.close (tie.spec (λ c. search needs) (λ c κs. search needs) (λ c. search needs)
+    (λ c. rw (c .before .before .before .aux .given .1, c .before .divider-bad .ensures)) (λ c. rw (c .enum-told .given .1)))

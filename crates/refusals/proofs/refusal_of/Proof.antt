@@ -7,7 +7,7 @@ use lib.Dec.{eqb, ltb}
 use Rattle.base.specs.Choice.{pick}
 use Rattle.chip.specs.declared.Facts.{Facts}
 use Rattle.settings.specs.declared.Frequencies.{Frequencies}
-use Rattle.refusals.specs.Refusals.{ringDividerOver, wholeBad, first, testsOf}
+use Rattle.refusals.specs.Refusals.{ringDividerOver, wholeBad, first, testsOf, refusalOf}
 use Rattle.refusals.proofs.refusal_of.Statement.{statement}
 use Rattle.refusals.proofs.refusal_of.Tie as tie
 
@@ -16,6 +16,7 @@ row : (n : ℕ) {found rest firstOf : ℕ} {answered test : Bool}
 row n found answered rest = rw (← answered, ← rest) found
 
 returns : tie.Need-returns
+unfolding refusalOf
 returns c e =
     let one = c .before in let two = one .before in let three = two .before in let four = three .before in
     let five = four .before in let six = five .before in let seven = six .before in let eight = seven .before in
@@ -26,10 +27,10 @@ returns c e =
     let plls = divider .before in let startup = plls .before in let settling = startup .before in
     let ring-divider = settling .before in let strengths = ring-divider .before in
     let facts = strengths .before .before .before .before .facts .ensures in
-    let args = strengths .before .before .before .before .before .args in
+    let args = strengths .before .before .before .before .before .before .args in
     let over = ap (λ (on : Facts). ltb (on .«top_reading») (args .reading)) facts in
     let divided = ap (λ (on : Facts). ringDividerOver (on .pass) (args .s .rosc)) facts in
-    let part = ap (λ (on : Facts). wholeBad (on .«top_whole») (args .b .whole)) facts in
+    let part = ap (λ (on : Facts). wholeBad (on .«top_whole») (args .s .board .whole)) facts in
     let silent : eqb (args .f .sys) 0 ≡ eqb (args .f .sys) 0 = refl in
     let sources = ap (λ (f : Frequencies). f .sources) e in
     row 18 (c .number-when15 .ensures) over (row 1 (one .number-when14 .ensures) (strengths .strengths-over .ensures)
@@ -42,7 +43,7 @@ returns c e =
     10 (ten .number-when5 .ensures) silent (row 11 (eleven .number-when4 .ensures) (peri .peri-bad .ensures) (row 12
     (twelve .number-when3 .ensures) (usb .aux-bad .ensures) (row 13 (thirteen .number-when2 .ensures)
     (adc .aux-bad2 .ensures) (row 14 (fourteen .number-when .ensures) (rtc .rtc-bad .ensures) refl)))))))))))))) ∙ ap
-    (λ (f : Frequencies). first (testsOf (args .s) (args .b) f (args .reading))) e
+    (λ (f : Frequencies). first (testsOf (args .s) f (args .reading))) e
 
 pub refusal-of-spec : {M : Type 1} → statement M
 refusal-of-spec = tie.close (tie.spec (λ c κs. search needs) (λ c κs. search needs) (λ c κs. search needs)

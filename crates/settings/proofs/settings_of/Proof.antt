@@ -5,4 +5,4 @@ use Rattle.settings.proofs.settings_of.Tie as tie
 
 pub settings-of-spec : {M : Type 1} → statement M
 settings-of-spec = tie.close (tie.spec (λ c κs. search needs) (λ c κs. search needs) (λ c κs. search needs)
-    (λ c κs. search needs) (λ c. cc))
+    (λ c κs. search needs) (λ c κs. search needs) (λ c. (cc, c .before .before .before .before .before .board .ensures .1)))

@@ -1,17 +1,18 @@
 -- `sheet::gather` meets its contract. Assumes nothing.
-use Rattle.sheet.specs.Steps.{stepsWith}
+use Rattle.sheet.specs.Steps.{stepsOf}
 use Rattle.sheet.proofs.Gathering.{pushes-append}
 use borrow.Author.Needs.{needs}
 use Rattle.sheet.proofs.gather.Statement.{statement}
 use Rattle.sheet.proofs.gather.Tie as tie
 
 returns : tie.Need-returns
-unfolding stepsWith
-returns c =
+unfolding stepsOf
+returns c known =
     let put-crystal = c .before .before in let put-voltage = put-crystal .before .before in
     let put-ring = put-voltage .before .before in let put-start = put-ring .before .before in
     rw (
       c .put-clocks .ensures,
+      known,
       put-crystal .put-crystal .ensures,
       put-voltage .put-voltage .ensures,
       put-ring .put-ring .ensures,

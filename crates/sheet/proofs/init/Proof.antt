@@ -14,20 +14,20 @@ use Rattle.sheet.proofs.init.Tie as tie
 
 -- what is known after the plan was examined, and after its steps were gathered
 seen : (c : tie.After-examine)
-    → Looked (c .before .before .before .before .args .config) (c .before .before .before .before .args .reading)
-    (c .before .before .board .result) (c .before .settings-of .result) (c .examine .result)
-seen c = looked _ _ (c .before .before .board .ensures) (c .before .settings-of .ensures) (c .examine .ensures)
+    → Looked (c .before .before .before .args .config) (c .before .before .before .args .reading)
+    (c .before .settings-of .result) (c .examine .result)
+seen c = looked _ _ (c .before .settings-of .ensures) (c .examine .ensures)
 
 gathered : (c : tie.After-gather) → Ready (held (c .gather .last .0) (c .gather .result))
-    (sheetBytes (c .before .before .before .before .before .before .before .before .before .args .config)
-    (c .before .before .before .before .before .before .before .before .before .args .reading))
+    (sheetBytes (c .before .before .before .before .before .before .before .before .args .config)
+    (c .before .before .before .before .before .before .before .before .args .reading))
 gathered c = ready _ _ (seen (c .before .before .before .before .before)) (c .gather .ensures)
 
 returns-2 : tie.Need-returns-2
 returns-2 c =
     let copy = c .before .before .before in let gather = copy .before .before .before in
     let fine = gather .before .before .before in let examined = fine .before .before in let found = seen examined in
-    let b : List ℕ = now (examined .before .before .before .before .args .sheet) in let short = copy-short _ _ b
+    let b : List ℕ = now (examined .before .before .before .args .sheet) in let short = copy-short _ _ b
     (gathered gather) (sym (copy .copy-turned .ensures .0) ∙ not-true _ (c .if2 .taken)) in
     rw (copy .copy-turned .ensures .1, short .1) (too-short _ _ b (found .typed)
     (sym (found .number-is) ∙ fine .if1 .left) (short .0))
@@ -36,13 +36,13 @@ returns-3 : tie.Need-returns-3
 returns-3 c =
     let copy = c .before .before .before in let gather = copy .before .before .before in
     let fine = gather .before .before .before in let examined = fine .before .before in let found = seen examined in
-    let b : List ℕ = now (examined .before .before .before .before .args .sheet) in let whole = copy-whole _ _ b
+    let b : List ℕ = now (examined .before .before .before .args .sheet) in let whole = copy-whole _ _ b
     (gathered gather) (sym (copy .copy-turned .ensures .0) ∙ not-false _ (c .if2 .left)) in
     rw (copy .copy-turned .ensures .1, whole .1, ← gathered gather .size) (accepted _ _ b (found .typed)
     (sym (found .number-is) ∙ fine .if1 .left) (whole .0))
 
 pub init-spec : {M : Type 1} → statement M
-init-spec = tie.close (tie.spec (λ c κs. search needs) (λ c κs. search needs) (λ c κs. search needs)
+init-spec = tie.close (tie.spec (λ c κs. search needs) (λ c κs. search needs)
     (λ c. let examined = c .before .before in let found = seen examined in rw (found .number-is) (refused _ _ _
     (found .typed) (λ z. c .if1 .taken (found .number-is ∙ z)))) (λ c κs. search needs) (λ c. gathered c .room)
     (λ c. sym (gathered (c .before) .count)) (λ c κs. search needs) (λ c. search needs) returns-2

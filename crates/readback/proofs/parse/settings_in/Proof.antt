@@ -34,7 +34,7 @@ read-config-requires c κs =
 returns : tie.Need-returns
 unfolding cutSettings refPart sysPart periPart usbPart adcPart
 returns c =
-    let at-adc = c .before in let at-usb = at-adc .before in let at-peri = at-usb .before in
+    let config = c .before in let at-adc = config .before in let at-usb = at-adc .before in let at-peri = at-usb .before in
     let at-sys = at-peri .before in let at-ticks = at-sys .before .before in let at-ref = at-ticks .before .before in
     let at-o = at-ref .before .before .before in let a = at-o .before .before .args in let o = at-o .oscillators-in in
     let is = o .ensures in let ref-at = at-ref .read-ref .result .at in
@@ -47,9 +47,9 @@ returns c =
     let usb = goes-on (at-usb .read-aux .ensures) (peri .rest) in
     let adc = goes-on (at-adc .read-aux2 .ensures) (usb .rest) in
     rw (settings-there (a .reading) xs, adc .rest, ← adc .value, ← usb .value, ← peri .value, ← sys .value)
-    (rw (← ref .value, ← is .xosc, ← is .voltage, ← is .rosc, ← is .chip, ← c .read-config .ensures))
+    (rw (← ref .value, ← is .xosc, ← is .voltage, ← is .rosc, ← is .chip, c .board .ensures .0, ← config .read-config .ensures))
 
 pub settings-in-spec : {M : Type 1} → statement M
 settings-in-spec = tie.close (tie.spec (λ c κs. search needs) (λ c. search needs) (λ c κs. search needs)
     (λ c κs. search needs) (λ c. search needs) (λ c κs. search needs) (λ c κs. search needs) (λ c κs. search needs)
-    (λ c κs. search needs) read-config-requires returns)
+    (λ c κs. search needs) read-config-requires (λ c κs. search needs) returns)

@@ -6,21 +6,25 @@ use Rattle.settings.proofs.clocks.frequencies_of.Tie as tie
 
 returns : tie.Need-returns
 returns c =
-    let sources = c .before .before .before .before .before .before .source-hz in (
+    let rtc = c .before in let adc = rtc .before in let usb = adc .before in let sys = usb .before in
+    let sources = sys .before .before .source-hz in (
       rw (
-        c .rtc-hz .ensures .0,
-        c .before .aux-hz2 .ensures,
-        c .before .before .aux-hz .ensures,
-        c .before .before .before .peri-hz .ensures,
-        c .before .before .before .before .sys-hz .ensures,
-        c .before .before .before .before .before .ref-hz .ensures,
+        c .peri-hz .ensures,
+        rtc .rtc-clock .ensures .0,
+        rtc .rtc-clock .ensures .1,
+        adc .aux-clock2 .ensures .0,
+        adc .aux-clock2 .ensures .1,
+        usb .aux-clock .ensures .0,
+        usb .aux-clock .ensures .1,
+        sys .sys-hz .ensures,
+        sys .before .ref-hz .ensures,
         sources .ensures,
       ),
-      λ k. record {
+      λ fraction. record {
         rosc = rw (← sources .ensures) (omega (arith, sources));
         xosc = rw (← sources .ensures) (omega (arith, sources));
-        fraction = rw (k .0) at (k .1);
-        rtc = rw (k .0) at (c .rtc-hz .ensures .1);
+        fraction = fraction;
+        rtc = rtc .rtc-clock .ensures .2;
       },
     )
 

@@ -2,6 +2,7 @@
 use native.Mathlib.Omega.{arith}
 use Rattle.plan_text.proofs.Puts.{put-most}
 use Rattle.wording.specs.Lines.{periLine}
+use Rattle.wording.proofs.Named.{peri-named}
 use borrow.Author.Needs.{needs}
 use Rattle.wording.proofs.clocks.put_peri.Statement.{statement}
 use Rattle.wording.proofs.clocks.put_peri.Tie as tie
@@ -13,7 +14,7 @@ put-peri-spec = tie.close (tie.spec (λ c. search needs) (λ c. search needs) (�
     (λ c κs. search needs) (λ c. search needs)
     (λ c. let put-named = c .before .before in let peri-aux = put-named .before .before .before in
     let told = peri-aux .before .before .before .before .before in
-    rw (told .peri .given .1, ← peri-aux .peri-aux .ensures) (put-most (omega arith) (put-named .put-named .ensures)))
+    rw (told .peri .given .1, peri-named, ← peri-aux .peri-aux .ensures) (put-most (omega arith) (put-named .put-named .ensures)))
     (λ c. search needs)
     (λ c. let put-bytes = c .before .before in
     rw (put-bytes .before .before .before .enum-told .given .1)

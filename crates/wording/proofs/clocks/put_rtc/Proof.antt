@@ -2,6 +2,7 @@
 use native.Mathlib.Omega.{arith}
 use Rattle.plan_text.proofs.Puts.{put-most}
 use Rattle.wording.specs.Lines.{rtcLine}
+use Rattle.wording.proofs.Named.{aux-named}
 use borrow.Author.Needs.{needs}
 use Rattle.wording.proofs.clocks.put_rtc.Statement.{statement}
 use Rattle.wording.proofs.clocks.put_rtc.Tie as tie
@@ -14,7 +15,7 @@ put-rtc-spec = tie.close (tie.spec (λ c. search needs) (λ c. search needs) (λ
     (λ c. let put-named = c .before .before in
     let aux-code = put-named .before .before .before .before .before .before in
     let told = aux-code .before .before .before .before .before in
-    rw (told .rtc .given .1, ← aux-code .aux-code .ensures) (put-most (omega arith) (put-named .put-named .ensures)))
+    rw (told .rtc .given .1, aux-named, ← aux-code .aux-code .ensures) (put-most (omega arith) (put-named .put-named .ensures)))
     (λ c. search needs)
     (λ c. let put-bytes = c .before .before in
     rw (put-bytes .before .before .before .enum-told .given .1)

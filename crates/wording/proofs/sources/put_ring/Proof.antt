@@ -2,6 +2,7 @@
 use native.Mathlib.Omega.{arith}
 use Rattle.plan_text.proofs.Puts.{put-most}
 use Rattle.wording.specs.Lines.{ringLine}
+use Rattle.wording.proofs.Named.{range-named}
 use borrow.Author.Needs.{needs}
 use Rattle.wording.proofs.sources.put_ring.Statement.{statement}
 use Rattle.wording.proofs.sources.put_ring.Tie as tie
@@ -16,7 +17,7 @@ put-ring-spec = tie.close (tie.spec (λ c. search needs) (λ c. search needs) (�
     (λ c. let put-named = c .before .before in
     let range-code = put-named .before .before .before .before .before .before .before .before .before .before .before .before in
     let told = range-code .before .before .before .before .before .before .before in
-    rw (told .ring .given .1, ← range-code .range-code .ensures)
+    rw (told .ring .given .1, range-named, ← range-code .range-code .ensures)
     (put-most (omega arith) (put-named .put-named .ensures))) (λ c. search needs)
     (λ c. let put-bytes = c .before .before in
     rw (put-bytes .before .before .before .enum-told .given .1)
