@@ -1,7 +1,5 @@
 -- What a test that came out true or false says of its parts, and when it comes out so.
--- Assumes nothing.
-use mathlib.Core.Path.{_≡_, refl, sym}
-use mathlib.Core.Logic.{_⊎_, inl, inr}
+use mathlib.Core.{Path._≡_, Path.refl, Path.sym, Logic._⊎_, Logic.inl, Logic.inr}
 use mathlib.Core.Bool.{Bool, true, false, _&&_, _||_}
 use Prim.Native.Nat.{ℕ, _≤_}
 use lib.Dec.{leb}

@@ -1,12 +1,8 @@
 -- A loop that puts the parts of a text one behind another.
--- Assumes nothing.
-use mathlib.Core.Path.{_≡_, refl, ap, _∙_}
-use mathlib.Core.List.{List, [], _∷_, _++_}
+use mathlib.Core.{Path._≡_, Path.refl, Path.ap, Path._∙_, List.List, List.[], List._∷_, List._++_}
 use Prim.Native.Nat.{ℕ, _+_, _≤_, _<_, min}
-use native.Mathlib.Numerals.{add-one}
-use native.Mathlib.Omega.{arith}
-use lib.ListN.{length, take, getD}
-use lib.Seq.{length-sets, take-suc, take-all}
+use native.Mathlib.{Numerals.add-one, Omega.arith}
+use lib.{ListN.length, ListN.take, ListN.getD, Seq.length-sets, Seq.take-suc, Seq.take-all}
 use Rattle.base.specs.Placed.{Placed}
 use Rattle.base.proofs.Placing.{placed-append}
 

@@ -1,13 +1,8 @@
 -- Bytes placed run by run are placed as one run.
--- Assumes nothing.
-use mathlib.Core.Path.{_≡_, refl, sym, ap, _∙_}
-use mathlib.Core.List.{List, [], _∷_, _++_}
+use mathlib.Core.{Path._≡_, Path.refl, Path.sym, Path.ap, Path._∙_, List.List, List.[], List._∷_, List._++_}
 use Prim.Native.Nat.{ℕ, suc, _+_, _≤_, min}
-use native.Mathlib.Nat.{add-zero}
-use native.Mathlib.Decide.{decLe}
-use native.Mathlib.Omega.{arith}
-use lib.ListN.{length, set, length-append, length-set}
-use lib.Seq.{sets, length-sets, set-out}
+use native.Mathlib.{Nat.add-zero, Decide.decLe, Omega.arith}
+use lib.{ListN.length, ListN.set, ListN.length-append, ListN.length-set, Seq.sets, Seq.length-sets, Seq.set-out}
 use Rattle.base.specs.Placed.{past, Placed}
 
 -- past the end nothing is set

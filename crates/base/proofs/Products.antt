@@ -1,10 +1,7 @@
 -- Products of 32-bit numbers fit 64 bits.
--- Assumes nothing.
 use Prim.Native.Nat.{ℕ, _*_, _≤_, _<_}
-use native.Mathlib.Nat.{mul-le-mul}
-use native.Mathlib.Omega.{arith}
-use mir.Syntax.{w64}
-use mir.Val.{Fits}
+use native.Mathlib.{Nat.mul-le-mul, Omega.arith}
+use mir.{Syntax.w64, Val.Fits}
 
 -- the largest is some 2 ^ 33 below the top
 pub product-most : (a b : ℕ) → a < 4294967296 → b < 4294967296 → a * b ≤ 18446744065119617025

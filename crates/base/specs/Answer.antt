@@ -1,8 +1,6 @@
 -- What a call may answer. Each enum of the code has a definition that gives its cases as one of these.
--- Assumes nothing.
 use Prim.Native.Nat.{ℕ}
-use Rattle.base.specs.declared.Number.{Number}
-use Rattle.base.specs.declared.Length.{Length}
+use Rattle.base.specs.declared.{Number.Number, Length.Length}
 
 -- a value, or a refusal by its number in docs/FORMAT.md, Refusals
 pub data Answer (A : Type 0) : Type 0 where

@@ -1,5 +1,4 @@
 -- Choices and tests that the definitions of every crate are written with.
--- Assumes nothing.
 use Prim.Native.Nat.{ℕ}
 use mathlib.Core.Bool.{Bool, true, false, _&&_}
 use lib.Dec.{leb}

@@ -1,10 +1,7 @@
 -- Bytes placed into a lent buffer one after another: what every function that writes text or steps promises.
--- Assumes nothing.
-use mathlib.Core.Path.{_≡_}
-use mathlib.Core.List.{List}
+use mathlib.Core.{Path._≡_, List.List}
 use Prim.Native.Nat.{ℕ, _+_, min}
-use lib.ListN.{length}
-use lib.Seq.{sets}
+use lib.{ListN.length, Seq.sets}
 
 -- the index past the bytes bs from index at on, at most the buffer's length
 abbrev pub past : List ℕ → ℕ → List ℕ → ℕ

@@ -1,11 +1,9 @@
 -- One call more.
--- Assumes nothing.
 use mathlib.Core.List.{List, [], _∷_, _++_, append-assoc, append-nil}
 use mathlib.Core.Path.{_≡_, refl, sym, ap, _∙_}
 use Prim.Native.Nat.{ℕ, _+_, _<_}
 use native.Mathlib.Numerals.{add-one}
-use lib.ListN.{length, take, getD}
-use lib.Seq.{take-suc}
+use lib.{ListN.length, ListN.take, ListN.getD, Seq.take-suc}
 use Rattle.boards.specs.declared.Bench.{Bench}
 use Rattle.bench_cases.specs.Benches.{letterText, callOf, playedBy, lettersOf}
 

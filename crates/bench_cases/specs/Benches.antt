@@ -1,15 +1,9 @@
 -- What the case `bench` answers: the letters of its calls, then the eight boards.
--- Assumes nothing.
 use mathlib.Core.List.{List, [], _∷_, _++_}
 use Prim.Native.Nat.{ℕ, zero, suc, _%_}
-use lib.Dec.{leb}
-use lib.ListN.{getD}
-use Rattle.base.specs.Answer.{Answer, value, refusal}
-use Rattle.base.specs.Choice.{pick}
-use Rattle.text.specs.Ascii.{ascii}
-use Rattle.text.specs.Decimal.{decimalOf}
-use Rattle.text.specs.Hex.{isReadable, pairValues}
-use Rattle.text.specs.Words.{upTo}
+use lib.{Dec.leb, ListN.getD}
+use Rattle.base.specs.{Answer.Answer, Answer.value, Answer.refusal, Choice.pick}
+use Rattle.text.specs.{Ascii.ascii, Decimal.decimalOf, Hex.isReadable, Hex.pairValues, Words.upTo}
 use Rattle.runner.specs.declared.Stepper.{Stepper}
 use Rattle.runner.specs.Run.{Progress, done, handed, passed, waiting, Outcome}
 use Rattle.boards.specs.declared.Bench.{Bench}

@@ -22,19 +22,19 @@ struct Played {
 fn put_refusal(out: &mut [u8], at: usize, number: u8) -> usize
     ensures { λ r. ⌜ Placed (now (out .entry)) at (letterText (refusal number)) r (now (out .exit)) ⌝ }
 {
-    let end = text::put_bytes(out, at, b"(");
+    let end = text::put_byte(out, at, b'(');
     let end = text::put_decimal(out, end, number as u64);
-    text::put_bytes(out, end, b")")
+    text::put_byte(out, end, b')')
 }
 
 fn put_letter(out: &mut [u8], at: usize, reply: Reply) -> usize
     ensures { λ r. ⌜ Placed (now (out .entry)) at (letterText (replyIs reply)) r (now (out .exit)) ⌝ }
 {
     match reply {
-        Reply::Done => text::put_bytes(out, at, b"d"),
-        Reply::Handed(_) => text::put_bytes(out, at, b"s"),
-        Reply::Passed => text::put_bytes(out, at, b"p"),
-        Reply::Waiting => text::put_bytes(out, at, b"w"),
+        Reply::Done => text::put_byte(out, at, b'd'),
+        Reply::Handed(_) => text::put_byte(out, at, b's'),
+        Reply::Passed => text::put_byte(out, at, b'p'),
+        Reply::Waiting => text::put_byte(out, at, b'w'),
         Reply::Refused(number) => put_refusal(out, at, number),
     }
 }

@@ -1,17 +1,14 @@
 -- What a start of all and a call for a board leave.
--- Assumes nothing.
-use mathlib.Core.Bool.{Bool, true, false}
-use mathlib.Core.List.{List}
-use mathlib.Core.Path.{_≡_}
+use mathlib.Core.{Bool.Bool, Bool.true, Bool.false, List.List, Path._≡_}
 use Prim.Native.Nat.{ℕ, _<_, _≤_}
 use borrow.Author.Tests.{lt-ltb, le-ltb}
 use lib.ListN.{length}
 use Rattle.base.specs.Answer.{value, refusal}
 use Rattle.boards.specs.declared.Bench.{Bench}
-use Rattle.runner.specs.declared.Stepper.{Stepper}
-use Rattle.runner.specs.declared.Runner.{Runner}
-use Rattle.runner.specs.Run.{Outcome, outcome, stepperOf, begun, started, badSize, startedWith}
-use Rattle.boards.specs.Bench.{freshBench, boardIn, eightOf, inBench, benchOf, startAllOf}
+use Rattle.runner.specs.declared.{Stepper.Stepper, Runner.Runner}
+use Rattle.runner.specs.Run.{Outcome, outcome, stepperOf, begun, started, startedWith}
+use Rattle.kept.specs.Kept.{badSize}
+use Rattle.boards.specs.Bench.{freshBench, boardAt, eightOf, inBench, benchOf, startAllOf}
 
 module _ (b : Bench) (sheet : List ℕ) where
   pub all-refused : badSize (length sheet) ≡ true → begun (refusal 20) b ≡ startAllOf b sheet
@@ -34,11 +31,11 @@ module _ (b : Bench) (n : ℕ) (sheet : List ℕ) (ready : Bool) where
   over-seven h = simp (lt-ltb 7 n h)
 
   pub of-eight : n ≤ 7
-      → inBench b n (stepperOf (boardIn b n) (b .len) (b .kept) sheet ready) ≡ benchOf b n sheet ready
+      → inBench b n (stepperOf (boardAt b n) (b .len) (b .kept) sheet ready) ≡ benchOf b n sheet ready
   unfolding benchOf
   of-eight h = simp (le-ltb 7 n h)
 
   -- the same from what the board did
-  pub of-moved : {x : Outcome Stepper} → x ≡ stepperOf (boardIn b n) (b .len) (b .kept) sheet ready → n ≤ 7
+  pub of-moved : {x : Outcome Stepper} → x ≡ stepperOf (boardAt b n) (b .len) (b .kept) sheet ready → n ≤ 7
       → inBench b n x ≡ benchOf b n sheet ready
   of-moved e h = rw e (of-eight h)

@@ -1,5 +1,4 @@
 -- The types of the functions that change a bench in place, as base's `InPlace` goes by them.
--- Assumes nothing.
 use mathlib.Core.Path.{refl}
 use Rattle.base.proofs.Solid.{Solid, Returned, struct, two}
 use Rattle.runner.proofs.Changed.{opening, reply}

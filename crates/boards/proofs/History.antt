@@ -1,22 +1,18 @@
 -- Each board of a bench alone behaves as a single runner, whatever comes for the others.
--- Assumes nothing.
-use mathlib.Core.Bool.{Bool, true, false}
-use mathlib.Core.List.{List, [], _∷_, _++_}
+use mathlib.Core.{Bool.Bool, Bool.true, Bool.false, List.List, List.[], List._∷_, List._++_}
 use mathlib.Core.Path.{_≡_, refl, sym, ap, _∙_}
 use Prim.Native.Nat.{ℕ, _≤_}
 use native.Mathlib.Omega.{arith}
 use borrow.Author.Tests.{eqb-true, eqb-false, ltb-true, ltb-false}
-use lib.Dec.{eqb, ltb}
-use lib.ListN.{length, length-set, getD-replicate}
-use lib.Seq.{getD-set-same, getD-set-other}
+use lib.{Dec.eqb, Dec.ltb, ListN.length, ListN.length-set, ListN.getD-replicate, Seq.getD-set-same, Seq.getD-set-other}
 use Rattle.base.specs.Answer.{Answer}
-use Rattle.runner.specs.declared.Stepper.{Stepper}
-use Rattle.runner.specs.declared.Runner.{Runner}
+use Rattle.runner.specs.declared.{Stepper.Stepper, Runner.Runner}
 use Rattle.boards.specs.declared.Bench.{Bench}
-use Rattle.runner.specs.Run.{Progress, Outcome, freshStepper, fresh, stepperOf, advanceOf, Begun, badSize, startedWith, startOf}
-use Rattle.boards.specs.Bench.{freshBench, noBoard, boardIn, boardHz, eightOf, benchOf, startAllOf}
-use Rattle.boards.specs.History.{Event, start, poll, Own, ownOf, benchAfter, singleAfter, singleAnswers}
-use Rattle.boards.specs.History.{Alike, AsSingle, SameBoard}
+use Rattle.runner.specs.Run.{Progress, Outcome, freshStepper, fresh, stepperOf, advanceOf, Begun, startedWith, startOf}
+use Rattle.kept.specs.Kept.{badSize}
+use Rattle.boards.specs.Bench.{freshBench, noBoard, boardAt, boardHz, eightOf, benchOf, startAllOf}
+use Rattle.boards.specs.History.{BenchEvent, start, poll, Own, ownOf, benchAfter, singleAfter, singleAnswers, Alike}
+use Rattle.boards.specs.History.{AsSingle, SameBoard}
 use Rattle.runner.proofs.Starts.{start-refused, start-kept}
 use Rattle.boards.proofs.Benches.{all-refused, all-kept, over-seven, of-eight}
 
@@ -52,7 +48,7 @@ module _ (n : ℕ) (few : n ≤ 7) where
   module _ (b : Bench) (r : Runner) (k : Alike n b r) (sheet : List ℕ) (ready : Bool) where
     -- what the board does, and the runner
     abbrev here : Outcome Stepper
-    here = stepperOf (boardIn b n) (b .len) (b .kept) sheet ready
+    here = stepperOf (boardAt b n) (b .len) (b .kept) sheet ready
 
     abbrev there : Outcome Stepper
     there = stepperOf (r .stepper) (r .len) (r .kept) sheet ready
@@ -85,7 +81,7 @@ module _ (n : ℕ) (few : n ≤ 7) where
         go : (t : Bool) → ltb 7 m ≡ t → Alike n (benchOf b m sheet ready .next) r
         go true e = rw (← ap (λ (x : Outcome Bench). x .next) (over-seven b m sheet ready (ltb-true 7 m e))) k
         go false e =
-            let next = stepperOf (boardIn b m) (b .len) (b .kept) sheet ready .next in
+            let next = stepperOf (boardAt b m) (b .len) (b .kept) sheet ready .next in
             rw (← ap (λ (x : Outcome Bench). x .next) (of-eight b m sheet ready (ltb-false 7 m e)))
             (record {
               eight = length-set (b .boards) m next ∙ k .eight;
@@ -95,7 +91,7 @@ module _ (n : ℕ) (few : n ≤ 7) where
               len = k .len;
             })
 
-  pub single : (es : List Event) (b : Bench) (r : Runner) → Alike n b r → AsSingle n b r es
+  pub single : (es : List BenchEvent) (b : Bench) (r : Runner) → Alike n b r → AsSingle n b r es
   single [] b r k = record { answered = refl; left = k }
   single (start sheet ∷ es) b r k =
       let rest = single es (startAllOf b sheet .next) (startOf r sheet .next) (alike-start b r sheet k) in
@@ -118,13 +114,13 @@ module _ (n : ℕ) (few : n ≤ 7) where
           record { answered = rw e (rest .answered); left = rw e (rest .left) }
 
   -- between starts: any bench and any runner, started with the same sheet, then any calls
-  pub between-starts : (b : Bench) (r : Runner) (sheet : List ℕ) → badSize (length sheet) ≡ false → (es : List Event)
+  pub between-starts : (b : Bench) (r : Runner) (sheet : List ℕ) → badSize (length sheet) ≡ false → (es : List BenchEvent)
       → AsSingle n (startAllOf b sheet .next) (startOf r sheet .next) es
   between-starts b r sheet ok es =
       single es (startAllOf b sheet .next) (startOf r sheet .next) (started-alike b r sheet ok)
 
   -- two histories of benches that were started with the same sheet: where what concerns the board agrees, the board does
-  pub own-calls : (b d : Bench) (sheet : List ℕ) → badSize (length sheet) ≡ false → (es fs : List Event)
+  pub own-calls : (b d : Bench) (sheet : List ℕ) → badSize (length sheet) ≡ false → (es fs : List BenchEvent)
       → ownOf n es ≡ ownOf n fs → SameBoard n (startAllOf b sheet .next) es (startAllOf d sheet .next) fs
   unfolding boardHz
   own-calls b d sheet ok es fs own =
@@ -141,14 +137,14 @@ module _ (n : ℕ) (few : n ≤ 7) where
       }
 
 -- a start in between that is taken makes all eight fresh, whatever came before
-pub after-start : (b : Bench) (es : List Event) (sheet : List ℕ) (fs : List Event) → badSize (length sheet) ≡ false
+pub after-start : (b : Bench) (es : List BenchEvent) (sheet : List ℕ) (fs : List BenchEvent) → badSize (length sheet) ≡ false
     → benchAfter b (es ++ (start sheet ∷ fs)) ≡ benchAfter (eightOf (startedWith sheet)) fs
 after-start b [] sheet fs ok =
     ap (λ (x : Begun Bench). benchAfter (x .next) fs) (sym (all-kept b sheet ok))
 after-start b (start other ∷ es) sheet fs ok = after-start (startAllOf b other .next) es sheet fs ok
 after-start b (poll m other ready ∷ es) sheet fs ok = after-start (benchOf b m other ready .next) es sheet fs ok
 
-pub all-fresh : (n : ℕ) → n ≤ 7 → (b : Bench) (es : List Event) (sheet : List ℕ) → badSize (length sheet) ≡ false
-    → boardIn (benchAfter b (es ++ (start sheet ∷ []))) n ≡ freshStepper
+pub all-fresh : (n : ℕ) → n ≤ 7 → (b : Bench) (es : List BenchEvent) (sheet : List ℕ) → badSize (length sheet) ≡ false
+    → boardAt (benchAfter b (es ++ (start sheet ∷ []))) n ≡ freshStepper
 all-fresh n few b es sheet ok =
-    ap (λ (x : Bench). boardIn x n) (after-start b es sheet [] ok) ∙ getD-replicate 8 n freshStepper noBoard (omega arith)
+    ap (λ (x : Bench). boardAt x n) (after-start b es sheet [] ok) ∙ getD-replicate 8 n freshStepper noBoard (omega arith)

@@ -1,19 +1,12 @@
 -- Eight boards under one kept sheet: what each call for a board, and a start of all, answers and leaves.
--- Assumes nothing.
 use Prim.Native.Nat.{ℕ}
-use mathlib.Core.Bool.{Bool, false}
-use mathlib.Core.List.{List, []}
-use lib.Dec.{ltb}
-use lib.ListN.{length, getD, set, replicate}
-use Rattle.base.specs.Answer.{Answer, value, refusal}
-use Rattle.base.specs.Choice.{pick}
-use Rattle.runner.specs.declared.Stepper.{Stepper}
-use Rattle.runner.specs.declared.Runner.{Runner}
-use Rattle.boards.specs.declared.Bench.{Bench}
-use Rattle.boards.specs.declared.Benched.{Benched}
-use Rattle.boards.specs.declared.AllOpened.{AllOpened}
-use Rattle.runner.specs.Run.{Outcome, outcome, replyIs, fresh, stepperOf}
-use Rattle.runner.specs.Run.{Begun, begun, started, openingIs, badSize, startedWith}
+use mathlib.Core.{Bool.Bool, Bool.false, List.List, List.[]}
+use lib.{Dec.ltb, ListN.length, ListN.getD, ListN.set, ListN.replicate}
+use Rattle.base.specs.{Answer.Answer, Answer.value, Answer.refusal, Choice.pick}
+use Rattle.runner.specs.declared.{Stepper.Stepper, Runner.Runner}
+use Rattle.boards.specs.declared.{Bench.Bench, Benched.Benched, AllOpened.AllOpened}
+use Rattle.runner.specs.Run.{Outcome, outcome, replyIs, fresh, stepperOf, Begun, begun, started, openingIs, startedWith}
+use Rattle.kept.specs.Kept.{badSize}
 
 abbrev pub benchedIs : Benched → Outcome Bench
 benchedIs s = outcome (replyIs (s .reply)) (s .bench)
@@ -33,21 +26,22 @@ freshBench = eightOf fresh
 abbrev pub noBoard : Stepper
 noBoard = record { state = record { position = 0; «lock_polls» = 0; total = 0; stopped = false }; freqs = [] }
 
-abbrev pub boardIn : Bench → ℕ → Stepper
-boardIn b n = getD (b .boards) n noBoard
+abbrev pub boardAt : Bench → ℕ → Stepper
+boardAt b n = getD (b .boards) n noBoard
 
 abbrev pub inBench : Bench → ℕ → Outcome Stepper → Outcome Bench
 inBench b n x =
     outcome (x .answer) (record { boards = set (b .boards) n (x .next); kept = b .kept; len = b .len })
 
--- the frequency that a board holds for a clock, by the clock's number
+-- the frequency that a board holds for a clock, by the clock's number; over 9 there is no clock
 unfoldable pub boardHz : Bench → ℕ → ℕ → Answer ℕ
-boardHz b n clock = pick (ltb 7 n) (refusal 28) (value (getD (boardIn b n .freqs) clock 0))
+boardHz b n clock =
+    pick (ltb 7 n) (refusal 28) (pick (ltb 9 clock) (value 0) (value (getD (boardAt b n .freqs) clock 0)))
 
 -- a call for a board: 28 for a number over 7, then what the board does under the kept sheet
 unfoldable pub benchOf : Bench → ℕ → List ℕ → Bool → Outcome Bench
 benchOf b n sheet ready =
-    pick (ltb 7 n) (outcome (refusal 28) b) (inBench b n (stepperOf (boardIn b n) (b .len) (b .kept) sheet ready))
+    pick (ltb 7 n) (outcome (refusal 28) b) (inBench b n (stepperOf (boardAt b n) (b .len) (b .kept) sheet ready))
 
 -- a start of all: 20 for the length, and then nothing changes
 unfoldable pub startAllOf : Bench → List ℕ → Begun Bench

@@ -1,22 +1,17 @@
 -- Histories: starts and calls that came to a bench, and of these what concerns one board.
--- Assumes nothing.
 use Prim.Native.Nat.{ℕ}
-use mathlib.Core.Bool.{Bool}
-use mathlib.Core.List.{List, [], _∷_}
-use mathlib.Core.Path.{_≡_}
-use lib.Dec.{eqb}
-use lib.ListN.{length}
-use Rattle.base.specs.Answer.{Answer}
-use Rattle.base.specs.Choice.{pick}
+use mathlib.Core.{Bool.Bool, List.List, List.[], List._∷_, Path._≡_}
+use lib.{Dec.eqb, ListN.length}
+use Rattle.base.specs.{Answer.Answer, Choice.pick}
 use Rattle.runner.specs.declared.Runner.{Runner}
 use Rattle.runner.specs.Run.{Progress, advanceOf, startOf}
 use Rattle.boards.specs.declared.Bench.{Bench}
-use Rattle.boards.specs.Bench.{boardIn, boardHz, benchOf, startAllOf}
+use Rattle.boards.specs.Bench.{boardAt, boardHz, benchOf, startAllOf}
 
 -- what may come to the bench
-pub data Event : Type 0 where
-  start : List ℕ → Event
-  poll : ℕ → List ℕ → Bool → Event
+pub data BenchEvent : Type 0 where
+  start : List ℕ → BenchEvent
+  poll : ℕ → List ℕ → Bool → BenchEvent
 
 -- what may come to a single runner
 pub data Own : Type 0 where
@@ -24,19 +19,19 @@ pub data Own : Type 0 where
   poll : List ℕ → Bool → Own
 
 -- of a bench's history, what concerns board n: the starts, and the calls made for it
-abbrev pub ownOf : ℕ → List Event → List Own
+abbrev pub ownOf : ℕ → List BenchEvent → List Own
 ownOf n [] = []
 ownOf n (start sheet ∷ es) = start sheet ∷ ownOf n es
 ownOf n (poll m sheet ready ∷ es) = pick (eqb m n) (poll sheet ready ∷ ownOf n es) (ownOf n es)
 
 -- the bench after a history
-abbrev pub benchAfter : Bench → List Event → Bench
+abbrev pub benchAfter : Bench → List BenchEvent → Bench
 benchAfter b [] = b
 benchAfter b (start sheet ∷ es) = benchAfter (startAllOf b sheet .next) es
 benchAfter b (poll m sheet ready ∷ es) = benchAfter (benchOf b m sheet ready .next) es
 
 -- what the calls for board n answered
-abbrev pub answersFor : ℕ → Bench → List Event → List (Answer Progress)
+abbrev pub answersFor : ℕ → Bench → List BenchEvent → List (Answer Progress)
 answersFor n b [] = []
 answersFor n b (start sheet ∷ es) = answersFor n (startAllOf b sheet .next) es
 answersFor n b (poll m sheet ready ∷ es) =
@@ -59,18 +54,18 @@ singleAnswers r (poll sheet ready ∷ es) =
 -- board n of the bench is the single runner's
 pub record Alike (n : ℕ) (b : Bench) (r : Runner) : Type 0 where
   pub eight : length (b .boards) ≡ 8
-  pub board : boardIn b n ≡ r .stepper
+  pub board : boardAt b n ≡ r .stepper
   pub kept : b .kept ≡ r .kept
   pub len : b .len ≡ r .len
 
 -- board n answered as a single runner does over what concerns the board, and is left as that runner is
-pub record AsSingle (n : ℕ) (b : Bench) (r : Runner) (es : List Event) : Type 0 where
+pub record AsSingle (n : ℕ) (b : Bench) (r : Runner) (es : List BenchEvent) : Type 0 where
   pub answered : answersFor n b es ≡ singleAnswers r (ownOf n es)
   pub left : Alike n (benchAfter b es) (singleAfter r (ownOf n es))
 
 -- board n answered the same in two histories, and is left with the same state and the same ten frequencies
-pub record SameBoard (n : ℕ) (b : Bench) (es : List Event) (d : Bench) (fs : List Event) : Type 0 where
+pub record SameBoard (n : ℕ) (b : Bench) (es : List BenchEvent) (d : Bench) (fs : List BenchEvent) : Type 0 where
   pub answered : answersFor n b es ≡ answersFor n d fs
-  pub state : boardIn (benchAfter b es) n .state ≡ boardIn (benchAfter d fs) n .state
-  pub freqs : boardIn (benchAfter b es) n .freqs ≡ boardIn (benchAfter d fs) n .freqs
+  pub state : boardAt (benchAfter b es) n .state ≡ boardAt (benchAfter d fs) n .state
+  pub freqs : boardAt (benchAfter b es) n .freqs ≡ boardAt (benchAfter d fs) n .freqs
   pub hz : (clock : ℕ) → boardHz (benchAfter b es) n clock ≡ boardHz (benchAfter d fs) n clock

@@ -111,75 +111,20 @@ pub fn start(b: &mut Bench, sheet: &[u8]) -> Opening
     o.reply
 }
 
-fn hz_of(b: Bench, board: u8, clock: usize) -> Number
-    requires { ⌜ clock < 10 ⌝ }
+// The frequency that a board holds for a clock, by the clock's number: 0 to 9 in the order of the runner's readers. A
+// number over 9 is no clock, and has 0 Hz.
+pub fn clock_freq(b: Bench, board: u8, clock: u8) -> Number
     ensures { λ r. ⌜ numberIs r ≡ boardHz b board clock ⌝ }
 {
     if 7 < board {
         return Number::Refused(28);
     }
+    if 9 < clock {
+        return Number::Value(0);
+    }
     let at = board as usize;
     let boards = b.boards;
     let s = boards[at];
-    Number::Value(s.freqs[clock])
-}
-
-pub fn rosc_freq(b: Bench, board: u8) -> Number
-    ensures { λ r. ⌜ numberIs r ≡ boardHz b board 0 ⌝ }
-{
-    hz_of(b, board, 0)
-}
-
-pub fn xosc_freq(b: Bench, board: u8) -> Number
-    ensures { λ r. ⌜ numberIs r ≡ boardHz b board 1 ⌝ }
-{
-    hz_of(b, board, 1)
-}
-
-pub fn pll_sys_freq(b: Bench, board: u8) -> Number
-    ensures { λ r. ⌜ numberIs r ≡ boardHz b board 2 ⌝ }
-{
-    hz_of(b, board, 2)
-}
-
-pub fn pll_usb_freq(b: Bench, board: u8) -> Number
-    ensures { λ r. ⌜ numberIs r ≡ boardHz b board 3 ⌝ }
-{
-    hz_of(b, board, 3)
-}
-
-pub fn clk_ref_freq(b: Bench, board: u8) -> Number
-    ensures { λ r. ⌜ numberIs r ≡ boardHz b board 4 ⌝ }
-{
-    hz_of(b, board, 4)
-}
-
-pub fn clk_sys_freq(b: Bench, board: u8) -> Number
-    ensures { λ r. ⌜ numberIs r ≡ boardHz b board 5 ⌝ }
-{
-    hz_of(b, board, 5)
-}
-
-pub fn clk_peri_freq(b: Bench, board: u8) -> Number
-    ensures { λ r. ⌜ numberIs r ≡ boardHz b board 6 ⌝ }
-{
-    hz_of(b, board, 6)
-}
-
-pub fn clk_usb_freq(b: Bench, board: u8) -> Number
-    ensures { λ r. ⌜ numberIs r ≡ boardHz b board 7 ⌝ }
-{
-    hz_of(b, board, 7)
-}
-
-pub fn clk_adc_freq(b: Bench, board: u8) -> Number
-    ensures { λ r. ⌜ numberIs r ≡ boardHz b board 8 ⌝ }
-{
-    hz_of(b, board, 8)
-}
-
-pub fn clk_rtc_freq(b: Bench, board: u8) -> Number
-    ensures { λ r. ⌜ numberIs r ≡ boardHz b board 9 ⌝ }
-{
-    hz_of(b, board, 9)
+    let i = clock as usize;
+    Number::Value(s.freqs[i])
 }

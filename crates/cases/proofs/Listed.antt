@@ -1,14 +1,9 @@
 -- The text of what the lister wrote.
--- Assumes nothing.
-use mathlib.Core.Path.{_≡_, refl}
-use mathlib.Core.Bool.{Bool, true, false}
-use mathlib.Core.List.{List, _++_}
+use mathlib.Core.{Path._≡_, Path.refl, Bool.Bool, Bool.true, Bool.false, List.List, List._++_}
 use Prim.Native.Nat.{ℕ}
-use lib.ListN.{length, drop}
-use lib.Seq.{take-at}
-use Rattle.base.specs.Answer.{value, refusal, lengthIs}
+use lib.{ListN.length, ListN.drop, Seq.take-at}
+use Rattle.base.specs.{Answer.value, Answer.refusal, Answer.lengthIs, Choice.pick}
 use Rattle.base.specs.declared.Length.{Length}
-use Rattle.base.specs.Choice.{pick}
 use Rattle.lister.specs.Lister.{listOf, listBytes, lengthOf, hasRoom, listedOf, listedIn}
 use Rattle.lister.proofs.Writing.{bytes-length}
 use Rattle.replies.specs.Reply.{answerText, writtenText}

@@ -1,3 +1,3 @@
 pub mod Lists
-pub mod Kinds
+pub mod Texts
 pub mod Cases

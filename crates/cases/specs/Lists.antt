@@ -1,5 +1,4 @@
 -- What a `list` case answers, from its numbers n: INPUT, TARGET, ROOM.
--- Assumes nothing.
 use mathlib.Core.List.{List}
 use Prim.Native.Nat.{ℕ}
 use Rattle.lister.specs.Lister.{listOf, listBytes, listedOf}

@@ -1,12 +1,10 @@
 -- What differs between the chips in numbers, RP2040 beside RP235x (docs/RP235X.md). `gpout` has, for each Gpout
 -- source code from 0 on, the clock that it stands for: 0 ring, 1 crystal, 2 PLL sys, 3 PLL USB, 4 reference, 5 system, 7 USB,
 -- 8 ADC, and 10 for none.
--- Assumes nothing.
 use mathlib.Core.List.{[], _∷_}
+use Prim.Native.Nat.{_+_, _-_, _^_}
 use Rattle.step.specs.Kinds as kind
-use Rattle.chip.specs.declared.Chip.{Chip}
-use Rattle.chip.specs.declared.Chip.the-variants.{Rp2040, Rp235x}
-use Rattle.chip.specs.declared.Facts.{Facts}
+use Rattle.chip.specs.declared.{Chip.Chip, Chip.the-variants.Rp2040, Chip.the-variants.Rp235x, Facts.Facts}
 
 abbrev pub factsOf : Chip → Facts
 factsOf Rp2040 =
@@ -21,10 +19,10 @@ factsOf Rp2040 =
       first = 0x0FBCDBF;
       plls = 0x3000;
       last = 0x1FFFFFF;
-      peri = 0xC30000;  -- bits 16, 17, 22, 23
-      usb = 0x1000000;  -- bit 24
-      adc = 1;  -- bit 0
-      rtc = 0x8000;  -- bit 15
+      peri = 2 ^ 16 + 2 ^ 17 + 2 ^ 22 + 2 ^ 23;  -- SPI0, SPI1, UART0, UART1
+      usb = 2 ^ 24;  -- USBCTRL
+      adc = 2 ^ 0;  -- ADC
+      rtc = 2 ^ 15;  -- RTC
       «preset_hz» = 125000000;
       «preset_post» = 6;
       gpout = 2 ∷ 10 ∷ 10 ∷ 3 ∷ 0 ∷ 1 ∷ 5 ∷ 7 ∷ 8 ∷ 10 ∷ 4 ∷ 10 ∷ [];
@@ -40,10 +38,10 @@ factsOf Rp235x =
       pass = 0xAA00;
       first = 0x1EF3B7F;  -- 25 bits less 7, 10, 14, 15, 20
       plls = 0xC000;  -- bits 14, 15
-      last = 0x1FFFFF7;  -- 25 bits less HSTX, bit 3
-      peri = 0xC0000;  -- bits 18, 19; the UARTs' 26, 27 are not among the 25
-      usb = 0;  -- bit 28 is not among the 25
-      adc = 1;  -- bit 0
+      last = 0x1FFFFFF - 2 ^ 3;  -- less HSTX
+      peri = 2 ^ 18 + 2 ^ 19;  -- SPI0, SPI1; the UARTs' 26, 27 are not among the 25
+      usb = 0;  -- USBCTRL's 28 is not among the 25
+      adc = 2 ^ 0;  -- ADC
       rtc = 0;
       «preset_hz» = 150000000;
       «preset_post» = 5;

@@ -1,15 +1,10 @@
 -- What a plan's chip comes to: the one place where a plan's chip is looked at by cases.
--- Assumes nothing.
 use Prim.Native.Nat.{ℕ, _<_}
-use Rattle.chip.specs.declared.Chip.{Chip}
-use Rattle.chip.specs.declared.Chip.the-variants.{Rp2040, Rp235x}
+use Rattle.chip.specs.declared.{Chip.Chip, Chip.the-variants.Rp2040, Chip.the-variants.Rp235x}
 use Rattle.chip.specs.Chips.{factsOf}
 use Rattle.voltage.specs.declared.Volts.{Volts}
-use Rattle.voltage.specs.Voltage.{voltsOf}
-use Rattle.voltage.specs.Voltage235.{volts235Of}
-use Rattle.config.specs.declared.OptionRtc.{OptionRtc}
-use Rattle.config.specs.declared.ChipConfig.{ChipConfig}
-use Rattle.config.specs.declared.Board.{Board}
+use Rattle.voltage.specs.{Voltage.voltsOf, Voltage235.volts235Of}
+use Rattle.config.specs.declared.{OptionRtc.OptionRtc, ChipConfig.ChipConfig, Board.Board}
 
 abbrev pub boardWith : Chip → Volts → ℕ → ℕ → OptionRtc → Board
 boardWith chip volts whole fraction clock =

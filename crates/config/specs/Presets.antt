@@ -1,33 +1,17 @@
 -- The presets, each with the values that the Rust has.
--- Assumes nothing.
 use Prim.Native.Nat.{ℕ}
 use lib.Dec.{eqb, ltb}
-use Rattle.base.specs.Choice.{pick}
-use Rattle.base.specs.Answer.{Answer, value, refusal}
-use Rattle.chip.specs.declared.Chip.{Chip}
-use Rattle.chip.specs.declared.Chip.the-variants.{Rp2040, Rp235x}
+use Rattle.base.specs.{Choice.pick, Answer.Answer, Answer.value, Answer.refusal}
+use Rattle.chip.specs.declared.{Chip.Chip, Chip.the-variants.Rp2040, Chip.the-variants.Rp235x}
 use Rattle.chip.specs.Chips.{factsOf}
-use Rattle.voltage.specs.declared.CoreVoltage.{CoreVoltage}
-use Rattle.voltage.specs.declared.CoreVoltage235.{CoreVoltage235}
+use Rattle.voltage.specs.declared.{CoreVoltage.CoreVoltage, CoreVoltage235.CoreVoltage235}
 use Rattle.pll.specs.declared.PllConfig.{PllConfig}
-use Rattle.pll.specs.Setting.{validOf}
-use Rattle.pll.specs.Search.{setting, searchOf}
-use Rattle.pll.specs.Usb.{usbOf}
-use Rattle.config.specs.declared.RoscRange.{RoscRange}
-use Rattle.config.specs.declared.OptionRosc.{OptionRosc}
-use Rattle.config.specs.declared.OptionPll.{OptionPll}
-use Rattle.config.specs.declared.OptionXosc.{OptionXosc}
-use Rattle.config.specs.declared.RefClkSrc.{RefClkSrc}
-use Rattle.config.specs.declared.SysClkSrc.{SysClkSrc}
-use Rattle.config.specs.declared.PeriClkSrc.{PeriClkSrc}
-use Rattle.config.specs.declared.AuxClkSrc.{AuxClkSrc}
-use Rattle.config.specs.declared.OptionPeri.{OptionPeri}
-use Rattle.config.specs.declared.OptionAux.{OptionAux}
-use Rattle.config.specs.declared.OptionRtc.{OptionRtc}
-use Rattle.config.specs.declared.OptionU32.{OptionU32}
-use Rattle.config.specs.declared.ChipConfig.{ChipConfig}
-use Rattle.config.specs.declared.ClockConfig.{ClockConfig}
-use Rattle.config.specs.declared.Planned.{Planned}
+use Rattle.pll.specs.{Setting.validOf, Search.setting, Search.searchOf, Usb.usbOf}
+use Rattle.config.specs.declared.{RoscRange.RoscRange, OptionRosc.OptionRosc, OptionPll.OptionPll}
+use Rattle.config.specs.declared.{OptionXosc.OptionXosc, RefClkSrc.RefClkSrc, SysClkSrc.SysClkSrc}
+use Rattle.config.specs.declared.{PeriClkSrc.PeriClkSrc, AuxClkSrc.AuxClkSrc, OptionPeri.OptionPeri}
+use Rattle.config.specs.declared.{OptionAux.OptionAux, OptionRtc.OptionRtc, OptionU32.OptionU32}
+use Rattle.config.specs.declared.{ChipConfig.ChipConfig, ClockConfig.ClockConfig, Planned.Planned}
 
 -- what each case of `Planned` means
 abbrev pub plannedIs : Planned → Answer ClockConfig

@@ -1,8 +1,6 @@
 -- How large the formulas' numbers get.
--- Assumes nothing.
 use Prim.Native.Nat.{ℕ, _+_, _*_, _≤_}
-use native.Mathlib.Nat.{le-refl, mul-le-mul, div-le-of-le-mul}
-use native.Mathlib.Omega.{arith}
+use native.Mathlib.{Nat.le-refl, Nat.mul-le-mul, Nat.div-le-of-le-mul, Omega.arith}
 use Rattle.divider.specs.Clock.{dividedHz}
 
 -- with a whole part from 1 on, a divided clock is at most its source

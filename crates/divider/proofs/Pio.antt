@@ -1,13 +1,10 @@
 -- The PIO divider by one test: over a target of 0 it is 0, which is out of range.
--- Assumes nothing.
-use mathlib.Core.Path.{_≡_, refl}
-use mathlib.Core.Bool.{Bool, true, false}
+use mathlib.Core.{Path._≡_, Path.refl, Bool.Bool, Bool.true, Bool.false}
 use Prim.Native.Nat.{ℕ, _*_, _/_}
 use native.Mathlib.Nat.{div-zero}
 use lib.Dec.{eqb}
 use borrow.Author.Tests.{eqb-true}
-use Rattle.base.specs.Choice.{pick, inRange}
-use Rattle.base.specs.Answer.{Answer, value, refusal}
+use Rattle.base.specs.{Choice.pick, Choice.inRange, Answer.Answer, Answer.value, Answer.refusal}
 use Rattle.divider.specs.Pio.{pioOf}
 
 abbrev tested : ℕ → Answer ℕ

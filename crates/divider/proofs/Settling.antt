@@ -1,10 +1,7 @@
 -- The settling delay is never too short.
--- Assumes nothing.
-use mathlib.Core.Path.{_≡_, refl}
-use mathlib.Core.Bool.{Bool, true, false}
+use mathlib.Core.{Path._≡_, Path.refl, Bool.Bool, Bool.true, Bool.false}
 use Prim.Native.Nat.{ℕ, _+_, _*_, _/_, _≤_}
-use native.Mathlib.Nat.{le-refl, mul-le-mul}
-use native.Mathlib.Omega.{arith}
+use native.Mathlib.{Nat.le-refl, Nat.mul-le-mul, Omega.arith}
 use lib.Dec.{eqb}
 use borrow.Author.Tests.{eqb-true}
 use Rattle.base.specs.Choice.{pick}

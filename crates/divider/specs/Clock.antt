@@ -1,5 +1,4 @@
 -- The frequency of a divided clock.
--- Assumes nothing.
 use Prim.Native.Nat.{ℕ, _+_, _*_, _/_}
 
 -- source × scale / (whole × scale + fraction), rounded down; `n / 0` is 0. The scale is that of the divider's fraction:

@@ -1,5 +1,4 @@
 -- The crystal's startup delay and the settling delay of the core voltage.
--- Assumes nothing.
 use Prim.Native.Nat.{ℕ, _+_, _*_, _/_}
 use lib.Dec.{eqb}
 use Rattle.base.specs.Choice.{pick}

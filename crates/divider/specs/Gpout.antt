@@ -1,14 +1,9 @@
 -- The frequency of a Gpout, `get_freq`.
--- Assumes nothing.
 use Prim.Native.Nat.{ℕ}
-use mathlib.Core.Bool.{_&&_}
-use mathlib.Core.List.{List}
-use lib.Dec.{leb, ltb, eqb}
-use lib.ListN.{getD}
-use Rattle.base.specs.Choice.{pick}
-use Rattle.base.specs.Answer.{Answer, value, refusal}
-use Rattle.chip.specs.declared.Chip.{Chip}
-use Rattle.chip.specs.declared.Chip.the-variants.{Rp2040, Rp235x}
+use mathlib.Core.{Bool._&&_, List.List}
+use lib.{Dec.leb, Dec.ltb, Dec.eqb, ListN.getD}
+use Rattle.base.specs.{Choice.pick, Answer.Answer, Answer.value, Answer.refusal}
+use Rattle.chip.specs.declared.{Chip.Chip, Chip.the-variants.Rp2040, Chip.the-variants.Rp235x}
 use Rattle.chip.specs.Chips.{factsOf}
 use Rattle.divider.specs.declared.GpoutDiv.{GpoutDiv}
 use Rattle.divider.specs.declared.GpoutDiv.the-variants.{Rp2040 as On2040, Rp235x as On235x}

@@ -1,10 +1,6 @@
 -- Demand 3 of the exported calls, from what they promise alone: a number below the refusals is a length, so the call
 -- is one of `init`, of which demand 3 holds.
--- Assumes nothing.
-use mathlib.Core.Path.{_≡_, refl, ap}
-use mathlib.Core.Logic.{_↔_}
-use mathlib.Core.List.{List}
-use mathlib.Core.Option.{Option, none, some}
+use mathlib.Core.{Path._≡_, Path.refl, Path.ap, Logic._↔_, List.List, Option.Option, Option.none, Option.some}
 use Prim.Native.Nat.{ℕ, _<_}
 use native.Mathlib.Omega.{arith}
 use Rattle.base.specs.Answer.{Answer, value, refusal}
@@ -12,11 +8,10 @@ use Rattle.base.specs.declared.Length.the-variants.{Bytes}
 use Rattle.config.specs.declared.ClockConfig.{ClockConfig}
 use Rattle.config.specs.Presets.{systemPlan, systemPlanFrom}
 use Rattle.settings.specs.Settings.{settingsOf}
-use Rattle.sheet.specs.Writer.{initAnswer, InitCall}
-use Rattle.sheet.specs.Demand3.{SameUpTo}
+use Rattle.sheet.specs.{Writer.initAnswer, Writer.InitCall, Demand3.SameUpTo}
 use Rattle.sheet.proofs.Demand3.{demand-3}
-use Rattle.export.specs.Numbers.{answerNumber, itself, refusals, chipNumbered}
-use Rattle.export.specs.Sheet.{planIn, SheetCall, presetOn, planOn}
+use Rattle.as_numbers.specs.Numbers.{answerNumber, itself, refusals, chipNumbered}
+use Rattle.export.specs.Sheet.{planGiven, SheetCall, presetOn, planOn}
 use Rattle.export.specs.Demand3.{settingsIn, Sheets, PlanSheets, SystemSheets, SystemSheetsFrom}
 
 -- a call that answered a length is one of `init`
@@ -30,7 +25,7 @@ length-of (value n) r e low = ap value e
 length-of (refusal n) r e low = absurd (omega arith)
 
 wrote : (plan : Option (Answer ClockConfig)) {reading r : ℕ} {before after : List ℕ}
-    → SheetCall plan reading before r after → r < refusals → Wrote (planIn plan) reading before r after
+    → SheetCall plan reading before r after → r < refusals → Wrote (planGiven plan) reading before r after
 wrote (some (value plan)) {reading} {r} {before} c low =
     record {
       config = plan;
@@ -59,7 +54,7 @@ both p q reading b b′ c c′ r s first second =
 
 pub sheets : (p q : Option (Answer ClockConfig)) → Sheets p q
 sheets p q reading b b′ c c′ r s call low call′ low′ =
-    both (planIn p) (planIn q) reading b b′ c c′ r s (wrote p call low) (wrote q call′ low′)
+    both (planGiven p) (planGiven q) reading b b′ c c′ r s (wrote p call low) (wrote q call′ low′)
 
 pub plan-sheets : PlanSheets
 plan-sheets on on′ ns ms = sheets (planOn ns (chipNumbered on)) (planOn ms (chipNumbered on′))

@@ -1,14 +1,11 @@
 -- The ranges of exported answers hold, so that a caller may tell them apart by size alone.
--- Assumes nothing.
-use mathlib.Core.Bool.{Bool, true, false}
-use mathlib.Core.Path.{_≡_, refl}
+use mathlib.Core.{Bool.Bool, Bool.true, Bool.false, Path._≡_, Path.refl}
 use Prim.Native.Nat.{_^_, _≤_}
 use native.Mathlib.Omega.{arith}
 use lib.Dec.{T}
 use Rattle.base.proofs.Bools.{in-range}
 use Rattle.step.specs.declared.Step.{Step}
-use Rattle.step.specs.Layout.{kinds}
-use Rattle.step.specs.Steps.{packOf, known, kindIn, WellFormed}
+use Rattle.step.specs.{Layout.kinds, Steps.packOf, Steps.known, Steps.kindIn, Steps.WellFormed}
 use Rattle.step.proofs.Laws.{kind-in, pack-lt}
 use Rattle.runner.specs.Run.{Progress, done, handed, passed, waiting}
 use Rattle.export.specs.Ranges.{ProgressRange, Ranges}

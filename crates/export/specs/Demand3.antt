@@ -1,9 +1,5 @@
 -- Demand 3 of the exported calls: two sheets are equal exactly when their plans agree in every setting.
--- Assumes nothing.
-use mathlib.Core.Path.{_≡_}
-use mathlib.Core.Logic.{_↔_}
-use mathlib.Core.List.{List}
-use mathlib.Core.Option.{Option, none, some}
+use mathlib.Core.{Path._≡_, Logic._↔_, List.List, Option.Option, Option.none, Option.some}
 use Prim.Native.Nat.{ℕ, _<_}
 use Rattle.base.specs.Answer.{Answer}
 use Rattle.config.specs.declared.ClockConfig.{ClockConfig}
@@ -11,8 +7,8 @@ use Rattle.config.specs.Presets.{systemPlan, systemPlanFrom}
 use Rattle.settings.specs.Settings.{settingsOf}
 use Rattle.settings.specs.declared.Settings.{Settings}
 use Rattle.sheet.specs.Demand3.{SameUpTo}
-use Rattle.export.specs.Numbers.{refusals, chipNumbered}
-use Rattle.export.specs.Sheet.{planIn, SheetCall, presetOn, planOn}
+use Rattle.as_numbers.specs.Numbers.{refusals, chipNumbered}
+use Rattle.export.specs.Sheet.{planGiven, SheetCall, presetOn, planOn}
 
 -- the settings of a plan, where there is one
 abbrev pub settingsIn : Option ClockConfig → ℕ → Option Settings
@@ -25,7 +21,7 @@ Sheets p q =
     (reading : ℕ) (b b′ c c′ : List ℕ) (r s : ℕ)
     → SheetCall p reading b r b′ → r < refusals
     → SheetCall q reading c s c′ → s < refusals
-    → ((r ≡ s) × SameUpTo r b′ c′) ↔ (settingsIn (planIn p) reading ≡ settingsIn (planIn q) reading)
+    → ((r ≡ s) × SameUpTo r b′ c′) ↔ (settingsIn (planGiven p) reading ≡ settingsIn (planGiven q) reading)
 
 -- plans of any numbers, for any chips
 abbrev pub PlanSheets : Type 0

@@ -1,17 +1,13 @@
 -- The sheet of a plan that a preset answers, or that is given as numbers.
--- Assumes nothing.
-use mathlib.Core.Path.{_≡_}
-use mathlib.Core.List.{List}
-use mathlib.Core.Option.{Option, none, some}
+use mathlib.Core.{Path._≡_, List.List, Option.Option, Option.none, Option.some}
 use Prim.Native.Nat.{ℕ}
 use Rattle.base.specs.Answer.{Answer, value, refusal}
 use Rattle.chip.specs.declared.Chip.{Chip}
 use Rattle.config.specs.declared.ClockConfig.{ClockConfig}
-use Rattle.settings.specs.Settings.{settingsOf}
-use Rattle.settings.specs.Typed.{Typed}
+use Rattle.settings.specs.{Settings.settingsOf, Typed.Typed}
 use Rattle.sheet.specs.Writer.{initAnswer, initBuffer}
-use Rattle.plan_numbers.specs.Plan.{planOf}
-use Rattle.export.specs.Numbers.{answerNumber, itself, malformed}
+use Rattle.plan_numbers.specs.Plan.{planNumbered}
+use Rattle.as_numbers.specs.Numbers.{answerNumber, itself, malformed}
 
 -- the sheet's answer, or the preset's refusal; none where the numbers given are of no chip or of no plan
 abbrev pub sheetNumber : Option (Answer ClockConfig) → ℕ → List ℕ → ℕ
@@ -30,17 +26,17 @@ abbrev pub TypedPlan : Option ClockConfig → ℕ → Type 0
 TypedPlan (some plan) reading = Typed (settingsOf plan reading)
 TypedPlan none reading = Unit {0}
 
-abbrev pub planIn : Option (Answer ClockConfig) → Option ClockConfig
-planIn (some (value plan)) = some plan
-planIn (some (refusal n)) = none
-planIn none = none
+abbrev pub planGiven : Option (Answer ClockConfig) → Option ClockConfig
+planGiven (some (value plan)) = some plan
+planGiven (some (refusal n)) = none
+planGiven none = none
 
 -- what a call promises: its answer r, and the whole buffer after it
 pub record SheetCall (plan : Option (Answer ClockConfig)) (reading : ℕ) (before : List ℕ) (r : ℕ) (after : List ℕ) : Type 0
   where
     pub answer : r ≡ sheetNumber plan reading before
     pub bytes : after ≡ sheetBuffer plan reading before
-    pub typed : TypedPlan (planIn plan) reading
+    pub typed : TypedPlan (planGiven plan) reading
 
 -- a chip's preset, and a chip's plan that is given as numbers
 abbrev pub presetOn : (Chip → Answer ClockConfig) → Option Chip → Option (Answer ClockConfig)
@@ -52,5 +48,5 @@ given (some plan) = some (value plan)
 given none = none
 
 abbrev pub planOn : List ℕ → Option Chip → Option (Answer ClockConfig)
-planOn ns (some chip) = given (planOf chip ns)
+planOn ns (some chip) = given (planNumbered chip ns)
 planOn ns none = none

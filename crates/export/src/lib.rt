@@ -1,15 +1,15 @@
-// The product for programs in C and Rust: numbers and slices alone. Each answer is one number, by specs/Numbers.
+// The product for programs in C and Rust: numbers and slices alone. Each answer is one number, by as_numbers/specs/Numbers.
 mod bench;
-mod numbers;
 mod read;
 mod run;
 mod slots;
 
+use as_numbers::numbers;
+use as_numbers::numbers::OptionChip;
+use as_numbers::numbers::OptionDiv;
 use config::ClockConfig;
 use config::Planned;
 use margin::Margin;
-use numbers::OptionChip;
-use numbers::OptionDiv;
 use plan_numbers::PlanRead;
 use pll::PllConfig;
 use runner::Opening;
@@ -30,10 +30,10 @@ ghost use Rattle.config.specs.Presets.{plannedIs, systemPlan, systemPlanFrom};
 ghost use Rattle.lister.specs.Lister.{listedOf, listedIn};
 ghost use Rattle.up.specs.ComesUp.{longestWait};
 ghost use Rattle.plan_numbers.specs.Plan.{planReadIs};
-ghost use Rattle.export.specs.Numbers.{answerNumber, itself, settingNumber, dividersAre, done, limitsAfter, chipNumbered, onChip};
-ghost use Rattle.export.specs.Numbers.{voltageNumber, dividerNumbered, gpoutNumber};
+ghost use Rattle.as_numbers.specs.Numbers.{answerNumber, itself, settingNumber, dividersAre, done, limitsAfter, chipNumbered, onChip};
+ghost use Rattle.as_numbers.specs.Numbers.{voltageNumber, dividerNumbered, gpoutNumber};
 ghost use Rattle.export.specs.Sheet.{SheetCall, presetOn, given, planOn};
-ghost use Rattle.export.specs.Run.{runNumber, runLeaves, StartCall};
+ghost use Rattle.as_numbers.specs.Run.{runNumber, runLeaves, StartCall};
 
 #[no_mangle]
 pub extern "C" fn dizbaral_search(input_hz: u32, target_hz: u32) -> u64

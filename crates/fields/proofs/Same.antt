@@ -1,8 +1,5 @@
 -- A test that is true just where two texts are equal is the test of the specification.
--- Assumes nothing.
-use mathlib.Core.Path.{_≡_, refl, sym}
-use mathlib.Core.Bool.{Bool, true, false}
-use mathlib.Core.List.{List}
+use mathlib.Core.{Path._≡_, Path.refl, Path.sym, Bool.Bool, Bool.true, Bool.false, List.List}
 use Prim.Native.Nat.{ℕ}
 use Rattle.text.specs.Ascii.{same}
 use Rattle.text.proofs.Same.{same-true, same-refl}

@@ -1,22 +1,17 @@
 -- Reading the numbers of a line one after another.
--- Assumes nothing.
-use mathlib.Core.Path.{_≡_, refl, sym, ap, _∙_}
-use mathlib.Core.Bool.{Bool, true, false}
+use mathlib.Core.{Path._≡_, Path.refl, Path.sym, Path.ap, Path._∙_, Bool.Bool, Bool.true, Bool.false}
 use mathlib.Core.List.{List, [], _∷_}
 use Prim.Native.Nat.{ℕ, suc, _+_, _-_, _≤_, _<_, max}
 use native.Mathlib.Omega.{arith}
 use borrow.Author.Tests.{lt-ltb, le-ltb, le-leb, lt-leb, ltb-true, ltb-false}
 use lib.Dec.{eqb, ltb, leb·suc-suc}
 use lib.ListN.{length, take, drop, getD, set, length-drop, drop-of-length-le}
-use lib.Seq.{drop-cons, drop-drop}
-use Rattle.base.specs.Answer.{value, refusal}
-use Rattle.base.specs.Choice.{pick}
-use lib.Seq.{sets}
-use Rattle.text.specs.Decimal.{numberOf}
-use Rattle.text.specs.Words.{upTo, indexFrom}
+use lib.Seq.{drop-cons, drop-drop, sets}
+use Rattle.base.specs.{Answer.value, Answer.refusal, Choice.pick}
+use Rattle.text.specs.{Decimal.numberOf, Words.upTo, Words.indexFrom}
 use Rattle.text.proofs.Lines.{take-up}
-use Rattle.fields.specs.Fields.{Tail, ended, more, bad, Fields, closed, noNumber, behind, withNumber}
-use Rattle.fields.specs.Fields.{numbersIn, tailAt, restOf, Reading}
+use Rattle.fields.specs.Fields.{Tail, ended, more, bad, Fields, closed, noNumber, behind, withNumber, numbersIn}
+use Rattle.fields.specs.Fields.{tailAt, restOf, Reading}
 use Rattle.fields.specs.declared.Rest.the-variants.{At, Bad}
 
 -- what follows the first word starts where the word ends

@@ -1,17 +1,10 @@
 -- A line is words with one space between them. After its first word come decimal numbers, each up to a limit.
--- Assumes nothing.
-use mathlib.Core.Path.{_≡_}
-use mathlib.Core.List.{List, [], _∷_}
+use mathlib.Core.{Path._≡_, List.List, List.[], List._∷_}
 use Prim.Native.Nat.{ℕ, suc, _-_, max}
-use lib.Dec.{eqb, leb, ltb}
-use lib.ListN.{length, drop}
-use Rattle.base.specs.Answer.{Answer, value, refusal}
-use Rattle.base.specs.Choice.{pick}
-use lib.Seq.{sets}
-use Rattle.text.specs.Decimal.{numberOf}
-use Rattle.text.specs.Words.{upTo}
-use Rattle.fields.specs.declared.Rest.{Rest}
-use Rattle.fields.specs.declared.Rest.the-variants.{At, Bad}
+use lib.{Dec.eqb, Dec.leb, Dec.ltb, ListN.length, ListN.drop, Seq.sets}
+use Rattle.base.specs.{Answer.Answer, Answer.value, Answer.refusal, Choice.pick}
+use Rattle.text.specs.{Decimal.numberOf, Words.upTo}
+use Rattle.fields.specs.declared.{Rest.Rest, Rest.the-variants.At, Rest.the-variants.Bad}
 
 -- what follows a word: the line's end, or a space and this text; or a word was not what it has to be
 pub data Tail : Type 0 where

@@ -1,5 +1,4 @@
 -- A row of numbers. A number is found by its place; past the row's end stands 0.
--- Assumes nothing.
 use mathlib.Core.List.{List, [], _∷_}
 use Prim.Native.Nat.{ℕ, _+_, min}
 use lib.ListN.{getD}

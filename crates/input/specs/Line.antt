@@ -1,5 +1,4 @@
 -- What a line that was read says of its buffer.
--- Assumes nothing.
 use Prim.Native.Nat.{ℕ, _≤_}
 use Rattle.input.specs.declared.Line.{Line}
 

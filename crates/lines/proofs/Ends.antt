@@ -1,7 +1,5 @@
 -- The end of a text's first line.
--- Assumes nothing.
-use mathlib.Core.Path.{_≡_}
-use mathlib.Core.List.{List}
+use mathlib.Core.{Path._≡_, List.List}
 use Prim.Native.Nat.{ℕ}
 use native.Mathlib.Omega.{arith}
 use lib.ListN.{length, take}

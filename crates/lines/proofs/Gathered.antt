@@ -1,20 +1,16 @@
 -- What is held of a line, and the answer to it.
--- Assumes nothing.
-use mathlib.Core.Path.{_≡_, refl, sym, _∙_}
-use mathlib.Core.Bool.{Bool, true, false, _||_}
+use mathlib.Core.{Path._≡_, Path.refl, Path.sym, Path._∙_, Bool.Bool, Bool.true, Bool.false, Bool._||_}
 use mathlib.Core.List.{List, [], _∷_, _++_}
 use Prim.Native.Nat.{ℕ, _+_, _-_, _≤_, _<_}
 use native.Mathlib.Omega.{arith}
 use borrow.Author.Tests.{ltb-true, ltb-false, lt-ltb, le-ltb}
-use lib.Dec.{ltb}
-use lib.ListN.{length, take, drop, length-append}
-use lib.Seq.{sets-eq, length-sets, take-at}
+use lib.{Dec.ltb, ListN.length, ListN.take, ListN.drop, ListN.length-append, Seq.sets-eq, Seq.length-sets, Seq.take-at}
 use Rattle.base.proofs.Bools.{both-false}
 use Rattle.text.specs.Words.{upTo}
 use Rattle.base.specs.Placed.{Placed}
 use Rattle.lines.specs.declared.Held.{Held}
 use Rattle.lines.specs.Held.{Holding, heldText}
-use Rattle.lines.specs.Lines.{Holds, lineText, closes, Taking, begun}
+use Rattle.lines.specs.Lines.{Holds, lineText, closes, Taking, lineBegun}
 
 or-true : (t : Bool) → (t || true) ≡ true
 or-true true = refl
@@ -111,10 +107,10 @@ module _ {held : List ℕ} {len : ℕ} {over : Bool} {line : List ℕ} (h : Hold
       }
 
   -- the test whether something came
-  pub begun-test : (ltb 0 len || over) ≡ begun line
+  pub begun-test : (ltb 0 len || over) ≡ lineBegun line
   begun-test = go over line refl refl
     where
-      go : (t : Bool) (l : List ℕ) → over ≡ t → line ≡ l → (ltb 0 len || over) ≡ begun l
+      go : (t : Bool) (l : List ℕ) → over ≡ t → line ≡ l → (ltb 0 len || over) ≡ lineBegun l
       go true [] e l =
           let short : length line ≤ length held = rw l (omega arith) in
           let no : false ≡ true = sym (le-ltb (length held) (length line) short) ∙ sym (h .too-long) ∙ e in

@@ -1,13 +1,8 @@
 -- Inside: a line gathered from pieces, step by step.
--- Assumes nothing.
-use mathlib.Core.Path.{_≡_}
-use mathlib.Core.Bool.{Bool, _||_}
-use mathlib.Core.List.{List, [], _∷_, _++_}
+use mathlib.Core.{Path._≡_, Bool.Bool, Bool._||_, List.List, List.[], List._∷_, List._++_}
 use Prim.Native.Nat.{ℕ, _-_, _≤_}
-use lib.Dec.{ltb}
-use lib.ListN.{length, take}
-use Rattle.base.specs.Choice.{pick}
-use Rattle.base.specs.Placed.{Placed}
+use lib.{Dec.ltb, ListN.length, ListN.take}
+use Rattle.base.specs.{Choice.pick, Placed.Placed}
 use Rattle.text.specs.Words.{upTo}
 use Rattle.replies.specs.Reply.{badCase}
 use Rattle.cases.specs.Cases.{answerTo}

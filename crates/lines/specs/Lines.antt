@@ -1,13 +1,8 @@
 -- A text that comes in pieces: one answer a line, in the order of the lines; a last line without a newline counts.
--- Assumes nothing.
-use mathlib.Core.Path.{_≡_}
-use mathlib.Core.Bool.{Bool, true, false}
-use mathlib.Core.List.{List, [], _∷_, _++_}
+use mathlib.Core.{Path._≡_, Bool.Bool, Bool.true, Bool.false, List.List, List.[], List._∷_, List._++_}
 use Prim.Native.Nat.{ℕ, suc, _≤_, _<_}
-use lib.Dec.{ltb}
-use lib.ListN.{length, take}
-use Rattle.base.specs.Choice.{pick}
-use Rattle.base.specs.Placed.{Placed}
+use lib.{Dec.ltb, ListN.length, ListN.take}
+use Rattle.base.specs.{Choice.pick, Placed.Placed}
 use Rattle.text.specs.Words.{upTo}
 use Rattle.replies.specs.Reply.{badCase}
 use Rattle.cases.specs.Cases.{answerTo}
@@ -38,9 +33,9 @@ pub record Taking (line text held : List ℕ) (r : Taken) (held′ out out′ : 
   pub answer : AnsweredIf (closes text) (length held) (line ++ upTo 10 text) out (r .answer) out′
 
 -- whether something came of a line
-abbrev pub begun : List ℕ → Bool
-begun [] = false
-begun (c ∷ cs) = true
+abbrev pub lineBegun : List ℕ → Bool
+lineBegun [] = false
+lineBegun (c ∷ cs) = true
 
 -- what the two calls promise of every line that the buffer holds
 abbrev pub Takes : List ℕ → ℕ → Bool → List ℕ → Taken → List ℕ → List ℕ → List ℕ → Type 0
@@ -49,7 +44,7 @@ Takes held len over text r held′ out out′ =
 
 abbrev pub Ends : List ℕ → ℕ → Bool → List ℕ → ℕ → List ℕ → Type 0
 Ends held len over out r out′ =
-    (line : List ℕ) → Holds held len over line → AnsweredIf (begun line) (length held) line out r out′
+    (line : List ℕ) → Holds held len over line → AnsweredIf (lineBegun line) (length held) line out r out′
 
 -- at every state: some of a text is used, and the answer is in the buffer
 pub record Within (text : List ℕ) (r : Taken) (out : List ℕ) : Type 0 where

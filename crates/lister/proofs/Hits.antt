@@ -1,13 +1,9 @@
 -- Which settings of a feedback divider give the target with no remainder.
--- Assumes nothing.
-use mathlib.Core.Path.{_≡_, refl, sym, _∙_, ap}
-use mathlib.Core.List.{List, [], _∷_, map, flatMap}
-use mathlib.Core.Bool.{Bool, true, false, _&&_}
-use mathlib.Core.Logic.{⊎-elim}
+use mathlib.Core.{Path._≡_, Path.refl, Path.sym, Path._∙_, Path.ap, List.List, List.[], List._∷_, List.map, List.flatMap}
+use mathlib.Core.{Bool.Bool, Bool.true, Bool.false, Bool._&&_, Logic.⊎-elim}
 use Prim.Native.Nat.{ℕ, zero, suc, _+_, _-_, _*_, _/_, _%_, _≤_, _<_}
 use native.Mathlib.Omega.{arith}
-use native.Mathlib.Nat.{eq-or-lt-of-le, eq-of-mul-eq-mul-left, div-one, div-add-mod'}
-use native.Mathlib.Nat.{mul-mod-right, mul-div-cancel-left}
+use native.Mathlib.Nat.{eq-or-lt-of-le, eq-of-mul-eq-mul-left, div-one, div-add-mod', mul-mod-right, mul-div-cancel-left}
 use lib.Dec.{leb, eqb}
 use borrow.Author.Tests.{le-leb, leb-true, eqb-true, eq-eqb, ne-eqb}
 use Rattle.base.specs.Choice.{inRange}
@@ -17,8 +13,7 @@ use Rattle.pll.specs.Search.{falling, rising, setting, keep}
 use Rattle.pll.specs.Law.{InVco, VcoPermits, HighestPermitted, LowestPermitted}
 use Rattle.lister.specs.Lister.{meets, inOrder, listOf}
 use Rattle.lister.specs.Order.{atPost1, atFeedback, hasProduct, Wrote}
-use Rattle.lister.proofs.Writing.{nothing}
-use Rattle.lister.proofs.Walks.{same-feedback, none-kept, none-given, between}
+use Rattle.lister.proofs.{Writing.nothing, Walks.same-feedback, Walks.none-kept, Walks.none-given, Walks.between}
 
 -- the quotient is a post 2, and nothing remains
 abbrev pub divides : ℕ → ℕ → Bool

@@ -1,25 +1,17 @@
 -- The list is right: it has each remainder-free setting once and nothing else, in order.
--- Assumes nothing.
-use mathlib.Core.Path.{_≡_}
-use mathlib.Core.Logic.{inl, inr}
-use mathlib.Core.List.{List, [], _∷_}
-use mathlib.Core.Bool.{true}
+use mathlib.Core.{Path._≡_, Logic.inl, Logic.inr, List.List, List.[], List._∷_, Bool.true}
 use Prim.Native.Nat.{ℕ, _+_, _-_, _*_, _≤_, _<_}
-use native.Mathlib.Omega.{arith}
-use native.Mathlib.Decide.{decLe}
+use native.Mathlib.{Omega.arith, Decide.decLe}
 use lib.Dec.{eqb}
 use borrow.Author.Tests.{eqb-true, eq-eqb}
 use Rattle.base.specs.Choice.{pick, inRange}
 use Rattle.base.proofs.Bools.{both-true, in-range, range-true}
-use Rattle.pll.specs.Ranges.{feedbackMin, feedbackMax}
-use Rattle.pll.specs.Search.{permitted, exact}
-use Rattle.pll.specs.Law.{Candidate}
+use Rattle.pll.specs.{Ranges.feedbackMin, Ranges.feedbackMax, Search.permitted, Search.exact, Law.Candidate}
 use Rattle.pll.specs.declared.PllConfig.{PllConfig}
 use Rattle.pll.proofs.Order.{Kind, Lists, From, lists-same, lists-rising, lists-keep}
 use Rattle.pll.proofs.Candidates.{Posts, lists-feedback, permitted-candidate, candidate-posts, candidate-permitted}
-use Rattle.lister.specs.Lister.{remainderFree, meets, inOrder, listOf, times}
-use Rattle.lister.specs.Law.{Ahead, Ordered, RightList}
-use Rattle.lister.specs.Order.{atFeedback}
+use Rattle.lister.specs.Lister.{remainderFree, meets, inOrder, listOf, howOften}
+use Rattle.lister.specs.{Law.Ahead, Law.Ordered, Law.RightList, Order.atFeedback}
 use Rattle.lister.proofs.Times.{times-listed}
 
 -- the order of the list as one number: it falls as the feedback divider rises
@@ -106,7 +98,7 @@ module _ (input target : ℕ) where
       ))
       _ (lists-keep listKey (meets input target) inOrder _ lists-in-order)
 
-  pub list-once : (c : PllConfig) → times c (listOf input target) ≡ pick (remainderFree input target c) 1 0
+  pub list-once : (c : PllConfig) → howOften c (listOf input target) ≡ pick (remainderFree input target c) 1 0
   list-once =
       times-listed listKey (remainderFree input target) _
       (lists-same listKey Hit (λ c. remainderFree input target c ≡ true) hit-free free-hit _ list-hits)

@@ -1,7 +1,5 @@
 -- Worked values of the lister, from the definitions.
--- Assumes nothing.
-use mathlib.Core.Path.{_≡_, refl}
-use mathlib.Core.List.{[], _∷_, flatMap}
+use mathlib.Core.{Path._≡_, Path.refl, List.[], List._∷_, List.flatMap}
 use Rattle.base.specs.Answer.{value, refusal}
 use Rattle.pll.specs.Search.{falling, rising, setting, keep}
 use Rattle.lister.specs.Lister.{inOrder, listOf, listBytes, listedOf}

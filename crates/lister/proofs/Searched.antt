@@ -1,25 +1,20 @@
 -- The list and the search agree.
--- Assumes nothing.
-use mathlib.Core.Path.{_≡_, refl, subst}
-use mathlib.Core.List.{List, [], _∷_}
-use mathlib.Core.Bool.{Bool, true, false}
+use mathlib.Core.{Path._≡_, Path.refl, Path.subst, List.List, List.[], List._∷_, Bool.Bool, Bool.true, Bool.false}
 use Prim.Native.Nat.{ℕ, _*_, _<_}
 use native.Mathlib.Omega.{arith}
 use lib.ListN.{length}
 use borrow.Author.Tests.{eqb-true, eq-eqb}
 use Rattle.base.specs.Answer.{Answer, value, refusal}
-use Rattle.pll.specs.Setting.{vcoOf, postsOf}
-use Rattle.pll.specs.Search.{searchOf}
+use Rattle.pll.specs.{Setting.vcoOf, Setting.postsOf, Search.searchOf}
 use Rattle.pll.specs.Law.{Candidate, Exact, Before, Chosen, RightAnswer}
 use Rattle.pll.specs.declared.PllConfig.{PllConfig}
-use Rattle.pll.proofs.Right.{LowestOf, search-lowest, search-right}
-use Rattle.lister.specs.Lister.{remainderFree, times, listOf, lengthOf}
+use Rattle.pll.proofs.{Right.LowestOf, Right.search-lowest, Right.search-right, Same.same-self}
+use Rattle.lister.specs.Lister.{remainderFree, howOften, listOf, lengthOf}
 use Rattle.lister.proofs.Once.{Hit, hit-free, free-hit, list-once}
-use Rattle.pll.proofs.Same.{same-self}
 
 module _ (input target : ℕ) where
   -- what stands in the list is a candidate of the search, and exact
-  listed-hit : (c : PllConfig) → 0 < times c (listOf input target) → Hit input target c
+  listed-hit : (c : PllConfig) → 0 < howOften c (listOf input target) → Hit input target c
   listed-hit c h = free-hit input target c (go (remainderFree input target c) refl)
     where
       go : (b : Bool) → remainderFree input target c ≡ b → b ≡ true
@@ -31,14 +26,14 @@ module _ (input target : ℕ) where
 
   -- an exact answer of the search stands in the list
   pub search-listed : (c : PllConfig) → searchOf input target ≡ value c → Exact input target c
-      → times c (listOf input target) ≡ 1
+      → howOften c (listOf input target) ≡ 1
   search-listed c e x =
       let hit : Hit input target c = (chosen c e .candidate, eq-eqb (target * postsOf c) (vcoOf c input) x) in
       rw (hit-free input target c hit) at (list-once input target c)
 
   -- where a setting stands in the list, the search's answer is exact, and so in the list; none of the list stands
   -- before it in the order of the search: it is the first entry at the greatest feedback divider
-  pub list-searched : (d : PllConfig) → 0 < times d (listOf input target)
+  pub list-searched : (d : PllConfig) → 0 < howOften d (listOf input target)
       → (c : PllConfig) × (searchOf input target ≡ value c) × Exact input target c × (Before d c → ⊥)
   list-searched d h = go (searchOf input target) refl (search-lowest input target)
     where
@@ -58,18 +53,18 @@ module _ (input target : ℕ) where
   -- where the list is empty, no answer of the search is exact
   pub list-empty : listOf input target ≡ [] → (c : PllConfig) → searchOf input target ≡ value c
       → Exact input target c → ⊥
-  unfolding times
+  unfolding howOften
   list-empty z c e x = let n = rw z at (search-listed c e x) in omega arith
 
   -- where the search refuses, the list is empty
   pub none-where-refused : (n : ℕ) → searchOf input target ≡ refusal n → lengthOf input target ≡ 0
-  unfolding times
+  unfolding howOften
   none-where-refused n e = go (listOf input target) (λ c h. h)
     where
-      none : (d : PllConfig) → 0 < times d (listOf input target) → ⊥
+      none : (d : PllConfig) → 0 < howOften d (listOf input target) → ⊥
       none d h = subst (LowestOf input target) e (search-lowest input target) .1 d (listed-hit d h .0)
 
       go : (cs : List PllConfig)
-          → ((d : PllConfig) → 0 < times d cs → 0 < times d (listOf input target)) → 2 * length cs ≡ 0
+          → ((d : PllConfig) → 0 < howOften d cs → 0 < howOften d (listOf input target)) → 2 * length cs ≡ 0
       go [] in-list = refl
       go (d ∷ ds) in-list = absurd (none d (in-list d (rw (same-self d d refl) (omega arith))))

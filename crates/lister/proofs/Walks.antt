@@ -1,13 +1,9 @@
 -- A walk over numbers, with the settings of each: what it keeps.
--- Assumes nothing.
-use mathlib.Core.Path.{_≡_, refl, sym, _∙_}
-use mathlib.Core.List.{List, [], _∷_, _++_, map, flatMap}
+use mathlib.Core.{Path._≡_, Path.refl, Path.sym, Path._∙_, List.List, List.[], List._∷_, List._++_, List.map, List.flatMap}
 use mathlib.Core.Bool.{Bool, false}
 use Prim.Native.Nat.{ℕ, zero, suc, _+_, _-_, _≤_, _<_}
-use native.Mathlib.Omega.{arith}
-use native.Mathlib.Numerals.{add-one}
-use Rattle.pll.specs.Ranges.{feedbackMin, feedbackMax}
-use Rattle.pll.specs.Search.{falling, rising, setting, keep}
+use native.Mathlib.{Omega.arith, Numerals.add-one}
+use Rattle.pll.specs.{Ranges.feedbackMin, Ranges.feedbackMax, Search.falling, Search.rising, Search.setting, Search.keep}
 use Rattle.pll.specs.declared.PllConfig.{PllConfig}
 use Rattle.pll.proofs.Order.{keep-append}
 use Rattle.lister.specs.Order.{atPost1, atFeedback, Wrote}

@@ -1,12 +1,9 @@
 -- What holds of the list, said without how it is made; proved of `listOf` in `proofs/Once.antt`.
--- Assumes nothing.
-use mathlib.Core.Path.{_≡_}
-use mathlib.Core.Logic.{_⊎_}
-use mathlib.Core.List.{List, [], _∷_}
+use mathlib.Core.{Path._≡_, Logic._⊎_, List.List, List.[], List._∷_}
 use Prim.Native.Nat.{ℕ, _<_}
 use Rattle.base.specs.Choice.{pick}
 use Rattle.pll.specs.declared.PllConfig.{PllConfig}
-use Rattle.lister.specs.Lister.{remainderFree, times}
+use Rattle.lister.specs.Lister.{remainderFree, howOften}
 
 -- c comes before d: the lower feedback divider, or the same and the greater post 1, or the same two and the greater
 -- post 2
@@ -24,5 +21,5 @@ Ordered (c ∷ d ∷ ds) = Ahead c d × Ordered (d ∷ ds)
 
 pub record RightList (input target : ℕ) (cs : List PllConfig) : Type 0 where
   -- each remainder-free setting stands there exactly once, and nothing else does
-  pub once : (c : PllConfig) → times c cs ≡ pick (remainderFree input target c) 1 0
+  pub once : (c : PllConfig) → howOften c cs ≡ pick (remainderFree input target c) 1 0
   pub ordered : Ordered cs

@@ -1,14 +1,9 @@
 -- What the lister writes: each setting of the search that has no remainder, once, the lowest feedback divider first.
--- Assumes nothing.
-use mathlib.Core.List.{List, [], _∷_, _++_, map, flatMap}
-use mathlib.Core.Bool.{Bool, _&&_}
+use mathlib.Core.{List.List, List.[], List._∷_, List._++_, List.map, List.flatMap, Bool.Bool, Bool._&&_}
 use Prim.Native.Nat.{ℕ, _+_, _-_, _*_, _/_, _%_}
-use lib.Dec.{leb, eqb}
-use lib.ListN.{length, drop}
-use Rattle.base.specs.Choice.{pick, inRange}
-use Rattle.base.specs.Answer.{Answer, value, refusal}
-use Rattle.pll.specs.Setting.{sameSetting}
-use Rattle.pll.specs.Ranges.{feedbackMin, feedbackMax}
+use lib.{Dec.leb, Dec.eqb, ListN.length, ListN.drop}
+use Rattle.base.specs.{Choice.pick, Choice.inRange, Answer.Answer, Answer.value, Answer.refusal}
+use Rattle.pll.specs.{Setting.sameSetting, Ranges.feedbackMin, Ranges.feedbackMax}
 use Rattle.pll.specs.Search.{falling, rising, setting, keep, permitted, exact}
 use Rattle.pll.specs.declared.PllConfig.{PllConfig}
 
@@ -38,18 +33,18 @@ unfoldable pub listOf : ℕ → ℕ → List PllConfig
 listOf input target = keep (meets input target) inOrder
 
 -- how often c stands in the list
-unfoldable pub times : PllConfig → List PllConfig → ℕ
-times c [] = 0
-times c (d ∷ ds) = pick (sameSetting c d) 1 0 + times c ds
+unfoldable pub howOften : PllConfig → List PllConfig → ℕ
+howOften c [] = 0
+howOften c (d ∷ ds) = pick (sameSetting c d) 1 0 + howOften c ds
 
 -- a setting as 16 bits: feedback (9), posts (3)(3), a zero bit
-abbrev pub wordOf : PllConfig → ℕ
-wordOf c = c .fbdiv * 128 + c .«post_div1» * 16 + c .«post_div2» * 2
+abbrev pub settingWord : PllConfig → ℕ
+settingWord c = c .fbdiv * 128 + c .«post_div1» * 16 + c .«post_div2» * 2
 
 -- two bytes each, the most significant first
 unfoldable pub listBytes : List PllConfig → List ℕ
 listBytes [] = []
-listBytes (c ∷ cs) = wordOf c / 256 ∷ wordOf c % 256 ∷ listBytes cs
+listBytes (c ∷ cs) = settingWord c / 256 ∷ settingWord c % 256 ∷ listBytes cs
 
 -- the bytes that they take
 abbrev pub lengthOf : ℕ → ℕ → ℕ

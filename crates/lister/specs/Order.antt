@@ -1,14 +1,8 @@
 -- Inside: how the code writes, feedback divider by feedback divider.
--- Assumes nothing.
-use mathlib.Core.Path.{_≡_}
-use mathlib.Core.List.{List, map, flatMap}
-use mathlib.Core.Bool.{Bool}
+use mathlib.Core.{Path._≡_, List.List, List.map, List.flatMap, Bool.Bool}
 use Prim.Native.Nat.{ℕ, _+_, _*_}
-use lib.Dec.{eqb}
-use lib.ListN.{length}
-use lib.Seq.{sets}
-use Rattle.pll.specs.Setting.{postsOf}
-use Rattle.pll.specs.Search.{falling, setting}
+use lib.{Dec.eqb, ListN.length, Seq.sets}
+use Rattle.pll.specs.{Setting.postsOf, Search.falling, Search.setting}
 use Rattle.pll.specs.declared.PllConfig.{PllConfig}
 use Rattle.lister.specs.Lister.{listBytes}
 

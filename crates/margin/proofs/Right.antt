@@ -1,21 +1,15 @@
 -- `marginOf` is right, as `specs/Law.antt` says it; and so whatever is right is `marginOf`.
--- Assumes nothing.
-use mathlib.Core.Path.{_≡_, refl, sym, ap, _∙_}
-use mathlib.Core.Bool.{Bool, true, false}
-use mathlib.Core.Option.{some}
-use Prim.Native.Nat.{ℕ, zero, suc, _+_, _-_, _≤_, _<_}
-use native.Mathlib.Omega.{arith}
-use native.Mathlib.Nat.{eq-or-lt-of-le}
+use mathlib.Core.{Path._≡_, Path.refl, Path.sym, Path.ap, Path._∙_, Bool.Bool, Bool.true, Bool.false, Option.some}
 use mathlib.Core.Logic.{⊎-elim}
-use Rattle.base.specs.Answer.{Answer, value, refusal}
-use Rattle.base.specs.Choice.{pick}
+use Prim.Native.Nat.{ℕ, zero, suc, _+_, _-_, _≤_, _<_}
+use native.Mathlib.{Omega.arith, Nat.eq-or-lt-of-le}
+use Rattle.base.specs.{Answer.Answer, Answer.value, Answer.refusal, Choice.pick}
 use Rattle.pll.specs.Search.{searchOf}
 use Rattle.pll.specs.declared.PllConfig.{PllConfig}
 use Rattle.margin.specs.Margin.{Sides, isSetting, lowerFrom, higherFrom, marginAt, marginOf}
 use Rattle.margin.specs.Law.{RightLower, RightHigher, RightMargin}
 use Rattle.pll.proofs.Same.{same-path, same-self}
-use Rattle.margin.proofs.Sides.{no, value-same, refused-not, refused-15}
-use Rattle.margin.proofs.Unique.{margin-unique}
+use Rattle.margin.proofs.{Sides.no, Sides.value-same, Sides.refused-not, Sides.refused-15, Unique.margin-unique}
 
 -- the test says whether the answer is the setting
 is-setting : (c : PllConfig) (a : Answer PllConfig) → isSetting c a ≡ true → a ≡ value c

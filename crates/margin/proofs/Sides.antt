@@ -1,18 +1,13 @@
 -- Two settings that agree or not, and the two sides of a target.
--- Assumes nothing.
-use mathlib.Core.Path.{_≡_, sym, ap, subst, _∙_}
-use mathlib.Core.Bool.{Bool, true, false}
+use mathlib.Core.{Path._≡_, Path.sym, Path.ap, Path.subst, Path._∙_, Bool.Bool, Bool.true, Bool.false}
 use mathlib.Core.Option.{Option, none, some}
 use Prim.Native.Nat.{ℕ, _≤_, _<_}
 use native.Mathlib.Omega.{arith}
 use Rattle.base.specs.Answer.{Answer, value, refusal}
-use Rattle.pll.specs.Search.{searchOf}
-use Rattle.pll.specs.Law.{RightAnswer}
+use Rattle.pll.specs.{Search.searchOf, Law.RightAnswer, Setting.sameSetting}
 use Rattle.pll.specs.declared.PllConfig.{PllConfig}
-use Rattle.pll.proofs.Right.{search-right}
+use Rattle.pll.proofs.{Right.search-right, Same.same-path, Same.same-self}
 use Rattle.near.proofs.Near.{search-between}
-use Rattle.pll.specs.Setting.{sameSetting}
-use Rattle.pll.proofs.Same.{same-path, same-self}
 use Rattle.margin.specs.Law.{RightLower, RightHigher}
 use Rattle.margin.specs.Walk.{Has, Tells, Lowest, Highest, JustBelow, JustAbove}
 

@@ -1,13 +1,9 @@
 -- `RightMargin` leaves no choice: two answers that are right are equal.
--- Assumes nothing.
-use mathlib.Core.Path.{_≡_, refl, sym, ap, _∙_}
-use mathlib.Core.Option.{Option, none, some}
+use mathlib.Core.{Path._≡_, Path.refl, Path.sym, Path.ap, Path._∙_, Option.Option, Option.none, Option.some}
 use Prim.Native.Nat.{ℕ, _≤_, _<_}
-use native.Mathlib.Omega.{arith}
-use native.Mathlib.Decide.{decLe}
+use native.Mathlib.{Omega.arith, Decide.decLe}
 use Rattle.base.specs.Answer.{Answer, value, refusal}
-use Rattle.margin.specs.Margin.{Sides}
-use Rattle.margin.specs.Law.{RightLower, RightHigher, RightMargin}
+use Rattle.margin.specs.{Margin.Sides, Law.RightLower, Law.RightHigher, Law.RightMargin}
 use Rattle.margin.proofs.Sides.{refused-not}
 
 not-above : (a b : ℕ) → (a < b → ⊥) → b ≤ a

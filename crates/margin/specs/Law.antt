@@ -1,8 +1,6 @@
 -- How far a target may be moved, said without how it is found: proved of `marginOf` in `proofs/Right.antt`;
 -- `proofs/Unique.antt` has that this leaves no choice.
--- Assumes nothing.
-use mathlib.Core.Path.{_≡_}
-use mathlib.Core.Option.{Option, none, some}
+use mathlib.Core.{Path._≡_, Option.Option, Option.none, Option.some}
 use Prim.Native.Nat.{ℕ, _≤_, _<_}
 use Rattle.base.specs.Answer.{Answer, value, refusal}
 use Rattle.pll.specs.Search.{searchOf}

@@ -1,16 +1,10 @@
 -- How far a target may be moved until the search gives another setting: step by step to either side.
--- Assumes nothing.
-use mathlib.Core.Bool.{Bool, false}
-use mathlib.Core.Option.{Option, none, some}
+use mathlib.Core.{Bool.Bool, Bool.false, Option.Option, Option.none, Option.some}
 use Prim.Native.Nat.{ℕ, zero, suc, _-_}
-use Rattle.base.specs.Answer.{Answer, value, refusal}
-use Rattle.base.specs.Choice.{pick}
-use Rattle.pll.specs.Search.{searchOf}
-use Rattle.pll.specs.Setting.{sameSetting}
+use Rattle.base.specs.{Answer.Answer, Answer.value, Answer.refusal, Choice.pick}
+use Rattle.pll.specs.{Search.searchOf, Setting.sameSetting}
 use Rattle.pll.specs.declared.PllConfig.{PllConfig}
-use Rattle.margin.specs.declared.Limit.{Limit}
-use Rattle.margin.specs.declared.Limit.the-variants.{At, Nothing}
-use Rattle.margin.specs.declared.Margin.{Margin}
+use Rattle.margin.specs.declared.{Limit.Limit, Limit.the-variants.At, Limit.the-variants.Nothing, Margin.Margin}
 use Rattle.margin.specs.declared.Margin.the-variants.{Between, Refused}
 
 -- the greatest lower and the smallest higher target whose settings differ, each perhaps absent

@@ -1,8 +1,5 @@
 -- Inside: how the code finds the two sides, by halving.
--- Assumes nothing.
-use mathlib.Core.Path.{_≡_}
-use mathlib.Core.Bool.{Bool, true}
-use mathlib.Core.Option.{Option, none, some}
+use mathlib.Core.{Path._≡_, Bool.Bool, Bool.true, Option.Option, Option.none, Option.some}
 use Prim.Native.Nat.{ℕ, _+_, _≤_, _<_}
 use Rattle.base.specs.Answer.{value}
 use Rattle.pll.specs.Search.{searchOf}

@@ -1,3 +1,3 @@
 -- What holds of the search by whole hertz.
--- Assumes nothing.
 pub mod Near
+pub mod UsbRows

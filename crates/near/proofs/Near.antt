@@ -1,26 +1,18 @@
 -- The search's answer is the nearest by whole hertz, and of equals the first: settings of one whole-hertz output have
 -- no remainder together, so one with no remainder is only the nearest. And the targets of one answer lie side by side.
--- Assumes nothing.
-use mathlib.Core.Path.{_≡_, sym, ap, subst, _∙_}
-use mathlib.Core.Logic.{⊎-elim}
+use mathlib.Core.{Path._≡_, Path.sym, Path.ap, Path.subst, Path._∙_, Logic.⊎-elim}
 use Prim.Native.Nat.{ℕ, _+_, _-_, _*_, _%_, _≤_, _<_, _∣_}
-use native.Mathlib.Omega.{arith}
-use native.Mathlib.Decide.{decLe}
-use native.Mathlib.Nat.{mul-le-mul, mul-pos, mod-lt, div-add-mod', add-mul, mul-assoc, mul-right-comm}
-use native.Mathlib.Nat.{dvd-add-iff-right, dvd-mul-right, le-of-dvd, div-eq-of-eq-mul-left}
-use native.Mathlib.Nat.{eq-zero-or-pos, eq-or-lt-of-le, le-refl}
+use native.Mathlib.{Omega.arith, Decide.decLe}
+use native.Mathlib.Nat.{mul-le-mul, mul-pos, mod-lt, div-add-mod', add-mul, mul-assoc, mul-right-comm, dvd-add-iff-right}
+use native.Mathlib.Nat.{dvd-mul-right, le-of-dvd, div-eq-of-eq-mul-left, eq-zero-or-pos, eq-or-lt-of-le, le-refl}
 use Rattle.base.specs.Answer.{value}
-use Rattle.pll.specs.Setting.{vcoOf, postsOf, outputHz}
-use Rattle.pll.specs.Search.{apart, distance, searchOf}
-use Rattle.pll.specs.Law.{Candidate, Exact}
-use Rattle.pll.specs.Walk.{key}
+use Rattle.pll.specs.{Setting.vcoOf, Setting.postsOf, Setting.outputHz, Search.apart, Search.distance, Search.searchOf}
+use Rattle.pll.specs.{Law.Candidate, Law.Exact, Walk.key}
 use Rattle.pll.specs.declared.PllConfig.{PllConfig}
 use Rattle.near.specs.Near.{NearestOutput, SideBySide}
-use Rattle.pll.proofs.Candidates.{vco-is}
-use Rattle.pll.proofs.Right.{LowestOf, search-lowest, search-right}
+use Rattle.pll.proofs.{Candidates.vco-is, Right.LowestOf, Right.search-lowest, Right.search-right}
 use Rattle.pll.proofs.Scores.{score-cases, rank-is, Lowest, lowest-chosen}
-use Rattle.pll.proofs.Sizes.{posts-most, posts-some}
-use Rattle.pll.proofs.Unique.{right-unique}
+use Rattle.pll.proofs.{Sizes.posts-most, Sizes.posts-some, Unique.right-unique}
 
 -- a remainder that the input divides when it is multiplied by at most 49 is none
 no-remainder : (input a b r p : ℕ) → 5000000 ≤ input → r < 49 → 0 < p → p ≤ 49 → input * a ≡ input * b + r * p → r ≡ 0

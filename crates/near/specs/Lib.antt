@@ -1,3 +1,2 @@
 -- What the theorems say.
--- Assumes nothing.
 pub mod Near

@@ -1,11 +1,8 @@
 -- The search by whole hertz alone; proved of `searchOf` in `proofs/Near.antt`.
--- Assumes nothing.
 use mathlib.Core.Path.{_≡_}
 use Prim.Native.Nat.{ℕ, _≤_}
 use Rattle.base.specs.Answer.{value}
-use Rattle.pll.specs.Search.{distance, searchOf}
-use Rattle.pll.specs.Law.{Candidate}
-use Rattle.pll.specs.Walk.{key}
+use Rattle.pll.specs.{Search.distance, Search.searchOf, Law.Candidate, Walk.key}
 use Rattle.pll.specs.declared.PllConfig.{PllConfig}
 
 -- c is the nearest by whole hertz, and of those as near the first in the order of the search

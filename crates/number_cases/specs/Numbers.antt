@@ -1,22 +1,15 @@
 -- What the cases answer that are about numbers alone, from the numbers n of the case.
--- Assumes nothing.
-use mathlib.Core.List.{List, [], _∷_, _++_}
-use mathlib.Core.Option.{Option, none, some}
+use mathlib.Core.{List.List, List.[], List._∷_, List._++_, Option.Option, Option.none, Option.some}
 use Prim.Native.Nat.{ℕ}
-use Rattle.text.specs.Decimal.{decimalOf}
-use Rattle.text.specs.Ascii.{ascii}
-use Rattle.chip.specs.declared.Chip.{Chip}
-use Rattle.chip.specs.declared.Chip.the-variants.{Rp2040, Rp235x}
+use Rattle.text.specs.{Decimal.decimalOf, Ascii.ascii}
+use Rattle.chip.specs.declared.{Chip.Chip, Chip.the-variants.Rp2040, Chip.the-variants.Rp235x}
 use Rattle.voltage.specs.Voltage.{codeOf, bodOf, coreVoltageOf}
 use Rattle.voltage.specs.Voltage235.{code235Of, bod235Of, coreVoltage235Of}
 use Rattle.divider.specs.declared.GpoutDiv.{GpoutDiv}
 use Rattle.divider.specs.declared.GpoutDiv.the-variants.{Rp2040 as on2040, Rp235x as on235x}
-use Rattle.divider.specs.Gpout.{gpoutIn}
-use Rattle.divider.specs.Pio.{pioOf}
+use Rattle.divider.specs.{Gpout.gpoutIn, Pio.pioOf}
 use Rattle.pll.specs.declared.PllConfig.{PllConfig}
-use Rattle.pll.specs.Setting.{validOf, outputOf}
-use Rattle.pll.specs.Search.{searchOf}
-use Rattle.pll.specs.Usb.{usbOf}
+use Rattle.pll.specs.{Setting.validOf, Setting.outputOf, Search.searchOf, Usb.usbOf}
 use Rattle.margin.specs.Margin.{Sides, marginOf}
 use Rattle.speed_book.specs.Book.{crystal}
 use Rattle.fields.specs.Row.{nth, byteAt, halfAt, pllAt, tenAt}

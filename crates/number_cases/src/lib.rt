@@ -1,4 +1,4 @@
-// The cases that are about numbers alone. Each takes the numbers n of the case; its limits stand in `cases`.
+// The cases that are about numbers alone. Each takes the numbers n of the case; its limits stand in `kinds`.
 use base::Number;
 use chip::Chip;
 use divider::GpoutDiv;

@@ -2,11 +2,11 @@
 use speed_book::Line;
 ghost use Rattle.base.specs.Placed.{Placed};
 ghost use Rattle.speed_book.specs.Book.{lineIn};
-ghost use Rattle.page.specs.Page.{lineText};
+ghost use Rattle.page.specs.Page.{entryLine};
 
 // Puts the line at a place of an open book, and answers its length; nothing past the end of the book.
 pub fn put_line(out: &mut [u8], book: &[u64; 1988], k: usize) -> usize
-    ensures { λ r. ⌜ Placed (now (out .entry)) 0 (lineText (lineIn (now (book .entry)) k)) r (now (out .exit)) ⌝ }
+    ensures { λ r. ⌜ Placed (now (out .entry)) 0 (entryLine (lineIn (now (book .entry)) k)) r (now (out .exit)) ⌝ }
 {
     match speed_book::entry_in(book, k) {
         Line::Entry(hz, c) => {

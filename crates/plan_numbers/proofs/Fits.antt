@@ -1,13 +1,8 @@
 -- The test on a row, number by number.
--- Assumes nothing.
-use mathlib.Core.Path.{_≡_}
-use mathlib.Core.Bool.{Bool, _&&_}
-use mathlib.Core.List.{List}
+use mathlib.Core.{Path._≡_, Bool.Bool, Bool._&&_, List.List}
 use Prim.Native.Nat.{ℕ, suc, _+_, _<_}
 use native.Mathlib.Omega.{arith}
-use lib.Dec.{leb}
-use lib.ListN.{length, drop, getD}
-use lib.Seq.{drop-cons}
+use lib.{Dec.leb, ListN.length, ListN.drop, ListN.getD, Seq.drop-cons}
 use Rattle.base.specs.Choice.{pick}
 use Rattle.fields.specs.Row.{nth}
 use Rattle.plan_numbers.specs.Rows.{fitFrom}

@@ -1,20 +1,12 @@
 -- A plan as numbers in a row, 48 for the RP2040 and 43, without the RTC's five, for the RP235x: each part's numbers in
 -- order, those of a part that may be absent behind a flag.
--- Assumes nothing.
-use mathlib.Core.Bool.{Bool, true, _&&_}
-use mathlib.Core.List.{List, [], _∷_}
-use mathlib.Core.Option.{Option, none, some}
+use mathlib.Core.{Bool.Bool, Bool.true, Bool._&&_, List.List, List.[], List._∷_, Option.Option, Option.none, Option.some}
 use Prim.Native.Nat.{ℕ, _+_}
-use lib.Dec.{eqb, leb}
-use lib.ListN.{length}
-use Rattle.base.specs.Answer.{Answer, value, refusal}
-use Rattle.base.specs.Choice.{pick}
-use Rattle.chip.specs.declared.Chip.{Chip}
-use Rattle.chip.specs.declared.Chip.the-variants.{Rp2040, Rp235x}
-use Rattle.voltage.specs.declared.CoreVoltage.{CoreVoltage}
-use Rattle.voltage.specs.declared.CoreVoltage235.{CoreVoltage235}
-use Rattle.voltage.specs.Voltage.{coreVoltageOf}
-use Rattle.voltage.specs.Voltage235.{coreVoltage235Of}
+use lib.{Dec.eqb, Dec.leb, ListN.length}
+use Rattle.base.specs.{Answer.Answer, Answer.value, Answer.refusal, Choice.pick}
+use Rattle.chip.specs.declared.{Chip.Chip, Chip.the-variants.Rp2040, Chip.the-variants.Rp235x}
+use Rattle.voltage.specs.declared.{CoreVoltage.CoreVoltage, CoreVoltage235.CoreVoltage235}
+use Rattle.voltage.specs.{Voltage.coreVoltageOf, Voltage235.coreVoltage235Of}
 use Rattle.config.specs.declared.OptionPll.{OptionPll}
 use Rattle.config.specs.declared.OptionPll.the-variants.{Some as pll, None as noPll}
 use Rattle.config.specs.declared.OptionRosc.{OptionRosc}
@@ -29,18 +21,14 @@ use Rattle.config.specs.declared.OptionRtc.{OptionRtc}
 use Rattle.config.specs.declared.OptionRtc.the-variants.{Some as rtc, None as noRtc}
 use Rattle.config.specs.declared.OptionU32.{OptionU32}
 use Rattle.config.specs.declared.OptionU32.the-variants.{Some as time, None as noTime}
-use Rattle.config.specs.declared.RefClkConfig.{RefClkConfig}
-use Rattle.config.specs.declared.DriveStrength.{DriveStrength}
-use Rattle.config.specs.declared.ChipConfig.{ChipConfig}
+use Rattle.config.specs.declared.{RefClkConfig.RefClkConfig, DriveStrength.DriveStrength, ChipConfig.ChipConfig}
 use Rattle.config.specs.declared.ChipConfig.the-variants.{Rp2040 as on2040, Rp235x as on235x}
 use Rattle.config.specs.declared.ClockConfig.{ClockConfig}
 use Rattle.settings.specs.Codes.{rangeFrom, refFrom, sysSourceFrom, periFrom, auxFrom}
 use Rattle.fields.specs.Row.{nth, byteAt, halfAt, pllAt, u8, u16, u32}
 use Rattle.plan_numbers.specs.Rows.{fitFrom, isPart}
-use Rattle.plan_numbers.specs.declared.ChipRead.{ChipRead}
-use Rattle.plan_numbers.specs.declared.ChipRead.the-variants.{Config, None}
-use Rattle.plan_numbers.specs.declared.PlanRead.{PlanRead}
-use Rattle.plan_numbers.specs.declared.PlanRead.the-variants.{Plan, Bad}
+use Rattle.plan_numbers.specs.declared.{ChipRead.ChipRead, ChipRead.the-variants.Config, ChipRead.the-variants.None}
+use Rattle.plan_numbers.specs.declared.{PlanRead.PlanRead, PlanRead.the-variants.Plan, PlanRead.the-variants.Bad}
 
 -- the greatest values: of a flag 1, of a source or range its last code; a PLL has a crystal
 unfoldable pub wholeOscillators : List ℕ → Bool
@@ -169,8 +157,8 @@ abbrev pub withChip : Option ChipConfig → List ℕ → Option ClockConfig
 withChip (some c) n = some (planAt c n)
 withChip none n = none
 
-unfoldable pub planOf : Chip → List ℕ → Option ClockConfig
-planOf chip n = pick (wholePlan chip n) (withChip (chipAt chip n) n) none
+unfoldable pub planNumbered : Chip → List ℕ → Option ClockConfig
+planNumbered chip n = pick (wholePlan chip n) (withChip (chipAt chip n) n) none
 
 -- the code's answers
 abbrev pub chipReadIs : ChipRead → Option ChipConfig

@@ -1,7 +1,5 @@
 -- Tests on a row of numbers: that those from a place on fit their limits, and that an absent part is all 0.
--- Assumes nothing.
-use mathlib.Core.Bool.{Bool, true, _&&_}
-use mathlib.Core.List.{List, [], _∷_}
+use mathlib.Core.{Bool.Bool, Bool.true, Bool._&&_, List.List, List.[], List._∷_}
 use Prim.Native.Nat.{ℕ, suc}
 use lib.Dec.{eqb, leb}
 use Rattle.base.specs.Choice.{pick}

@@ -8,7 +8,7 @@ use config::ClockConfig;
 use rows::fits;
 use rows::is_part;
 ghost use mathlib.Core.Path.{_≡_};
-ghost use Rattle.plan_numbers.specs.Plan.{wholeOscillators, wholeClocks, wholeChip, wholePlan, planAt, planOf, planReadIs};
+ghost use Rattle.plan_numbers.specs.Plan.{wholeOscillators, wholeClocks, wholeChip, wholePlan, planAt, planNumbered, planReadIs};
 
 // A plan, or Bad where the numbers are none.
 pub enum PlanRead {
@@ -103,7 +103,7 @@ fn plan_at(chip: ChipConfig, n: &[u32]) -> ClockConfig
 
 // The chip's plan of these numbers.
 pub fn plan(chip: Chip, n: &[u32]) -> PlanRead
-    ensures { λ r. ⌜ planReadIs r ≡ planOf chip (now (n .entry)) ⌝ }
+    ensures { λ r. ⌜ planReadIs r ≡ planNumbered chip (now (n .entry)) ⌝ }
 {
     if !whole_plan(chip, n) {
         return PlanRead::Bad;

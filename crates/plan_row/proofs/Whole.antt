@@ -1,11 +1,8 @@
 -- A row of 48 has place for every plan's numbers.
--- Assumes nothing.
-use mathlib.Core.Path.{_≡_, refl}
-use mathlib.Core.List.{List}
+use mathlib.Core.{Path._≡_, Path.refl, List.List}
 use Prim.Native.Nat.{ℕ, _+_, _≤_}
 use native.Mathlib.Omega.{arith}
-use lib.ListN.{length, take, drop, length-append}
-use lib.Seq.{take-append-seam, length-sets, sets-eq}
+use lib.{ListN.length, ListN.take, ListN.drop, ListN.length-append, Seq.take-append-seam, Seq.length-sets, Seq.sets-eq}
 use Rattle.base.specs.Placed.{Placed}
 use Rattle.config.specs.declared.OptionRosc.{OptionRosc}
 use Rattle.config.specs.declared.OptionRosc.the-variants.{Some as ring, None as noRing}
@@ -21,13 +18,11 @@ use Rattle.config.specs.declared.OptionAux.{OptionAux}
 use Rattle.config.specs.declared.OptionAux.the-variants.{Some as aux, None as noAux}
 use Rattle.config.specs.declared.OptionRtc.{OptionRtc}
 use Rattle.config.specs.declared.OptionRtc.the-variants.{Some as rtc, None as noRtc}
-use Rattle.config.specs.declared.RefClkConfig.{RefClkConfig}
-use Rattle.config.specs.declared.ChipConfig.{ChipConfig}
+use Rattle.config.specs.declared.{RefClkConfig.RefClkConfig, ChipConfig.ChipConfig}
 use Rattle.config.specs.declared.ChipConfig.the-variants.{Rp2040 as on2040, Rp235x as on235x}
 use Rattle.config.specs.declared.ClockConfig.{ClockConfig}
 use Rattle.config.specs.Board.{boardOf}
-use Rattle.plan_row.specs.Row.{pllRow, oscillatorRow, firstRow, periRow}
-use Rattle.plan_row.specs.Row.{auxRow, rtcRow, clockRow, rtcNumbers, planRow}
+use Rattle.plan_row.specs.Row.{pllRow, oscillatorRow, firstRow, periRow, auxRow, rtcRow, clockRow, rtcNumbers, planRow}
 
 pll-long : (o : OptionPll) → length (pllRow o) ≡ 5
 pll-long (pll p) = refl

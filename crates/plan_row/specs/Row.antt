@@ -1,18 +1,10 @@
 -- A plan as numbers in a row, as cases have it (docs/CASES.md): each part's in order, those of a part that may be absent
 -- behind a flag, 0 where it is absent.
--- Assumes nothing.
 use mathlib.Core.List.{List, [], _∷_, _++_}
 use Prim.Native.Nat.{ℕ}
-use Rattle.config.specs.declared.OptionRosc.{OptionRosc}
-use Rattle.config.specs.declared.OptionXosc.{OptionXosc}
-use Rattle.config.specs.declared.OptionPll.{OptionPll}
-use Rattle.config.specs.declared.OptionU32.{OptionU32}
-use Rattle.config.specs.declared.OptionPeri.{OptionPeri}
-use Rattle.config.specs.declared.OptionAux.{OptionAux}
-use Rattle.config.specs.declared.OptionRtc.{OptionRtc}
-use Rattle.config.specs.declared.RefClkConfig.{RefClkConfig}
-use Rattle.config.specs.declared.SysClkSrc.{SysClkSrc}
-use Rattle.config.specs.declared.ChipConfig.{ChipConfig}
+use Rattle.config.specs.declared.{OptionRosc.OptionRosc, OptionXosc.OptionXosc, OptionPll.OptionPll, OptionU32.OptionU32}
+use Rattle.config.specs.declared.{OptionPeri.OptionPeri, OptionAux.OptionAux, OptionRtc.OptionRtc}
+use Rattle.config.specs.declared.{RefClkConfig.RefClkConfig, SysClkSrc.SysClkSrc, ChipConfig.ChipConfig}
 use Rattle.config.specs.declared.ClockConfig.{ClockConfig}
 use Rattle.config.specs.Board.{boardOf}
 use Rattle.settings.specs.Codes.{rangeCode, refCode, sysCode, periAux, auxCode}

@@ -1,5 +1,4 @@
 -- What a call that writes text promises: the text stands at its place, and is no longer than so many bytes.
--- Assumes nothing.
 use mathlib.Core.List.{List}
 use Prim.Native.Nat.{ℕ, _≤_}
 use lib.ListN.{length}

@@ -1,9 +1,7 @@
 -- A plan as text: the chip's name, then its numbers, each behind a space.
--- Assumes nothing.
 use mathlib.Core.List.{List, _++_}
 use Prim.Native.Nat.{ℕ}
-use Rattle.chip.specs.declared.Chip.{Chip}
-use Rattle.chip.specs.declared.Chip.the-variants.{Rp2040, Rp235x}
+use Rattle.chip.specs.declared.{Chip.Chip, Chip.the-variants.Rp2040, Chip.the-variants.Rp235x}
 use Rattle.text.specs.Ascii.{ascii}
 use Rattle.config.specs.declared.ClockConfig.{ClockConfig}
 use Rattle.config.specs.Board.{boardOf}

@@ -1,12 +1,8 @@
 -- The list of candidates has each candidate once, in order.
--- Assumes nothing.
-use mathlib.Core.Path.{_≡_, refl, sym, ap, _∙_}
-use mathlib.Core.Logic.{inl, inr, ⊎-elim}
-use mathlib.Core.List.{map, flatMap}
-use mathlib.Core.Bool.{true, _&&_}
+use mathlib.Core.{Path._≡_, Path.refl, Path.sym, Path.ap, Path._∙_, Logic.inl, Logic.inr, Logic.⊎-elim}
+use mathlib.Core.{List.map, List.flatMap, Bool.true, Bool._&&_}
 use Prim.Native.Nat.{ℕ, zero, suc, _+_, _*_, _≤_, _<_}
-use native.Mathlib.Omega.{arith}
-use native.Mathlib.Nat.{eq-or-lt-of-le, div-one}
+use native.Mathlib.{Omega.arith, Nat.eq-or-lt-of-le, Nat.div-one}
 use lib.Dec.{leb}
 use borrow.Author.Tests.{leb-true, le-leb}
 use Rattle.base.specs.Choice.{inRange}
@@ -14,8 +10,7 @@ use Rattle.base.proofs.Bools.{both-true, in-range}
 use Rattle.pll.specs.Ranges.{referenceMin, feedbackMin, feedbackMax, vcoMin, vcoMax}
 use Rattle.pll.specs.Setting.{vcoOf}
 use Rattle.pll.specs.Search.{falling, setting, settings, permitted, candidates}
-use Rattle.pll.specs.Law.{VcoPermits, Candidate}
-use Rattle.pll.specs.Walk.{key}
+use Rattle.pll.specs.{Law.VcoPermits, Law.Candidate, Walk.key}
 use Rattle.pll.specs.declared.PllConfig.{PllConfig}
 use Rattle.pll.proofs.Order.{Kind, Lists, UpTo, Only, lists-same, lists-falling, lists-keep}
 

@@ -1,15 +1,12 @@
 -- The feedback dividers that the VCO permits: their two ends, and that they leave none out between them.
--- Assumes nothing.
-use mathlib.Core.Path.{_≡_, refl, sym, ap, subst, _∙_}
-use mathlib.Core.Logic.{_⊎_, ⊎-elim}
+use mathlib.Core.{Path._≡_, Path.refl, Path.sym, Path.ap, Path.subst, Path._∙_, Logic._⊎_, Logic.⊎-elim}
 use mathlib.Core.Bool.{Bool, true, false}
 use Prim.Native.Nat.{ℕ, zero, suc, _+_, _-_, _*_, _/_, _≤_, _<_}
 use native.Mathlib.Omega.{arith}
-use native.Mathlib.Nat.{mul-le-mul-left, mul-div-le, lt-mul-div-succ, le-div-iff-mul-le, div-lt-iff-lt-mul}
-use native.Mathlib.Nat.{mul-add, mul-one, mul-comm, eq-or-lt-of-le}
+use native.Mathlib.Nat.{mul-le-mul-left, mul-div-le, lt-mul-div-succ, le-div-iff-mul-le, div-lt-iff-lt-mul, mul-add}
+use native.Mathlib.Nat.{mul-one, mul-comm, eq-or-lt-of-le}
 use native.Mathlib.Decide.{decLe}
-use Rattle.base.specs.Choice.{inRange}
-use Rattle.base.specs.Answer.{Answer, value, refusal}
+use Rattle.base.specs.{Choice.inRange, Answer.Answer, Answer.value, Answer.refusal}
 use Rattle.base.proofs.Bools.{never-true, in-range, range-true}
 use Rattle.pll.specs.Ranges.{referenceMin, feedbackMin, feedbackMax, vcoMin, vcoMax}
 use Rattle.pll.specs.Search.{falling, rising, setting, permitted}

@@ -1,23 +1,14 @@
 -- Which inputs the search serves, and what it hands out: from what is right of its answers.
--- Assumes nothing.
-use mathlib.Core.Path.{_≡_, refl, sym, ap, subst, _∙_}
-use mathlib.Core.Logic.{_⊎_, ⊎-elim}
-use mathlib.Core.Bool.{true}
+use mathlib.Core.{Path._≡_, Path.refl, Path.sym, Path.ap, Path.subst, Path._∙_, Logic._⊎_, Logic.⊎-elim, Bool.true}
 use Prim.Native.Nat.{ℕ, _/_, _≤_, _<_}
-use native.Mathlib.Omega.{arith}
-use native.Mathlib.Nat.{mul-le-mul-left, div-one}
+use native.Mathlib.{Omega.arith, Nat.mul-le-mul-left, Nat.div-one}
 use Rattle.base.specs.Answer.{Answer, value, refusal}
-use Rattle.pll.specs.Ranges.{referenceMin, vcoMax}
-use Rattle.pll.specs.Setting.{referenceOf, validOf}
-use Rattle.pll.specs.Search.{searchOf}
-use Rattle.pll.specs.Ends.{highestOf, lowestOf}
-use Rattle.pll.specs.Law.{VcoPermits, Candidate, RightAnswer}
+use Rattle.pll.specs.{Ranges.referenceMin, Ranges.vcoMax, Setting.referenceOf, Setting.validOf, Search.searchOf}
+use Rattle.pll.specs.{Ends.highestOf, Ends.lowestOf, Law.VcoPermits, Law.Candidate, Law.RightAnswer}
 use Rattle.pll.specs.declared.PllConfig.{PllConfig}
 use Rattle.pll.proofs.Candidates.{vco-is, candidate-permits}
-use Rattle.pll.proofs.Ends.{Served, served, unserved, number, highest-none, lowest-none, highest-value, lowest-some}
-use Rattle.pll.proofs.Ends.{highest-right}
-use Rattle.pll.proofs.Right.{search-right}
-use Rattle.pll.proofs.Valid.{valid-is}
+use Rattle.pll.proofs.Ends.{Served, served, unserved, number, highest-none, lowest-none, highest-value, lowest-some, highest-right}
+use Rattle.pll.proofs.{Right.search-right, Valid.valid-is}
 
 module _ (input target : ℕ) where
   pub search-finds : referenceMin ≤ input → input ≤ 100000000 → (c : PllConfig) × (searchOf input target ≡ value c)

@@ -1,16 +1,12 @@
 -- The setting of the lowest rank is the answer of the search.
--- Assumes nothing.
-use mathlib.Core.Path.{_≡_, sym, ap}
-use mathlib.Core.Logic.{⊎-elim}
+use mathlib.Core.{Path._≡_, Path.sym, Path.ap, Logic.⊎-elim}
 use Prim.Native.Nat.{ℕ, _-_, _/_, _%_, _<_}
 use native.Mathlib.Omega.{arith}
 use Rattle.base.specs.Answer.{Answer, value, refusal}
-use Rattle.pll.specs.Search.{searchOf}
-use Rattle.pll.specs.Law.{Candidate}
+use Rattle.pll.specs.{Search.searchOf, Law.Candidate}
 use Rattle.pll.specs.Walk.{keys, noRank, key, rankOf, settingOf, LowestRank}
 use Rattle.pll.specs.declared.PllConfig.{PllConfig}
-use Rattle.pll.proofs.Scores.{rank-is, rank-below}
-use Rattle.pll.proofs.Right.{LowestOf, search-lowest}
+use Rattle.pll.proofs.{Scores.rank-is, Scores.rank-below, Right.LowestOf, Right.search-lowest}
 
 module _ (input target r : ℕ) where
   -- the setting of a rank

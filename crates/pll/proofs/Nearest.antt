@@ -1,20 +1,15 @@
 -- Which settings of one feedback divider are nearest to the target.
--- Assumes nothing.
-use mathlib.Core.Path.{_≡_, refl, sym, ap, _∙_}
-use mathlib.Core.Logic.{inr, ⊎-elim}
+use mathlib.Core.{Path._≡_, Path.refl, Path.sym, Path.ap, Path._∙_, Logic.inr, Logic.⊎-elim}
 use Prim.Native.Nat.{ℕ, suc, min, _+_, _-_, _*_, _/_, _%_, _≤_, _<_}
 use native.Mathlib.Omega.{arith, min-cases}
-use native.Mathlib.Nat.{mul-le-mul-left, suc-mul, mul-suc, div-mul-le-self, le-div-iff-mul-le}
-use native.Mathlib.Nat.{div-lt-iff-lt-mul, div-eq-of-eq-mul-left, eq-or-lt-of-le}
-use Rattle.pll.specs.Ranges.{referenceMin}
-use Rattle.pll.specs.Setting.{postsOf}
-use Rattle.pll.specs.Search.{apart, setting}
+use native.Mathlib.Nat.{mul-le-mul-left, suc-mul, mul-suc, div-mul-le-self, le-div-iff-mul-le, div-lt-iff-lt-mul}
+use native.Mathlib.Nat.{div-eq-of-eq-mul-left, eq-or-lt-of-le}
+use Rattle.pll.specs.{Ranges.referenceMin, Setting.postsOf, Search.apart, Search.setting}
 use Rattle.pll.specs.Law.{VcoPermits, Candidate}
 use Rattle.pll.specs.Walk.{keys, noRank, scoreOf, key, rankOf, codeRankOf, product, PostCode, NearestPosts}
 use Rattle.pll.specs.Walk.{WantedProduct, LowestRank, CandidatesAt}
 use Rattle.pll.specs.declared.PllConfig.{PllConfig}
-use Rattle.pll.proofs.Candidates.{vco-is, a-candidate}
-use Rattle.pll.proofs.Sizes.{posts-most, posts-some}
+use Rattle.pll.proofs.{Candidates.vco-is, Candidates.a-candidate, Sizes.posts-most, Sizes.posts-some}
 use Rattle.pll.proofs.Scores.{score-other, score-most, rank-is, rank-below}
 
 -- a greater divisor gives a lower quotient, where the quotients are large

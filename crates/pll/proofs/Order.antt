@@ -1,13 +1,9 @@
 -- Lists of settings that have each setting of a kind once, in an order. The order is a number, `by`, that falls along
 -- the list: the key for the search, another for the lister.
--- Assumes nothing.
-use mathlib.Core.Path.{_≡_, refl, sym, ap}
-use mathlib.Core.Logic.{_⊎_, inl, inr, ⊎-elim}
-use mathlib.Core.List.{List, [], _∷_, _++_, map, flatMap}
-use mathlib.Core.Bool.{Bool, true, false}
+use mathlib.Core.{Path._≡_, Path.refl, Path.sym, Path.ap, Logic._⊎_, Logic.inl, Logic.inr, Logic.⊎-elim}
+use mathlib.Core.{List.List, List.[], List._∷_, List._++_, List.map, List.flatMap, Bool.Bool, Bool.true, Bool.false}
 use Prim.Native.Nat.{ℕ, zero, suc, _+_, _≤_, _<_}
-use native.Mathlib.Omega.{arith}
-use native.Mathlib.Nat.{eq-or-lt-of-le}
+use native.Mathlib.{Omega.arith, Nat.eq-or-lt-of-le}
 use Rattle.base.specs.Choice.{pick}
 use Rattle.pll.specs.Search.{falling, rising, keep}
 use Rattle.pll.specs.declared.PllConfig.{PllConfig}

@@ -1,23 +1,14 @@
 -- The search's answer has the lowest rank, and so it is right: what `specs/Law.antt` says holds of it.
--- Assumes nothing.
-use mathlib.Core.Path.{_≡_, refl}
-use mathlib.Core.Logic.{_⊎_, inl, inr, ⊎-elim}
-use mathlib.Core.List.{List, [], _∷_}
+use mathlib.Core.{Path._≡_, Path.refl, Logic._⊎_, Logic.inl, Logic.inr, Logic.⊎-elim, List.List, List.[], List._∷_}
 use mathlib.Core.Bool.{Bool, true, false}
 use Prim.Native.Nat.{ℕ, _+_, _-_, _*_, _≤_, _<_}
-use native.Mathlib.Omega.{arith}
-use native.Mathlib.Nat.{le-trans}
-use native.Mathlib.Decide.{decLe}
+use native.Mathlib.{Omega.arith, Nat.le-trans, Decide.decLe}
 use lib.Dec.{leb}
 use borrow.Author.Tests.{leb-true, leb-false, eqb-true, eq-eqb}
-use Rattle.base.specs.Choice.{pick}
-use Rattle.base.specs.Answer.{Answer, value, refusal}
-use Rattle.pll.specs.Ranges.{referenceMin}
-use Rattle.pll.specs.Setting.{vcoOf, postsOf}
-use Rattle.pll.specs.Search.{setting, distance, exact, keep, unlessNearer, nearest, firstOr}
-use Rattle.pll.specs.Search.{candidates, searchOf}
-use Rattle.pll.specs.Law.{VcoPermits, Candidate, RightAnswer}
-use Rattle.pll.specs.Walk.{keys, key, rankOf}
+use Rattle.base.specs.{Choice.pick, Answer.Answer, Answer.value, Answer.refusal}
+use Rattle.pll.specs.{Ranges.referenceMin, Setting.vcoOf, Setting.postsOf}
+use Rattle.pll.specs.Search.{setting, distance, exact, keep, unlessNearer, nearest, firstOr, candidates, searchOf}
+use Rattle.pll.specs.{Law.VcoPermits, Law.Candidate, Law.RightAnswer, Walk.keys, Walk.key, Walk.rankOf}
 use Rattle.pll.specs.declared.PllConfig.{PllConfig}
 use Rattle.pll.proofs.Order.{Kind, Lists, lists-keep}
 use Rattle.pll.proofs.Candidates.{lists-candidates, a-candidate}

@@ -1,7 +1,5 @@
 -- Settings with the same four dividers are the same.
--- Assumes nothing.
-use mathlib.Core.Path.{_≡_, refl}
-use mathlib.Core.Bool.{true, _&&_}
+use mathlib.Core.{Path._≡_, Path.refl, Bool.true, Bool._&&_}
 use lib.Dec.{eqb}
 use borrow.Author.Tests.{eqb-true, eq-eqb}
 use Rattle.base.proofs.Bools.{both-true}

@@ -1,16 +1,11 @@
 -- The laws of the score, of the order as one number, and of the rank.
--- Assumes nothing.
-use mathlib.Core.Path.{_≡_, refl}
-use mathlib.Core.Logic.{_⊎_, inl, inr, ⊎-elim}
-use mathlib.Core.Bool.{Bool, true, false}
+use mathlib.Core.{Path._≡_, Path.refl, Logic._⊎_, Logic.inl, Logic.inr, Logic.⊎-elim, Bool.Bool, Bool.true, Bool.false}
 use Prim.Native.Nat.{ℕ, _+_, _-_, _*_, _/_, _≤_, _<_}
-use native.Mathlib.Omega.{arith}
-use native.Mathlib.Nat.{div-le-self}
+use native.Mathlib.{Omega.arith, Nat.div-le-self}
 use lib.Dec.{eqb}
 use borrow.Author.Tests.{eqb-true, eqb-false}
 use Rattle.base.specs.Choice.{pick}
-use Rattle.pll.specs.Setting.{vcoOf, postsOf}
-use Rattle.pll.specs.Search.{apart, distance}
+use Rattle.pll.specs.{Setting.vcoOf, Setting.postsOf, Search.apart, Search.distance}
 use Rattle.pll.specs.Law.{Candidate, Exact, Before, Chosen}
 use Rattle.pll.specs.Walk.{keys, noRank, scoreOf, key, rankOf}
 use Rattle.pll.specs.declared.PllConfig.{PllConfig}

@@ -1,15 +1,11 @@
 -- The steps of the walk down the feedback dividers.
--- Assumes nothing.
-use mathlib.Core.Path.{_≡_, refl, _∙_}
-use mathlib.Core.Logic.{_⊎_, inl, inr, ⊎-elim}
+use mathlib.Core.{Path._≡_, Path.refl, Path._∙_, Logic._⊎_, Logic.inl, Logic.inr, Logic.⊎-elim}
 use Prim.Native.Nat.{ℕ, min, _-_, _≤_, _<_}
-use native.Mathlib.Omega.{arith, min-cases}
-use native.Mathlib.Nat.{eq-or-lt-of-le}
+use native.Mathlib.{Omega.arith, Omega.min-cases, Nat.eq-or-lt-of-le}
 use Rattle.pll.specs.Law.{HighestPermitted, LowestPermitted, Candidate}
 use Rattle.pll.specs.Walk.{keys, noRank, rankOf, LowestRank, CandidatesAt, CandidatesTo}
 use Rattle.pll.specs.declared.PllConfig.{PllConfig}
-use Rattle.pll.proofs.Candidates.{candidate-permits}
-use Rattle.pll.proofs.Scores.{rank-is}
+use Rattle.pll.proofs.{Candidates.candidate-permits, Scores.rank-is}
 
 module _ (input target fb : ℕ) where
   module _ (best here : ℕ) (found : LowestRank input target (CandidatesAt input fb) noRank here)

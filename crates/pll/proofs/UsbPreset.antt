@@ -1,7 +1,5 @@
 -- The preset's USB PLL, from the definition.
--- Assumes nothing.
-use mathlib.Core.Path.{_≡_, refl}
-use mathlib.Core.List.{flatMap}
+use mathlib.Core.{Path._≡_, Path.refl, List.flatMap}
 use Rattle.base.specs.Answer.{value}
 use Rattle.pll.specs.Search.{falling, rising, setting, settings, keep}
 use Rattle.pll.specs.Usb.{usbSettings, usbOf}

@@ -1,30 +1,21 @@
 -- The first that fits is right: what `specs/UsbLaw.antt` says holds of `usbOf`.
--- Assumes nothing.
-use mathlib.Core.Path.{_≡_, refl, sym, ap, subst}
-use mathlib.Core.Logic.{⊎-elim}
+use mathlib.Core.{Path._≡_, Path.refl, Path.sym, Path.ap, Path.subst, Logic.⊎-elim}
 use mathlib.Core.List.{List, [], _∷_, _++_, map, flatMap}
 use mathlib.Core.Bool.{Bool, true, false, _&&_}
 use Prim.Native.Nat.{ℕ, zero, suc, _+_, _*_, _%_}
-use native.Mathlib.Omega.{arith}
-use native.Mathlib.Nat.{mul-div-cancel}
-use native.Mathlib.Numerals.{add-one}
+use native.Mathlib.{Omega.arith, Nat.mul-div-cancel, Numerals.add-one}
 use lib.Dec.{eqb}
 use borrow.Author.Tests.{eqb-true, eq-eqb}
 use Rattle.base.specs.Answer.{value, refusal}
 use Rattle.base.proofs.Bools.{both-true}
-use Rattle.pll.specs.Ranges.{feedbackMax}
-use Rattle.pll.specs.Setting.{vcoOf, postsOf, outputHz, validOf}
-use Rattle.pll.specs.Search.{rising, settings, keep, firstOr}
-use Rattle.pll.specs.Walk.{key}
-use Rattle.pll.specs.Usb.{withReference, usbSettings, usbFits, usbOf}
-use Rattle.pll.specs.UsbLaw.{UsbSetting, UsbRight}
+use Rattle.pll.specs.{Ranges.feedbackMax, Setting.vcoOf, Setting.postsOf, Setting.outputHz, Setting.validOf}
+use Rattle.pll.specs.{Search.rising, Search.settings, Search.keep, Search.firstOr, Walk.key}
+use Rattle.pll.specs.{Usb.withReference, Usb.usbSettings, Usb.usbFits, Usb.usbOf, UsbLaw.UsbSetting, UsbLaw.UsbRight}
 use Rattle.pll.specs.UsbWalk.{NoneBelow, UsbRightAt}
 use Rattle.pll.specs.declared.PllConfig.{PllConfig}
 use Rattle.pll.proofs.Candidates.{Posts, lists-settings}
 use Rattle.pll.proofs.Order.{Lists, UpTo, lists-keep, keep-append, keep-map}
-use Rattle.pll.proofs.Scores.{before-key}
-use Rattle.pll.proofs.Sizes.{posts-some}
-use Rattle.pll.proofs.UsbSteps.{usb-first, usb-next, usb-none}
+use Rattle.pll.proofs.{Scores.before-key, Sizes.posts-some, UsbSteps.usb-first, UsbSteps.usb-next, UsbSteps.usb-none}
 use Rattle.pll.proofs.Valid.{valid}
 
 both : (a b : Bool) → a ≡ true → b ≡ true → (a && b) ≡ true

@@ -1,10 +1,7 @@
 -- What a valid setting says of its numbers.
--- Assumes nothing.
-use mathlib.Core.Path.{_≡_}
-use mathlib.Core.Bool.{true, _&&_}
+use mathlib.Core.{Path._≡_, Bool.true, Bool._&&_}
 use Prim.Native.Nat.{ℕ, _≤_}
-use native.Mathlib.Nat.{div-le-self}
-use native.Mathlib.Omega.{arith}
+use native.Mathlib.{Nat.div-le-self, Omega.arith}
 use lib.Dec.{leb}
 use borrow.Author.Tests.{leb-true, le-leb}
 use Rattle.base.specs.Choice.{inRange}

@@ -1,11 +1,8 @@
 -- The two ends of the feedback dividers that the search may take at an input.
--- Assumes nothing.
 use mathlib.Core.List.{List, [], _∷_}
 use Prim.Native.Nat.{ℕ}
-use Rattle.base.specs.Choice.{pick}
-use Rattle.base.specs.Answer.{Answer, value, refusal}
-use Rattle.pll.specs.Ranges.{feedbackMax}
-use Rattle.pll.specs.Search.{falling, rising, setting, permitted}
+use Rattle.base.specs.{Choice.pick, Answer.Answer, Answer.value, Answer.refusal}
+use Rattle.pll.specs.{Ranges.feedbackMax, Search.falling, Search.rising, Search.setting, Search.permitted}
 
 -- the first of the list that is permitted, whatever the post dividers; 15 where none is
 unfoldable pub firstPermitted : ℕ → List ℕ → Answer ℕ

@@ -1,12 +1,9 @@
 -- What the search answers, said without its order of work; proved of `searchOf` in `proofs/Right.antt`.
--- Assumes nothing.
-use mathlib.Core.Path.{_≡_}
-use mathlib.Core.Logic.{_⊎_}
+use mathlib.Core.{Path._≡_, Logic._⊎_}
 use Prim.Native.Nat.{ℕ, _*_, _≤_, _<_}
 use Rattle.base.specs.Answer.{Answer, value, refusal}
 use Rattle.pll.specs.Ranges.{referenceMin, feedbackMin, feedbackMax, vcoMin, vcoMax}
-use Rattle.pll.specs.Setting.{vcoOf, postsOf}
-use Rattle.pll.specs.Search.{distance}
+use Rattle.pll.specs.{Setting.vcoOf, Setting.postsOf, Search.distance}
 use Rattle.pll.specs.declared.PllConfig.{PllConfig}
 
 -- a VCO frequency of 750 to 1600 MHz

@@ -1,5 +1,3 @@
--- The definitions that the contracts cite.
--- Assumes nothing.
 pub mod Ranges
 pub mod Setting
 pub mod Search

@@ -1,5 +1,4 @@
 -- The ranges of a PLL's numbers, ends included.
--- Assumes nothing.
 use Prim.Native.Nat.{ℕ}
 
 -- the reference frequency: 5 to 800 MHz

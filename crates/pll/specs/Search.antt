@@ -1,15 +1,11 @@
 -- The search for a setting: all candidates in order, the first with no remainder, else the first that is nearest.
--- Assumes nothing.
-use mathlib.Core.List.{List, [], _∷_, map, flatMap}
-use mathlib.Core.Bool.{Bool, _&&_}
+use mathlib.Core.{List.List, List.[], List._∷_, List.map, List.flatMap, Bool.Bool, Bool._&&_}
 use Prim.Native.Nat.{ℕ, zero, suc, _+_, _-_, _*_}
 use lib.Dec.{leb, eqb}
-use Rattle.base.specs.Choice.{pick, inRange}
-use Rattle.base.specs.Answer.{Answer, value, refusal}
+use Rattle.base.specs.{Choice.pick, Choice.inRange, Answer.Answer, Answer.value, Answer.refusal}
 use Rattle.pll.specs.Ranges.{referenceMin, feedbackMin, feedbackMax, vcoMin, vcoMax}
 use Rattle.pll.specs.Setting.{vcoOf, postsOf, outputHz}
-use Rattle.pll.specs.declared.PllConfig.{PllConfig}
-use Rattle.pll.specs.declared.Found.{Found}
+use Rattle.pll.specs.declared.{PllConfig.PllConfig, Found.Found}
 use Rattle.pll.specs.declared.Found.the-variants.{Params, Refused}
 
 -- n, n - 1, .., 1

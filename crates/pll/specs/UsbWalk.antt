@@ -1,10 +1,8 @@
 -- Inside: how the code goes over the reference dividers.
--- Assumes nothing.
 use mathlib.Core.Path.{_≡_}
 use Prim.Native.Nat.{ℕ, _<_}
 use Rattle.base.specs.Answer.{Answer, value, refusal}
-use Rattle.pll.specs.Law.{Before}
-use Rattle.pll.specs.UsbLaw.{UsbSetting}
+use Rattle.pll.specs.{Law.Before, UsbLaw.UsbSetting}
 use Rattle.pll.specs.declared.PllConfig.{PllConfig}
 
 -- no setting has a reference divider below r

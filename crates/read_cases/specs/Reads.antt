@@ -1,10 +1,7 @@
 -- What a `read` case answers, from its number, the reading, and the word of hex behind it.
--- Assumes nothing.
-use mathlib.Core.List.{List}
-use mathlib.Core.Option.{Option, none, some}
+use mathlib.Core.{List.List, Option.Option, Option.none, Option.some}
 use Prim.Native.Nat.{ℕ}
-use Rattle.base.specs.Answer.{Answer, value, refusal}
-use Rattle.base.specs.Choice.{pick}
+use Rattle.base.specs.{Answer.Answer, Answer.value, Answer.refusal, Choice.pick}
 use Rattle.text.specs.Hex.{isReadable, pairValues}
 use Rattle.fields.specs.Row.{byteAt}
 use Rattle.replies.specs.Reply.{badCase, answerText}

@@ -1,35 +1,27 @@
 -- The plan of a plan's settings has the same settings, and no larger multiplier or time.
--- Assumes nothing.
-use mathlib.Core.Path.{_≡_, refl, sym, ap, _∙_}
-use mathlib.Core.Bool.{Bool, true, false}
-use mathlib.Core.List.{List}
+use mathlib.Core.{Path._≡_, Path.refl, Path.sym, Path.ap, Path._∙_, Bool.Bool, Bool.true, Bool.false, List.List}
 use Prim.Native.Nat.{ℕ, _%_, _^_, _≤_}
-use native.Mathlib.Nat.{mod-eq-of-lt}
-use native.Mathlib.Omega.{arith}
+use native.Mathlib.{Nat.mod-eq-of-lt, Omega.arith}
 use lib.Dec.{eqb}
 use borrow.Author.Tests.{ltb-false}
 use Rattle.divider.specs.Delay.{settlingCycles, delayOf}
 use Rattle.config.specs.Board.{boardOf}
-use Rattle.config.specs.declared.ClockConfig.{ClockConfig}
-use Rattle.config.specs.declared.OptionXosc.{OptionXosc}
+use Rattle.config.specs.declared.{ClockConfig.ClockConfig, OptionXosc.OptionXosc}
 use Rattle.config.specs.declared.OptionXosc.the-variants.{Some as xosc, None as noXosc}
 use Rattle.config.specs.declared.OptionU32.the-variants.{Some as given}
-use Rattle.settings.specs.declared.OptionCycles.the-variants.{None as noCycles}
-use Rattle.settings.specs.declared.Settings.{Settings}
+use Rattle.settings.specs.declared.{OptionCycles.the-variants.None as noCycles, Settings.Settings}
 use Rattle.settings.specs.Settings.{crystalOf, ringHz, settlingStep, settingsOf}
-use Rattle.refusals.specs.Refusals.{startupOver, settlingOver, Accepted}
+use Rattle.grounds.specs.Grounds.{startupOver, settlingOver}
+use Rattle.refusals.specs.Refusals.{Accepted}
 use Rattle.refusals.proofs.Accepted.{accepted-by}
 use Rattle.step.specs.Sheet.{encoded}
-use Rattle.sheet.specs.Steps.{stepsOf}
+use Rattle.sheet_steps.specs.Steps.{stepsOf}
 use Rattle.sheet.proofs.Sheets.{settings-back, steps-formed}
 use Rattle.sheet.specs.Writer.{sheetBytes}
-use Rattle.readback.specs.Steps.{stepsIn}
-use Rattle.readback.specs.Plan.{xoscFor, timeFor, planOf}
-use Rattle.readback.specs.Read.{planIn}
+use Rattle.least_plan.specs.Plan.{xoscFor, timeFor, planOf}
+use Rattle.readback.specs.{Steps.stepsIn, Read.planIn}
 use Rattle.readback.specs.Law.{Gives, multiplierIn, multiplierOf, timeOf, Back}
-use Rattle.readback.proofs.Numbers.{smallest, time-back}
-use Rattle.readback.proofs.Decoded.{steps-encoded}
-use Rattle.readback.proofs.Fixed.{settings-fixed}
+use Rattle.readback.proofs.{Numbers.smallest, Numbers.time-back, Decoded.steps-encoded, Fixed.settings-fixed}
 
 crystal-kept : (x : OptionXosc) → startupOver (crystalOf x) ≡ false
     → (crystalOf (xoscFor (crystalOf x)) ≡ crystalOf x) × (multiplierIn (xoscFor (crystalOf x)) ≤ multiplierIn x)

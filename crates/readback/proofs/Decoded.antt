@@ -1,17 +1,12 @@
 -- The steps in a sheet's bytes: at each place what the unpacker reads there, and of a plan's sheet the plan's steps.
--- Assumes nothing.
-use mathlib.Core.Path.{_≡_, refl, ap, _∙_}
-use mathlib.Core.List.{List, [], _∷_}
+use mathlib.Core.{Path._≡_, Path.refl, Path.ap, Path._∙_, List.List, List.[], List._∷_}
 use Prim.Native.Nat.{ℕ, zero, suc, _+_, _*_, _/_, _≤_, _<_}
-use native.Mathlib.Nat.{add-zero, zero-add}
-use native.Mathlib.Omega.{arith}
-use lib.ListN.{length}
-use lib.Seq.{ext-getD}
+use native.Mathlib.{Nat.add-zero, Nat.zero-add, Omega.arith}
+use lib.{ListN.length, Seq.ext-getD}
 use Rattle.step.specs.declared.Step.{Step}
-use Rattle.step.specs.Sheet.{encoded, AllFormed}
-use Rattle.step.specs.Access.{readAt}
+use Rattle.step.specs.{Sheet.encoded, Sheet.AllFormed, Access.readAt}
 use Rattle.step.proofs.Sheets.{length-encoded, read-encoded}
-use Rattle.sheet.specs.Steps.{step0}
+use Rattle.sheet_steps.specs.Steps.{step0}
 use Rattle.sheet.specs.Read.{stepAt}
 use Rattle.readback.specs.Steps.{stepOr, stepsFrom, stepsIn}
 

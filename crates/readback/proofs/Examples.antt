@@ -1,17 +1,15 @@
 -- Sheets read back: those of the crystal presets.
--- Assumes nothing.
 use mathlib.Core.Path.{_≡_}
 use Prim.Native.Nat.{ℕ}
 use Rattle.base.specs.Answer.{value}
 use Rattle.chip.specs.declared.Chip.the-variants.{Rp2040, Rp235x}
-use Rattle.config.specs.declared.OptionU32.the-variants.{Some as given}
-use Rattle.config.specs.declared.ClockConfig.{ClockConfig}
+use Rattle.config.specs.declared.{OptionU32.the-variants.Some as given, ClockConfig.ClockConfig}
 use Rattle.config.specs.Presets.{crystalPlan}
 use Rattle.divider.specs.Delay.{startupSum, cyclesPerUs, settlingCycles}
 use Rattle.settings.specs.Settings.{settlingStep, settingsOf}
 use Rattle.sheet.proofs.Examples.{crystal-steps, crystal-steps-235}
 use Rattle.sheet.specs.Writer.{sheetBytes}
-use Rattle.readback.specs.Plan.{multiplierFor, timeFor, planWith, planOf}
+use Rattle.least_plan.specs.Plan.{multiplierFor, timeFor, planWith, planOf}
 use Rattle.readback.specs.Read.{readOf}
 use Rattle.readback.proofs.Right.{written-read}
 

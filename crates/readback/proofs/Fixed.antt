@@ -1,10 +1,7 @@
 -- The settings of an accepted plan are not cut.
--- Assumes nothing.
-use mathlib.Core.Path.{_≡_, refl}
-use mathlib.Core.Bool.{Bool, false, _||_}
+use mathlib.Core.{Path._≡_, Path.refl, Bool.Bool, Bool.false, Bool._||_}
 use Prim.Native.Nat.{ℕ, _+_, _%_, _^_, _<_}
-use native.Mathlib.Nat.{mod-eq-of-lt}
-use native.Mathlib.Omega.{arith}
+use native.Mathlib.{Nat.mod-eq-of-lt, Omega.arith}
 use lib.Dec.{eqb, ltb}
 use borrow.Author.Tests.{ltb-false, not-false}
 use Rattle.base.proofs.Bools.{both-false}
@@ -16,22 +13,20 @@ use Rattle.config.specs.declared.OptionPll.{OptionPll}
 use Rattle.config.specs.declared.OptionPll.the-variants.{Some as pll, None as noPll}
 use Rattle.config.specs.declared.ChipConfig.{ChipConfig}
 use Rattle.config.specs.declared.ChipConfig.the-variants.{Rp2040 as on2040, Rp235x as on235x}
-use Rattle.config.specs.Board.{boardOf, FractionFits}
-use Rattle.config.specs.declared.ClockConfig.{ClockConfig}
-use Rattle.chip.specs.Chips.{factsOf}
-use Rattle.config.specs.declared.OptionAux.{OptionAux}
+use Rattle.config.specs.declared.{ClockConfig.ClockConfig, OptionAux.OptionAux}
 use Rattle.config.specs.declared.OptionAux.the-variants.{Some as aux, None as noAux}
 use Rattle.config.specs.declared.OptionRtc.{OptionRtc}
 use Rattle.config.specs.declared.OptionRtc.the-variants.{Some as rtc, None as noRtc}
+use Rattle.config.specs.Board.{boardOf, FractionFits}
+use Rattle.chip.specs.Chips.{factsOf}
 use Rattle.settings.specs.declared.OptionCrystal.{OptionCrystal}
 use Rattle.settings.specs.declared.OptionCrystal.the-variants.{Some as crystal, None as noCrystal}
-use Rattle.settings.specs.Settings.{ringHz, settingsOf}
-use Rattle.settings.specs.Frequencies.{sourcesOf, frequenciesOf}
+use Rattle.settings.specs.{Settings.ringHz, Settings.settingsOf, Frequencies.sourcesOf, Frequencies.frequenciesOf}
 use Rattle.settings.specs.Typed.{RtcTyped, Typed}
-use Rattle.refusals.specs.Refusals.{strengthsOver, ringDividerOver, pllInvalid, sysPllInvalid, usbPllInvalid, wholeBad, rtcBad, Accepted}
+use Rattle.grounds.specs.Grounds.{strengthsOver, ringDividerOver, pllInvalid, sysPllInvalid, usbPllInvalid, wholeBad, rtcBad}
+use Rattle.refusals.specs.Refusals.{Accepted}
 use Rattle.refusals.proofs.Accepted.{accepted-by, strengths-few, divider-good, whole-good}
-use Rattle.sheet.proofs.Facts.{none-more, AuxFits, aux-fits}
-use Rattle.sheet.proofs.Stores.{ring-source}
+use Rattle.sheet.proofs.{Facts.none-more, Facts.AuxFits, Facts.aux-fits, Stores.ring-source}
 use Rattle.readback.specs.Cut.{cutRing, cutPll, cutCrystal, cutAux, cutRtc, cutChip, cutSettings}
 
 fits : (w x : ℕ) → x < 2 ^ w → x % 2 ^ w ≡ x

@@ -1,20 +1,15 @@
 -- What the writer leaves in the greatest number of bytes of a sheet: the plan's sheet where the plan is accepted.
--- Assumes nothing.
-use mathlib.Core.Path.{_≡_, sym, ap, _∙_}
-use mathlib.Core.List.{List}
+use mathlib.Core.{Path._≡_, Path.sym, Path.ap, Path._∙_, List.List}
 use Prim.Native.Nat.{ℕ, _≤_}
 use native.Mathlib.Omega.{arith}
-use lib.ListN.{length, take, drop, length-append}
-use lib.Seq.{take-at}
+use lib.{ListN.length, ListN.take, ListN.drop, ListN.length-append, Seq.take-at}
 use Rattle.config.specs.declared.ClockConfig.{ClockConfig}
 use Rattle.base.specs.Answer.{lengthIs}
-use Rattle.base.specs.declared.Length.{Length}
-use Rattle.base.specs.declared.Length.the-variants.{Bytes, Refused}
+use Rattle.base.specs.declared.{Length.Length, Length.the-variants.Bytes, Length.the-variants.Refused}
 use Rattle.step.specs.Sheet.{maxBytes}
 use Rattle.refusals.specs.Refusals.{Accepted}
 use Rattle.sheet.specs.Writer.{sheetBytes, InitCall}
-use Rattle.sheet.proofs.Ends.{sheet-most}
-use Rattle.sheet.proofs.Demand3.{answers, answered}
+use Rattle.sheet.proofs.{Ends.sheet-most, Demand3.answers, Demand3.answered}
 
 pub record Kept (p : ClockConfig) (reading : ℕ) (n : ℕ) (after : List ℕ) : Type 0 where
   pub accepted : Accepted p reading

@@ -1,25 +1,19 @@
 -- Steps seen from a place of a sheet, and a part that is gone on from.
--- Assumes nothing.
-use mathlib.Core.Path.{_≡_, refl}
-use mathlib.Core.List.{List}
+use mathlib.Core.{Path._≡_, Path.refl, List.List}
 use Prim.Native.Nat.{ℕ, _+_}
-use lib.ListN.{drop}
-use lib.Seq.{getD-drop, drop-drop}
+use lib.{ListN.drop, Seq.getD-drop, Seq.drop-drop}
 use borrow.Author.Tests.{eq-eqb}
-use Rattle.config.specs.declared.OptionPll.{OptionPll}
-use Rattle.config.specs.declared.ChipConfig.{ChipConfig}
+use Rattle.config.specs.declared.{OptionPll.OptionPll, ChipConfig.ChipConfig}
 use Rattle.config.specs.Board.{boardOf}
-use Rattle.settings.specs.declared.OptionCrystal.the-variants.{Some as crystal}
-use Rattle.settings.specs.declared.Settings.{Settings}
+use Rattle.settings.specs.declared.{OptionCrystal.the-variants.Some as crystal, Settings.Settings}
 use Rattle.step.specs.declared.Step.{Step}
-use Rattle.sheet.specs.Steps.{step0}
+use Rattle.sheet_steps.specs.Steps.{step0}
 use Rattle.sheet.specs.Read.{Part, part, _then_, stepAt, readPll, readCrystal, pastTick, readRtc, settingsFrom}
-use Rattle.chip.specs.declared.Chip.{Chip}
-use Rattle.chip.specs.declared.Chip.the-variants.{Rp2040, Rp235x}
+use Rattle.chip.specs.declared.{Chip.Chip, Chip.the-variants.Rp2040, Chip.the-variants.Rp235x}
 use Rattle.settings.specs.Codes.{chipFrom}
 use Rattle.readback.specs.Steps.{stepsIn, valueIn, restIn}
-use Rattle.readback.specs.Parse.{cutPart, Reads, ticks, chipPart, ringPart, voltagePart, crystalPart}
-use Rattle.readback.specs.Parse.{refPart, sysPart, periPart, usbPart, adcPart}
+use Rattle.readback.specs.Parse.{cutPart, Reads, ticks, chipTaken, ringTaken, voltageTaken, crystalTaken, refTaken}
+use Rattle.readback.specs.Parse.{sysTaken, periTaken, usbTaken, adcTaken}
 
 pub from-at : (xs : List Step) (at k : ℕ) → stepAt (drop at xs) k ≡ stepAt xs (at + k)
 from-at xs at k = getD-drop at xs k (step0 0)
@@ -68,9 +62,9 @@ past-tick Rp235x n xs = drop-drop 4 n xs
 -- the chip's part of the plan
 abbrev pub chipThere : ℕ → List Step → ChipConfig
 chipThere reading xs =
-    chipFrom (valueIn (chipPart xs)) (valueIn (voltagePart reading xs) .code)
-    (valueIn (sysPart reading xs) .whole) (valueIn (sysPart reading xs) .fraction)
-    (readRtc (restIn (adcPart reading xs)))
+    chipFrom (valueIn (chipTaken xs)) (valueIn (voltageTaken reading xs) .code)
+    (valueIn (sysTaken reading xs) .whole) (valueIn (sysTaken reading xs) .fraction)
+    (readRtc (restIn (adcTaken reading xs)))
 
 -- the settings of the parts
 pub settings-there : (reading : ℕ) (xs : List Step)
@@ -78,17 +72,17 @@ pub settings-there : (reading : ℕ) (xs : List Step)
     (record {
       chip = chipThere reading xs;
       board = boardOf (chipThere reading xs);
-      rosc = valueIn (ringPart xs);
-      xosc = valueIn (crystalPart reading xs);
-      settling = valueIn (voltagePart reading xs) .settling;
-      reference = valueIn (refPart reading xs);
-      sys = valueIn (sysPart reading xs) .src;
-      peri = valueIn (periPart reading xs);
-      usb = valueIn (usbPart reading xs);
-      adc = valueIn (adcPart reading xs);
+      rosc = valueIn (ringTaken xs);
+      xosc = valueIn (crystalTaken reading xs);
+      settling = valueIn (voltageTaken reading xs) .settling;
+      reference = valueIn (refTaken reading xs);
+      sys = valueIn (sysTaken reading xs) .src;
+      peri = valueIn (periTaken reading xs);
+      usb = valueIn (usbTaken reading xs);
+      adc = valueIn (adcTaken reading xs);
     })
-unfolding settingsFrom chipPart ringPart voltagePart crystalPart refPart sysPart periPart usbPart adcPart
+unfolding settingsFrom chipTaken ringTaken voltageTaken crystalTaken refTaken sysTaken periTaken usbTaken adcTaken
 settings-there reading xs =
-    rw (then-is (chipPart xs), then-is (ringPart xs), then-is (voltagePart reading xs))
-    (rw (then-is (crystalPart reading xs), then-is (sysPart reading xs), then-is (periPart reading xs))
-    (rw (then-is (usbPart reading xs), then-is (adcPart reading xs))))
+    rw (then-is (chipTaken xs), then-is (ringTaken xs), then-is (voltageTaken reading xs))
+    (rw (then-is (crystalTaken reading xs), then-is (sysTaken reading xs), then-is (periTaken reading xs))
+    (rw (then-is (usbTaken reading xs), then-is (adcTaken reading xs))))

@@ -1,51 +1,40 @@
 -- What is answered is what the law asks for, and nothing else is: `readback-one`.
--- Assumes nothing.
-use mathlib.Core.Path.{_≡_, refl, sym, ap, _∙_}
-use mathlib.Core.Bool.{Bool, true, false}
-use mathlib.Core.List.{List, _++_}
+use mathlib.Core.{Path._≡_, Path.refl, Path.sym, Path.ap, Path._∙_, Bool.Bool, Bool.true, Bool.false, List.List, List._++_}
 use Prim.Native.Nat.{ℕ, _%_, _^_, _≤_, _<_}
-use native.Mathlib.Nat.{mod-lt}
-use lib.Pow.{pow-pos}
-use native.Mathlib.Omega.{arith}
-use lib.Dec.{ltb}
+use native.Mathlib.{Nat.mod-lt, Omega.arith}
+use lib.{Pow.pow-pos, Dec.ltb}
 use borrow.Author.Tests.{eqb-true, eq-eqb, ltb-true, ltb-false}
-use Rattle.base.specs.Choice.{pick}
-use Rattle.base.specs.Answer.{Answer, value, refusal}
+use Rattle.base.specs.{Choice.pick, Answer.Answer, Answer.value, Answer.refusal}
 use Rattle.base.proofs.Bools.{both-true}
 use Rattle.text.proofs.Same.{same-true}
 use Rattle.readback.proofs.Same.{same-refl}
-use Rattle.config.specs.declared.ClockConfig.{ClockConfig}
-use Rattle.config.specs.declared.OptionRosc.{OptionRosc}
+use Rattle.readback.proofs.Canonical.{steps-in, plan-in, gives-in, back-in}
+use Rattle.readback.proofs.Unique.{readback-one}
+use Rattle.config.specs.declared.{ClockConfig.ClockConfig, OptionRosc.OptionRosc}
 use Rattle.config.specs.declared.OptionRosc.the-variants.{Some as ring, None as noRing}
-use Rattle.chip.specs.declared.Chip.{Chip}
-use Rattle.chip.specs.declared.Chip.the-variants.{Rp2040, Rp235x}
-use Rattle.chip.specs.Chips.{factsOf}
-use Rattle.config.specs.Board.{boardOf, FractionFits}
 use Rattle.config.specs.declared.ChipConfig.{ChipConfig}
 use Rattle.config.specs.declared.ChipConfig.the-variants.{Rp2040 as on2040, Rp235x as on235x}
 use Rattle.config.specs.declared.OptionRtc.{OptionRtc}
 use Rattle.config.specs.declared.OptionRtc.the-variants.{Some as rtc, None as noRtc}
+use Rattle.chip.specs.declared.{Chip.Chip, Chip.the-variants.Rp2040, Chip.the-variants.Rp235x}
+use Rattle.chip.specs.Chips.{factsOf}
+use Rattle.config.specs.Board.{boardOf, FractionFits}
 use Rattle.settings.specs.declared.OptionCrystal.{OptionCrystal}
 use Rattle.settings.specs.declared.OptionCrystal.the-variants.{Some as crystal, None as noCrystal}
 use Rattle.settings.specs.declared.Settings.{Settings}
-use Rattle.settings.specs.Settings.{crystalOf, ringHz, settingsOf}
-use Rattle.settings.specs.Frequencies.{sourcesOf}
+use Rattle.settings.specs.{Settings.crystalOf, Settings.ringHz, Settings.settingsOf, Frequencies.sourcesOf}
 use Rattle.settings.specs.Typed.{RtcTyped, Typed}
 use Rattle.refusals.proofs.Accepted.{accepted-by}
-use Rattle.sheet.proofs.Stores.{ring-source}
+use Rattle.sheet.proofs.{Stores.ring-source, Demand3.same-sheets}
 use Rattle.refusals.specs.Refusals.{Accepted}
 use Rattle.step.specs.declared.Step.{Step}
-use Rattle.sheet.specs.Steps.{markSteps, headPart, stepsOf}
-use Rattle.sheet.specs.Read.{readChip}
-use Rattle.sheet.specs.Writer.{sheetBytes, refusalIn}
-use Rattle.sheet.proofs.Demand3.{same-sheets}
+use Rattle.sheet_steps.specs.Steps.{markSteps, headPart, stepsOf}
+use Rattle.sheet.specs.{Read.readChip, Writer.sheetBytes, Writer.refusalIn}
 use Rattle.readback.specs.Steps.{valueIn, topReading}
 use Rattle.readback.specs.Cut.{cutRing, cutCrystal, cutRtc, cutChip, cutSettings}
-use Rattle.readback.specs.Plan.{xoscFor, planOf}
+use Rattle.least_plan.specs.Plan.{xoscFor, planOf}
 use Rattle.readback.specs.Law.{Gives, ReadBack, over, none, back}
 use Rattle.readback.specs.Read.{planIn, gives, readOf}
-use Rattle.readback.proofs.Canonical.{steps-in, plan-in, gives-in, back-in}
-use Rattle.readback.proofs.Unique.{readback-one}
 
 -- the numbers that were cut are of their types
 few : (w x : ℕ) → x % 2 ^ w < 2 ^ w

@@ -1,8 +1,5 @@
 -- A text is the same as itself.
--- Assumes nothing.
-use mathlib.Core.Path.{_≡_, refl, sym}
-use mathlib.Core.Bool.{true}
-use mathlib.Core.List.{List}
+use mathlib.Core.{Path._≡_, Path.refl, Path.sym, Bool.true, List.List}
 use Prim.Native.Nat.{ℕ}
 use Rattle.text.specs.Ascii.{same}
 use Rattle.fields.proofs.Same.{is-same}

@@ -1,24 +1,18 @@
 -- The law of reading back leaves no choice.
--- Assumes nothing.
-use mathlib.Core.Path.{_≡_, refl, sym, ap, _∙_}
-use mathlib.Core.List.{List}
+use mathlib.Core.{Path._≡_, Path.refl, Path.sym, Path.ap, Path._∙_, List.List}
 use Prim.Native.Nat.{ℕ}
 use native.Mathlib.Omega.{arith}
 use Rattle.base.specs.Answer.{Answer, value}
-use Rattle.config.specs.declared.ClockConfig.{ClockConfig}
-use Rattle.config.specs.declared.OptionXosc.{OptionXosc}
+use Rattle.config.specs.declared.{ClockConfig.ClockConfig, OptionXosc.OptionXosc}
 use Rattle.config.specs.declared.OptionXosc.the-variants.{Some as xosc, None as noXosc}
-use Rattle.config.specs.declared.OptionU32.{OptionU32}
-use Rattle.config.specs.declared.OptionPll.{OptionPll}
-use Rattle.config.specs.declared.OptionPll.the-variants.{None as noPll}
-use Rattle.settings.specs.declared.Crystal.{Crystal}
-use Rattle.settings.specs.declared.OptionCrystal.{OptionCrystal}
+use Rattle.config.specs.declared.{OptionU32.OptionU32, OptionPll.OptionPll, OptionPll.the-variants.None as noPll}
+use Rattle.config.specs.declared.OptionU32.the-variants.{Some as given}
+use Rattle.settings.specs.declared.{Crystal.Crystal, OptionCrystal.OptionCrystal}
 use Rattle.settings.specs.declared.OptionCrystal.the-variants.{Some as crystal, None as noCrystal}
 use Rattle.settings.specs.declared.Settings.{Settings}
-use Rattle.config.specs.declared.OptionU32.the-variants.{Some as given}
 use Rattle.settings.specs.Settings.{crystalOf, settingsOf}
 use Rattle.sheet.proofs.Demand3.{same-sheets}
-use Rattle.readback.specs.Plan.{planWith}
+use Rattle.least_plan.specs.Plan.{planWith}
 use Rattle.readback.specs.Law.{multiplierIn, timeOf, Back, ReadBack, over, none, back}
 
 -- the crystal that is there; any where there is none

@@ -1,8 +1,5 @@
 -- A number over 255 is no voltage code, as 255 is none.
--- Assumes nothing.
-use mathlib.Core.Path.{_≡_, refl, sym, _∙_}
-use mathlib.Core.Bool.{Bool, true, false}
-use mathlib.Core.List.{List}
+use mathlib.Core.{Path._≡_, Path.refl, Path.sym, Path._∙_, Bool.Bool, Bool.true, Bool.false, List.List}
 use Prim.Native.Nat.{ℕ, _<_, min}
 use native.Mathlib.Omega.{arith}
 use lib.Dec.{ltb}

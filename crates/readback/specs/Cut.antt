@@ -1,12 +1,10 @@
 -- Settings with each number cut to its type: those of an accepted plan are left as they are.
--- Assumes nothing.
 use Prim.Native.Nat.{ℕ, _%_, _^_}
 use Rattle.config.specs.declared.OptionRosc.{OptionRosc}
 use Rattle.config.specs.declared.OptionRosc.the-variants.{Some as ring, None as noRing}
 use Rattle.config.specs.declared.OptionPll.{OptionPll}
 use Rattle.config.specs.declared.OptionPll.the-variants.{Some as pll, None as noPll}
-use Rattle.config.specs.declared.RefClkConfig.{RefClkConfig}
-use Rattle.config.specs.declared.OptionAux.{OptionAux}
+use Rattle.config.specs.declared.{RefClkConfig.RefClkConfig, OptionAux.OptionAux}
 use Rattle.config.specs.declared.OptionAux.the-variants.{Some as aux, None as noAux}
 use Rattle.config.specs.declared.OptionRtc.{OptionRtc}
 use Rattle.config.specs.declared.OptionRtc.the-variants.{Some as rtc, None as noRtc}

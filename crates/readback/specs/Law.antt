@@ -1,17 +1,13 @@
 -- What reading a sheet back answers, in the request's words. The law leaves no choice: `readback-one` in the proofs.
--- Assumes nothing.
-use mathlib.Core.Path.{_≡_}
-use mathlib.Core.List.{List}
+use mathlib.Core.{Path._≡_, List.List}
 use Prim.Native.Nat.{ℕ, _≤_, _<_}
 use Rattle.base.specs.Answer.{Answer, value, refusal}
-use Rattle.config.specs.declared.ClockConfig.{ClockConfig}
-use Rattle.config.specs.declared.OptionXosc.{OptionXosc}
+use Rattle.config.specs.declared.{ClockConfig.ClockConfig, OptionXosc.OptionXosc}
 use Rattle.config.specs.declared.OptionXosc.the-variants.{Some as xosc, None as noXosc}
 use Rattle.config.specs.declared.OptionU32.the-variants.{Some as given}
 use Rattle.settings.specs.declared.OptionCycles.the-variants.{None as noCycles}
 use Rattle.config.specs.Board.{boardOf}
-use Rattle.settings.specs.Settings.{settlingTime, settingsOf}
-use Rattle.settings.specs.Typed.{Typed}
+use Rattle.settings.specs.{Settings.settlingTime, Settings.settingsOf, Typed.Typed}
 use Rattle.refusals.specs.Refusals.{Accepted}
 use Rattle.sheet.specs.Writer.{sheetBytes}
 use Rattle.readback.specs.Steps.{topReading}

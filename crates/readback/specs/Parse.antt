@@ -1,28 +1,20 @@
 -- Inside: parts of a sheet as the code reads them: a value, and the place of the step behind the part.
--- Assumes nothing.
-use mathlib.Core.Path.{_≡_}
-use mathlib.Core.List.{List}
+use mathlib.Core.{Path._≡_, List.List}
 use Prim.Native.Nat.{ℕ, _+_, _-_, _≤_}
 use lib.ListN.{drop}
-use Rattle.chip.specs.declared.Chip.{Chip}
-use Rattle.chip.specs.declared.Chip.the-variants.{Rp2040, Rp235x}
-use Rattle.config.specs.declared.OptionRosc.{OptionRosc}
-use Rattle.config.specs.declared.OptionPll.{OptionPll}
-use Rattle.config.specs.declared.OptionPeri.{OptionPeri}
-use Rattle.config.specs.declared.OptionAux.{OptionAux}
+use Rattle.chip.specs.declared.{Chip.Chip, Chip.the-variants.Rp2040, Chip.the-variants.Rp235x}
+use Rattle.config.specs.declared.{OptionRosc.OptionRosc, OptionPll.OptionPll, OptionPeri.OptionPeri, OptionAux.OptionAux}
 use Rattle.config.specs.declared.RefClkConfig.{RefClkConfig}
 use Rattle.settings.specs.declared.OptionCrystal.{OptionCrystal}
 use Rattle.chip.specs.Chips.{factsOf}
 use Rattle.step.specs.Kinds as kind
-use Rattle.readback.specs.Cut.{cutRing, cutCrystal}
-use Rattle.readback.specs.declared.oscillators.VoltageSteps.{VoltageSteps}
-use Rattle.readback.specs.declared.oscillators.Oscillators.{Oscillators}
+use Rattle.readback.specs.{Cut.cutRing, Cut.cutCrystal, Steps.stepsIn, Steps.valueIn, Steps.restIn}
+use Rattle.readback.specs.declared.{oscillators.VoltageSteps.VoltageSteps, oscillators.Oscillators.Oscillators}
 use Rattle.readback.specs.declared.clocks.SysRead.{SysRead}
 use Rattle.step.specs.declared.Step.{Step}
 use Rattle.settings.specs.Codes.{rangeFrom}
-use Rattle.sheet.specs.Read.{Part, part, Voltage, Sys, readChip, readRing, readVoltage, readCrystal, readRef}
-use Rattle.sheet.specs.Read.{pastTick, readSys, readPeri, readAux}
-use Rattle.readback.specs.Steps.{stepsIn, valueIn, restIn}
+use Rattle.sheet.specs.Read.{Part, part, Voltage, Sys, readChip, readRing, readVoltage, readCrystal, readRef, pastTick}
+use Rattle.sheet.specs.Read.{readSys, readPeri, readAux}
 
 -- a part with what it sets cut to its types
 abbrev pub cutPart : {A : Type 0} → (A → A) → Part A → Part A
@@ -66,38 +58,38 @@ sysAt r = record { src = r .src; whole = r .whole; fraction = r .fraction }
 
 -- the parts of a sheet's steps, each from where the one before it ends
 
-unfoldable pub chipPart : List Step → Part Chip
-chipPart xs = readChip xs
+unfoldable pub chipTaken : List Step → Part Chip
+chipTaken xs = readChip xs
 
-unfoldable pub ringPart : List Step → Part OptionRosc
-ringPart xs = readRing (factsOf (valueIn (chipPart xs)) .pass) (drop 9 (restIn (chipPart xs)))
+unfoldable pub ringTaken : List Step → Part OptionRosc
+ringTaken xs = readRing (factsOf (valueIn (chipTaken xs)) .pass) (drop 9 (restIn (chipTaken xs)))
 
-unfoldable pub voltagePart : ℕ → List Step → Part Voltage
-voltagePart reading xs = readVoltage (factsOf (valueIn (chipPart xs)) .voltage) reading (restIn (ringPart xs))
+unfoldable pub voltageTaken : ℕ → List Step → Part Voltage
+voltageTaken reading xs = readVoltage (factsOf (valueIn (chipTaken xs)) .voltage) reading (restIn (ringTaken xs))
 
-unfoldable pub crystalPart : ℕ → List Step → Part OptionCrystal
-crystalPart reading xs = readCrystal (restIn (voltagePart reading xs))
+unfoldable pub crystalTaken : ℕ → List Step → Part OptionCrystal
+crystalTaken reading xs = readCrystal (restIn (voltageTaken reading xs))
 
-unfoldable pub refPart : ℕ → List Step → Part RefClkConfig
-refPart reading xs = readRef (drop 3 (restIn (crystalPart reading xs)))
+unfoldable pub refTaken : ℕ → List Step → Part RefClkConfig
+refTaken reading xs = readRef (drop 3 (restIn (crystalTaken reading xs)))
 
-unfoldable pub sysPart : ℕ → List Step → Part Sys
-sysPart reading xs = readSys (pastTick (valueIn (chipPart xs)) (restIn (refPart reading xs)))
+unfoldable pub sysTaken : ℕ → List Step → Part Sys
+sysTaken reading xs = readSys (pastTick (valueIn (chipTaken xs)) (restIn (refTaken reading xs)))
 
-unfoldable pub periPart : ℕ → List Step → Part OptionPeri
-periPart reading xs = readPeri (restIn (sysPart reading xs))
+unfoldable pub periTaken : ℕ → List Step → Part OptionPeri
+periTaken reading xs = readPeri (restIn (sysTaken reading xs))
 
-unfoldable pub usbPart : ℕ → List Step → Part OptionAux
-usbPart reading xs = readAux kind.usb-divider (restIn (periPart reading xs))
+unfoldable pub usbTaken : ℕ → List Step → Part OptionAux
+usbTaken reading xs = readAux kind.usb-divider (restIn (periTaken reading xs))
 
-unfoldable pub adcPart : ℕ → List Step → Part OptionAux
-adcPart reading xs = readAux kind.adc-divider (restIn (usbPart reading xs))
+unfoldable pub adcTaken : ℕ → List Step → Part OptionAux
+adcTaken reading xs = readAux kind.adc-divider (restIn (usbTaken reading xs))
 
 -- the first four, and where they end
 pub record Oscillating (sheet : List ℕ) (reading : ℕ) (o : Oscillators) : Type 0 where
-  pub chip : o .chip ≡ valueIn (chipPart (stepsIn sheet))
-  pub rosc : o .rosc ≡ cutRing (valueIn (ringPart (stepsIn sheet)))
-  pub voltage : voltageAt (o .voltage) ≡ valueIn (voltagePart reading (stepsIn sheet))
-  pub xosc : o .xosc ≡ cutCrystal (valueIn (crystalPart reading (stepsIn sheet)))
-  pub rest : restIn (crystalPart reading (stepsIn sheet)) ≡ drop (o .at) (stepsIn sheet)
+  pub chip : o .chip ≡ valueIn (chipTaken (stepsIn sheet))
+  pub rosc : o .rosc ≡ cutRing (valueIn (ringTaken (stepsIn sheet)))
+  pub voltage : voltageAt (o .voltage) ≡ valueIn (voltageTaken reading (stepsIn sheet))
+  pub xosc : o .xosc ≡ cutCrystal (valueIn (crystalTaken reading (stepsIn sheet)))
+  pub rest : restIn (crystalTaken reading (stepsIn sheet)) ≡ drop (o .at) (stepsIn sheet)
   pub near : o .at ≤ 100

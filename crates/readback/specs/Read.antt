@@ -1,19 +1,14 @@
 -- What reading a sheet back answers, as it is found: the plan that the bytes would be of, kept where it is written to them.
 -- That it is what the law asks for is `read-right` in the proofs.
--- Assumes nothing.
-use mathlib.Core.Bool.{Bool, _&&_}
-use mathlib.Core.List.{List}
+use mathlib.Core.{Bool.Bool, Bool._&&_, List.List}
 use Prim.Native.Nat.{ℕ}
 use lib.Dec.{eqb, ltb}
-use Rattle.base.specs.Choice.{pick}
-use Rattle.base.specs.Answer.{Answer, value, refusal}
+use Rattle.base.specs.{Choice.pick, Answer.Answer, Answer.value, Answer.refusal}
 use Rattle.text.specs.Ascii.{same}
 use Rattle.config.specs.declared.ClockConfig.{ClockConfig}
-use Rattle.sheet.specs.Read.{settingsFrom}
-use Rattle.sheet.specs.Writer.{sheetBytes, refusalIn}
-use Rattle.readback.specs.Steps.{stepsIn, topReading}
-use Rattle.readback.specs.Cut.{cutSettings}
-use Rattle.readback.specs.Plan.{planOf}
+use Rattle.sheet.specs.{Read.settingsFrom, Writer.sheetBytes, Writer.refusalIn}
+use Rattle.least_plan.specs.Plan.{planOf}
+use Rattle.readback.specs.{Steps.stepsIn, Steps.topReading, Cut.cutSettings}
 
 -- the plan made of what the bytes hold
 unfoldable pub planIn : List ℕ → ℕ → ClockConfig

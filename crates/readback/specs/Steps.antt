@@ -1,5 +1,4 @@
 -- The steps that a sheet's bytes hold, one for each eight bytes.
--- Assumes nothing.
 use mathlib.Core.List.{List, [], _∷_}
 use Prim.Native.Nat.{ℕ, zero, suc, _+_, _*_, _/_, _%_, _^_}
 use lib.ListN.{length}
@@ -8,7 +7,7 @@ use Rattle.chip.specs.declared.Chip.{Chip}
 use Rattle.chip.specs.Chips.{factsOf}
 use Rattle.step.specs.declared.Step.{Step}
 use Rattle.step.specs.Access.{readAt}
-use Rattle.sheet.specs.Steps.{step0}
+use Rattle.sheet_steps.specs.Steps.{step0}
 use Rattle.sheet.specs.Read.{Part, part, readChip}
 
 -- the step of an answer; where it is refused one of kind 0, which no step has
@@ -25,8 +24,8 @@ unfoldable pub stepsIn : List ℕ → List Step
 stepsIn sheet = stepsFrom sheet 0 (length sheet / 8)
 
 -- the place behind a step's; no sheet reaches 2 ^ 62
-abbrev pub behind : ℕ → ℕ
-behind at = at % 2 ^ 62 + 1
+abbrev pub nextPlace : ℕ → ℕ
+nextPlace at = at % 2 ^ 62 + 1
 
 -- what a part sets, and the steps after it
 abbrev pub valueIn : {A : Type 0} → Part A → A

@@ -3,7 +3,6 @@ mod clocks;
 mod codes;
 mod oscillators;
 mod parse;
-mod plan;
 
 use base::Length;
 use config::ClockConfig;
@@ -13,10 +12,10 @@ use step::Step;
 use step::Unpacked;
 ghost use mathlib.Core.Path.{_≡_};
 ghost use Rattle.text.specs.Ascii.{same};
-ghost use Rattle.sheet.specs.Steps.{step0};
+ghost use Rattle.sheet_steps.specs.Steps.{step0};
 ghost use Rattle.sheet.specs.Read.{stepAt};
 ghost use Rattle.config.specs.Presets.{plannedIs};
-ghost use Rattle.readback.specs.Steps.{stepsIn, behind, topReading};
+ghost use Rattle.readback.specs.Steps.{stepsIn, nextPlace, topReading};
 ghost use Rattle.readback.specs.Read.{gives, readOf};
 
 // A sheet's bytes, and the step that is next.
@@ -60,7 +59,7 @@ pub fn new<'a>(sheet: &'a [u8], at: usize) -> Reader<'a>
 
 // The step that is next; the reader moves on to the one behind it. No sheet has 2 ^ 62 steps.
 pub fn next<'s, 'a>(r: &'s mut Reader<'a>) -> Step
-    ensures { λ s. ⌜ (s ≡ stepAt (stepsIn (now (now (r .entry) .sheet))) (now (r .entry) .at)) × (now (r .exit) .sheet ≡ now (r .entry) .sheet) × (now (r .exit) .at ≡ behind (now (r .entry) .at)) ⌝ }
+    ensures { λ s. ⌜ (s ≡ stepAt (stepsIn (now (now (r .entry) .sheet))) (now (r .entry) .at)) × (now (r .exit) .sheet ≡ now (r .entry) .sheet) × (now (r .exit) .at ≡ nextPlace (now (r .entry) .at)) ⌝ }
 {
     let at = r.at;
     let step = step_at(r.sheet, at);
@@ -113,7 +112,7 @@ pub fn read_sheet(sheet: &[u8], reading: u8) -> Planned
     if top_reading(sheet) < reading {
         return Planned::Refused(18);
     }
-    let plan = plan::plan_of(parse::settings_in(sheet, reading));
+    let plan = least_plan::plan_of(parse::settings_in(sheet, reading));
     if gives(sheet, reading, plan) {
         Planned::Plan(plan)
     } else {

@@ -1,8 +1,5 @@
 -- What acceptance says: none of the tests holds.
--- Assumes nothing.
-use mathlib.Core.Path.{_≡_, refl}
-use mathlib.Core.Bool.{Bool, true, false, _||_}
-use mathlib.Core.List.{List, [], _∷_}
+use mathlib.Core.{Path._≡_, Path.refl, Bool.Bool, Bool.true, Bool.false, Bool._||_, List.List, List.[], List._∷_}
 use Prim.Native.Nat.{ℕ, _≤_, _<_}
 use native.Mathlib.Omega.{arith}
 use lib.Dec.{eqb, leb, ltb}
@@ -12,7 +9,8 @@ use Rattle.base.proofs.Bools.{both-false, in-range}
 use Rattle.config.specs.declared.DriveStrength.{DriveStrength}
 use Rattle.settings.specs.declared.Settings.{Settings}
 use Rattle.settings.specs.Frequencies.{frequenciesOf}
-use Rattle.refusals.specs.Refusals.{strengthOver, dividerBad, referenceBad, wholeBad, testsOf, first, refusalOf}
+use Rattle.grounds.specs.Grounds.{strengthOver, dividerBad, referenceBad, wholeBad}
+use Rattle.refusals.specs.Refusals.{testsOf, first, refusalOf}
 
 -- every number is from 1 on
 abbrev Positive : List (ℕ × Bool) → Type 0

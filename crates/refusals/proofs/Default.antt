@@ -1,21 +1,17 @@
 -- The default plan is refused with 8 at every reading that its chip may have: its reference is 0 Hz.
--- Assumes nothing.
-use mathlib.Core.Path.{_≡_, refl}
-use mathlib.Core.Bool.{Bool, true, false}
+use mathlib.Core.{Path._≡_, Path.refl, Bool.Bool, Bool.true, Bool.false}
 use Prim.Native.Nat.{ℕ, _≤_}
 use lib.Dec.{eqb}
 use borrow.Author.Tests.{le-ltb}
 use Rattle.base.specs.Choice.{pick}
-use Rattle.chip.specs.declared.Chip.{Chip}
-use Rattle.chip.specs.declared.Chip.the-variants.{Rp2040, Rp235x}
+use Rattle.chip.specs.declared.{Chip.Chip, Chip.the-variants.Rp2040, Chip.the-variants.Rp235x}
 use Rattle.chip.specs.Chips.{factsOf}
 use Rattle.config.specs.Presets.{defaultPlan}
-use Rattle.settings.specs.declared.OptionCycles.{OptionCycles}
-use Rattle.settings.specs.declared.OptionCycles.the-variants.{None as noCycles}
-use Rattle.settings.specs.Settings.{settlingStep, settingsOf}
-use Rattle.settings.specs.Frequencies.{sourcesOf, refHz}
-use Rattle.refusals.specs.Refusals.{strengthsOver, ringDividerOver, settlingOver, startupOver, sysPllInvalid}
-use Rattle.refusals.specs.Refusals.{usbPllInvalid, dividerBad, referenceBad, refusalOf}
+use Rattle.settings.specs.declared.{OptionCycles.OptionCycles, OptionCycles.the-variants.None as noCycles}
+use Rattle.settings.specs.{Settings.settlingStep, Settings.settingsOf, Frequencies.sourcesOf, Frequencies.refHz}
+use Rattle.grounds.specs.Grounds.{strengthsOver, ringDividerOver, settlingOver, startupOver, sysPllInvalid, usbPllInvalid}
+use Rattle.grounds.specs.Grounds.{dividerBad, referenceBad}
+use Rattle.refusals.specs.Refusals.{refusalOf}
 
 calmly : (b : Bool) → settlingOver (pick {A = OptionCycles} b noCycles noCycles) ≡ false
 unfolding settlingOver

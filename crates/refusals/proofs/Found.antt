@@ -1,7 +1,5 @@
 -- No sheet of a plan with the PLLs that the searches found is refused with 5 or 6, and its USB clock has 48 MHz.
--- Assumes nothing.
-use mathlib.Core.Path.{_≡_, refl, sym, subst}
-use mathlib.Core.Bool.{Bool, true, false, _&&_, _||_}
+use mathlib.Core.{Path._≡_, Path.refl, Path.sym, Path.subst, Bool.Bool, Bool.true, Bool.false, Bool._&&_, Bool._||_}
 use mathlib.Core.List.{List, [], _∷_}
 use Prim.Native.Nat.{ℕ, _≤_}
 use native.Mathlib.Omega.{arith}
@@ -10,16 +8,14 @@ use borrow.Author.Tests.{eq-eqb}
 use Rattle.base.specs.Answer.{value}
 use Rattle.chip.specs.declared.Chip.{Chip}
 use Rattle.pll.specs.Setting.{validOf}
-use Rattle.pll.proofs.Inputs.{found-valid}
-use Rattle.pll.proofs.UsbRight.{usb-found, usb-output}
-use Rattle.config.specs.declared.RoscRange.{RoscRange}
-use Rattle.config.specs.declared.ClockConfig.{ClockConfig}
+use Rattle.pll.proofs.{Inputs.found-valid, UsbRight.usb-found, UsbRight.usb-output}
+use Rattle.config.specs.declared.{RoscRange.RoscRange, ClockConfig.ClockConfig}
 use Rattle.config.specs.Presets.{ringConfig, feedingBoth, fromPlls, systemVoltage, systemPlanFrom}
 use Rattle.config.proofs.Systems.{Found, system-from-found}
 use Rattle.settings.specs.declared.Settings.{Settings}
-use Rattle.settings.specs.Settings.{settingsOf}
-use Rattle.settings.specs.Frequencies.{pllHz, sourcesOf, frequenciesOf}
-use Rattle.refusals.specs.Refusals.{sysPllInvalid, usbPllInvalid, testsOf, first, refusalOf}
+use Rattle.settings.specs.{Settings.settingsOf, Frequencies.pllHz, Frequencies.sourcesOf, Frequencies.frequenciesOf}
+use Rattle.grounds.specs.Grounds.{sysPllInvalid, usbPllInvalid}
+use Rattle.refusals.specs.Refusals.{testsOf, first, refusalOf}
 
 -- a test of this number holds
 abbrev holdsAt : ℕ → List (ℕ × Bool) → Bool

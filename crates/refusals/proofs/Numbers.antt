@@ -1,11 +1,7 @@
 -- Which numbers a plan is refused with: 18 where the reading is over the chip's greatest, else one of 0 to 14.
--- Assumes nothing.
-use mathlib.Core.Path.{_≡_}
-use mathlib.Core.Bool.{Bool, true, false}
-use mathlib.Core.List.{List, [], _∷_}
+use mathlib.Core.{Path._≡_, Bool.Bool, Bool.true, Bool.false, List.List, List.[], List._∷_}
 use Prim.Native.Nat.{ℕ, _≤_, _<_}
-use native.Mathlib.Omega.{arith}
-use native.Mathlib.Decide.{decLe}
+use native.Mathlib.{Omega.arith, Decide.decLe}
 use lib.ListN.{drop}
 use borrow.Author.Tests.{lt-ltb, le-ltb}
 use Rattle.chip.specs.Chips.{factsOf}

@@ -1,26 +1,20 @@
 -- The ten values that an accepted plan's sheet stores have 32 bits.
--- Assumes nothing.
-use mathlib.Core.Path.{_≡_}
-use mathlib.Core.Bool.{false, _||_}
-use mathlib.Core.List.{List, [], _∷_}
+use mathlib.Core.{Path._≡_, Bool.false, Bool._||_, List.List, List.[], List._∷_}
 use Prim.Native.Nat.{ℕ, _≤_}
 use native.Mathlib.Omega.{arith}
 use lib.Dec.{eqb, ltb}
 use borrow.Author.Tests.{ltb-false}
 use Rattle.base.proofs.Bools.{both-false}
-use Rattle.chip.specs.declared.Chip.{Chip}
-use Rattle.chip.specs.declared.Chip.the-variants.{Rp2040, Rp235x}
+use Rattle.chip.specs.declared.{Chip.Chip, Chip.the-variants.Rp2040, Chip.the-variants.Rp235x}
 use Rattle.chip.specs.Chips.{factsOf}
 use Rattle.config.specs.declared.OptionRtc.{OptionRtc}
 use Rattle.config.specs.declared.OptionRtc.the-variants.{Some as rtc, None as noRtc}
-use Rattle.settings.specs.declared.Sources.{Sources}
-use Rattle.settings.specs.declared.Settings.{Settings}
-use Rattle.settings.specs.declared.Frequencies.{Frequencies}
-use Rattle.settings.specs.Frequencies.{rtcHz, sourcesIn, refIn, sysIn}
-use Rattle.settings.specs.Frequencies.{frequenciesOf, tenthOf, storedOf, tenOf}
+use Rattle.settings.specs.declared.{Sources.Sources, Settings.Settings, Frequencies.Frequencies}
+use Rattle.settings.specs.Frequencies.{rtcHz, sourcesIn, refIn, sysIn, frequenciesOf, tenthOf, storedOf, tenOf}
 use Rattle.settings.specs.Typed.{Typed}
 use Rattle.settings.proofs.Small.{Hz, AllHz, sources-hz, ref-small, sys-small, peri-small, aux-small}
-use Rattle.refusals.specs.Refusals.{wholeBad, rtcBad, refusalOf}
+use Rattle.grounds.specs.Grounds.{wholeBad, rtcBad}
+use Rattle.refusals.specs.Refusals.{refusalOf}
 use Rattle.refusals.proofs.Accepted.{accepted-by, whole-good}
 
 -- an accepted RTC has 16 bits

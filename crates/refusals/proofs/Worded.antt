@@ -1,21 +1,17 @@
 -- Refusals 2, 3, 4 and 9 of settings, in the words of docs/FORMAT.md (Refusals) for the plan.
--- Assumes nothing.
-use mathlib.Core.Path.{_≡_, refl, sym}
-use mathlib.Core.Bool.{Bool, true, false, _||_, _&&_, not}
+use mathlib.Core.{Path._≡_, Path.refl, Path.sym, Bool.Bool, Bool.true, Bool.false, Bool._||_, Bool._&&_, Bool.not}
 use Prim.Native.Nat.{ℕ, zero, suc, _+_, _-_, _/_, _≤_, _<_}
-use native.Mathlib.Omega.{arith}
-use native.Mathlib.Decide.{decLe}
+use native.Mathlib.{Omega.arith, Decide.decLe}
 use lib.Dec.{ltb, eqb}
 use borrow.Author.Tests.{eqb-true, lt-ltb, le-ltb, le-leb, ne-eqb}
 use Rattle.base.specs.Choice.{pick}
 use Rattle.chip.specs.declared.Chip.the-variants.{Rp2040, Rp235x}
 use Rattle.chip.specs.Chips.{factsOf}
 use Rattle.divider.specs.Delay.{startupSum, delayOf, settlingCycles}
-use Rattle.config.specs.declared.XoscConfig.{XoscConfig}
-use Rattle.config.specs.declared.OptionXosc.the-variants.{Some as xosc}
+use Rattle.config.specs.declared.{XoscConfig.XoscConfig, OptionXosc.the-variants.Some as xosc}
 use Rattle.settings.specs.declared.OptionCycles.the-variants.{Some as cycles, None as noCycles}
 use Rattle.settings.specs.Settings.{crystalOf, settlingStep}
-use Rattle.refusals.specs.Refusals.{settlingOver, startupOver, wholeBad}
+use Rattle.grounds.specs.Grounds.{settlingOver, startupOver, wholeBad}
 
 -- settling cycles over 32 bits, where the voltage changes
 pub settling-worded : (reading code time hz : ℕ)

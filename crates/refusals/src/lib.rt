@@ -1,13 +1,8 @@
 // The refusals of settings at a reading, in their order.
-use config::DriveStrength;
-use config::OptionAux;
-use config::OptionPeri;
 use config::OptionPll;
 use config::OptionRosc;
-use config::OptionRtc;
 use settings::Frequencies;
 use settings::OptionCrystal;
-use settings::OptionCycles;
 use settings::Settings;
 use settings::Sources;
 ghost use mathlib.Core.Path.{_≡_};
@@ -16,63 +11,8 @@ ghost use Rattle.config.specs.declared.OptionRosc.{OptionRosc};
 ghost use Rattle.settings.specs.Frequencies.{pllHz, sourcesOf, frequenciesOf};
 ghost use Rattle.config.specs.Board.{FractionFits};
 ghost use Rattle.settings.specs.Typed.{Typed};
-ghost use Rattle.refusals.specs.Refusals.{strengthOver, strengthsOver, ringDividerOver, settlingOver};
-ghost use Rattle.refusals.specs.Refusals.{startupOver, pllInvalid, sysPllInvalid, usbPllInvalid};
-ghost use Rattle.refusals.specs.Refusals.{dividerBad, referenceBad, wholeBad, periBad, auxBad, rtcBad};
+ghost use Rattle.grounds.specs.Grounds.{pllInvalid, sysPllInvalid, usbPllInvalid};
 ghost use Rattle.refusals.specs.Refusals.{refusalOf, examinedOf};
-
-fn strength_over(g: DriveStrength) -> bool
-    ensures { λ r. ⌜ r ≡ strengthOver g ⌝ }
-{
-    (7 < g.s0)
-        | (7 < g.s1)
-        | (7 < g.s2)
-        | (7 < g.s3)
-        | (7 < g.s4)
-        | (7 < g.s5)
-        | (7 < g.s6)
-        | (7 < g.s7)
-}
-
-fn strengths_over(ring: OptionRosc) -> bool
-    ensures { λ r. ⌜ r ≡ strengthsOver ring ⌝ }
-{
-    match ring {
-        OptionRosc::Some(on) => {
-            let strengths = on.drive_strength;
-            strength_over(strengths)
-        }
-        OptionRosc::None => false,
-    }
-}
-
-// The register has 16 bits.
-fn ring_divider_over(pass: u16, ring: OptionRosc) -> bool
-    ensures { λ r. ⌜ r ≡ ringDividerOver pass ring ⌝ }
-{
-    match ring {
-        OptionRosc::Some(on) => 65535 < on.div as u32 + pass as u32,
-        OptionRosc::None => false,
-    }
-}
-
-fn settling_over(settling: OptionCycles) -> bool
-    ensures { λ r. ⌜ r ≡ settlingOver settling ⌝ }
-{
-    match settling {
-        OptionCycles::Some(cycles) => 4294967295 < cycles,
-        OptionCycles::None => false,
-    }
-}
-
-fn startup_over(crystal: OptionCrystal) -> bool
-    ensures { λ r. ⌜ r ≡ startupOver crystal ⌝ }
-{
-    match crystal {
-        OptionCrystal::Some(on) => 16383 < on.delay,
-        OptionCrystal::None => false,
-    }
-}
 
 // A valid PLL gives 15 MHz or more, so one that is there with 0 Hz is invalid.
 fn pll_invalid(pll: OptionPll, pll_hz: u32) -> bool
@@ -108,53 +48,6 @@ fn plls_invalid(crystal: OptionCrystal, f: Sources) -> PllsBad
     }
 }
 
-fn divider_bad(div: u8) -> bool
-    ensures { λ r. ⌜ r ≡ dividerBad div ⌝ }
-{
-    !base::in_range(1, 4, div as u64)
-}
-
-fn reference_bad(hz: u32) -> bool
-    ensures { λ r. ⌜ r ≡ referenceBad hz ⌝ }
-{
-    (hz == 0) | (512000000 <= hz)
-}
-
-fn whole_bad(top: u32, whole: u32) -> bool
-    ensures { λ r. ⌜ r ≡ wholeBad top whole ⌝ }
-{
-    !base::in_range(1, top as u64, whole as u64)
-}
-
-fn peri_bad(hz: u64, peri: OptionPeri) -> bool
-    ensures { λ r. ⌜ r ≡ periBad hz peri ⌝ }
-{
-    match peri {
-        OptionPeri::Some(_) => hz == 0,
-        OptionPeri::None => false,
-    }
-}
-
-fn aux_bad(source: u32, aux: OptionAux) -> bool
-    ensures { λ r. ⌜ r ≡ auxBad source aux ⌝ }
-{
-    match aux {
-        OptionAux::Some(on) => (source == 0) | divider_bad(on.div) | (3 < on.phase),
-        OptionAux::None => false,
-    }
-}
-
-fn rtc_bad(source: u32, hz: u64, rtc: OptionRtc) -> bool
-    ensures { λ r. ⌜ r ≡ rtcBad source hz rtc ⌝ }
-{
-    match rtc {
-        OptionRtc::Some(on) => {
-            (source == 0) | whole_bad(16777215, on.div_int) | (3 < on.phase) | (65535 < hz)
-        }
-        OptionRtc::None => false,
-    }
-}
-
 // 18, then 1 to 14 rising; 0: none of them.
 fn refusal_of(s: Settings, f: Frequencies, reading: u8) -> u8
     ensures { λ r. ⌜ (f ≡ frequenciesOf s → r ≡ refusalOf s reading) ⌝ }
@@ -172,18 +65,18 @@ fn refusal_of(s: Settings, f: Frequencies, reading: u8) -> u8
     let rtc_clk = b.rtc;
     let sources = f.sources;
     let over = on.top_reading < reading;
-    let strengths = strengths_over(ring);
-    let ring_divider = ring_divider_over(on.pass, ring);
-    let settling = settling_over(cycles);
-    let startup = startup_over(crystal);
+    let strengths = grounds::strengths_over(ring);
+    let ring_divider = grounds::ring_divider_over(on.pass, ring);
+    let settling = grounds::settling_over(cycles);
+    let startup = grounds::startup_over(crystal);
     let plls = plls_invalid(crystal, sources);
-    let divider = divider_bad(ref_clk.div);
-    let reference = reference_bad(f.reference);
-    let whole = whole_bad(on.top_whole, b.whole);
-    let peri = peri_bad(f.peri, peri_clk);
-    let usb = aux_bad(f.usb_source, usb_clk);
-    let adc = aux_bad(f.adc_source, adc_clk);
-    let rtc = rtc_bad(f.rtc_source, f.rtc, rtc_clk);
+    let divider = grounds::divider_bad(ref_clk.div);
+    let reference = grounds::reference_bad(f.reference);
+    let whole = grounds::whole_bad(on.top_whole, b.whole);
+    let peri = grounds::peri_bad(f.peri, peri_clk);
+    let usb = grounds::aux_bad(f.usb_source, usb_clk);
+    let adc = grounds::aux_bad(f.adc_source, adc_clk);
+    let rtc = grounds::rtc_bad(f.rtc_source, f.rtc, rtc_clk);
     // From the last to the first: an earlier one decides.
     let n = base::number_when(rtc, 14, 0);
     let n = base::number_when(adc, 13, n);

@@ -1,3 +1,1 @@
--- What belongs to no one function.
--- Assumes nothing.
 pub mod Unclosed

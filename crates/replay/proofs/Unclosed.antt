@@ -1,12 +1,8 @@
 -- A text is taken up to its first newline, and what is behind it goes on from there: nothing is lost between.
--- Assumes nothing.
-use mathlib.Core.Path.{_≡_, _∙_}
-use mathlib.Core.Bool.{Bool, true, false}
+use mathlib.Core.{Path._≡_, Path._∙_, Bool.Bool, Bool.true, Bool.false}
 use mathlib.Core.List.{List, [], _∷_, _++_, append-assoc, append-nil}
 use Prim.Native.Nat.{ℕ, suc, _+_, _≤_, compare·suc-suc}
-use lib.Dec.{eqb, ltb}
-use lib.ListN.{length, drop, drop-of-length-le}
-use lib.Seq.{drop-drop}
+use lib.{Dec.eqb, Dec.ltb, ListN.length, ListN.drop, ListN.drop-of-length-le, Seq.drop-drop}
 use native.Mathlib.Omega.{arith}
 use borrow.Author.Tests.{lt-ltb}
 use Rattle.base.specs.Choice.{pick}

@@ -1,5 +1,4 @@
 -- What is held of a line whose text comes in pieces.
--- Assumes nothing.
 use mathlib.Core.List.{List, [], _∷_, _++_}
 use Prim.Native.Nat.{ℕ}
 use lib.Dec.{eqb}

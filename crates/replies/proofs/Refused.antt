@@ -1,5 +1,4 @@
 -- How long a refusal is.
--- Assumes nothing.
 use Prim.Native.Nat.{ℕ, suc, _+_, _^_, _≤_, _<_}
 use native.Mathlib.Omega.{arith}
 use lib.ListN.{length, length-append}

@@ -1,17 +1,13 @@
 -- One number more behind a space, and the first bytes of a buffer.
--- Assumes nothing.
 use mathlib.Core.Path.{_≡_, refl, sym, ap, _∙_}
 use mathlib.Core.List.{List, [], _∷_, _++_, append-nil, append-assoc}
 use Prim.Native.Nat.{ℕ, _+_, _<_, min}
-use native.Mathlib.Decide.{decLe}
-use native.Mathlib.Numerals.{add-one}
-use native.Mathlib.Omega.{arith}
-use lib.ListN.{length, take, getD}
-use lib.Seq.{take-suc, take-all}
+use native.Mathlib.{Decide.decLe, Numerals.add-one, Omega.arith}
+use lib.{ListN.length, ListN.take, ListN.getD, Seq.take-suc, Seq.take-all}
 use Rattle.text.specs.Decimal.{decimalOf}
 use Rattle.replies.specs.Reply.{spaced}
 
-spaced-append : (ns ms : List ℕ) → spaced (ns ++ ms) ≡ spaced ns ++ spaced ms
+pub spaced-append : (ns ms : List ℕ) → spaced (ns ++ ms) ≡ spaced ns ++ spaced ms
 spaced-append [] ms = refl
 spaced-append (n ∷ ns) ms =
     ap (λ (l : List ℕ). 32 ∷ l) (rw (spaced-append ns ms, append-assoc))

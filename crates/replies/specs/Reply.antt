@@ -1,14 +1,9 @@
 -- The texts that answers are made of.
--- Assumes nothing.
-use mathlib.Core.Bool.{Bool}
-use mathlib.Core.List.{List, [], _∷_, _++_}
+use mathlib.Core.{Bool.Bool, List.List, List.[], List._∷_, List._++_}
 use Prim.Native.Nat.{ℕ}
 use lib.ListN.{take}
-use Rattle.base.specs.Answer.{Answer, value, refusal}
-use Rattle.base.specs.Choice.{pick}
-use Rattle.text.specs.Decimal.{decimalOf}
-use Rattle.text.specs.Hex.{hexOf}
-use Rattle.text.specs.Ascii.{ascii}
+use Rattle.base.specs.{Answer.Answer, Answer.value, Answer.refusal, Choice.pick}
+use Rattle.text.specs.{Decimal.decimalOf, Hex.hexOf, Ascii.ascii}
 
 -- a line that is no case
 abbrev pub badCase : List ℕ

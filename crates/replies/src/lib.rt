@@ -63,6 +63,19 @@ fn put_spaced(out: &mut [u8], at: usize, ns: &[u64]) -> usize
     end
 }
 
+// The same of numbers of 32 bits.
+pub fn put_words(out: &mut [u8], at: usize, ns: &[u32]) -> usize
+    ensures { λ r. ⌜ Placed (now (out .entry)) at (spaced (now (ns .entry))) r (now (out .exit)) ⌝ }
+{
+    let mut end = base::least(at, out.len());
+    let mut i = 0;
+    while i < ns.len() {
+        end = put_next(out, end, base::wide(ns[i]));
+        i += 1;
+    }
+    end
+}
+
 // Numbers with one space between.
 pub fn put_row(out: &mut [u8], at: usize, first: u64, more: &[u64]) -> usize
     ensures { λ r. ⌜ Placed (now (out .entry)) at (rowText first (now (more .entry))) r (now (out .exit)) ⌝ }

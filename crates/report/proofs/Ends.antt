@@ -1,24 +1,18 @@
 -- The report of a plan, by what the writer answered.
--- Assumes nothing.
-use mathlib.Core.List.{List}
-use mathlib.Core.Path.{_≡_, sym, ap, _∙_}
+use mathlib.Core.{List.List, Path._≡_, Path.sym, Path.ap, Path._∙_}
 use Prim.Native.Nat.{ℕ, _/_, _≤_}
-use native.Mathlib.Decide.{ℕ-discrete}
-use native.Mathlib.Omega.{arith}
+use native.Mathlib.{Decide.ℕ-discrete, Omega.arith}
 use borrow.Author.Tests.{eq-eqb, ne-eqb}
-use lib.ListN.{length, take, length-append}
-use lib.Seq.{take-append-seam}
+use lib.{ListN.length, ListN.take, ListN.length-append, Seq.take-append-seam}
 use Rattle.base.specs.Answer.{value, refusal, lengthIs}
 use Rattle.base.specs.declared.Length.{Length}
 use Rattle.step.specs.Sheet.{maxBytes}
 use Rattle.config.specs.declared.ClockConfig.{ClockConfig}
 use Rattle.settings.specs.Settings.{settingsOf}
 use Rattle.sheet.specs.Writer.{sheetBytes, refusalIn, InitCall}
-use Rattle.sheet.proofs.Ends.{refused, sheet-most}
-use Rattle.sheet.proofs.Demand3.{answers, answered}
+use Rattle.sheet.proofs.{Ends.refused, Ends.sheet-most, Demand3.answers, Demand3.answered}
 use Rattle.replies.specs.Reply.{refusedLine}
-use Rattle.report.specs.Lines.{linesOf, reportNames}
-use Rattle.report.specs.Report.{reading, numbersOf, planReport}
+use Rattle.report.specs.{Lines.linesOf, Lines.reportNames, Report.reading, Report.printedNumbers, Report.planReport}
 use Rattle.report.specs.Ran.{ranOf, reportNumbers}
 use Rattle.report.proofs.Runs.{run-numbers}
 
@@ -35,7 +29,7 @@ module _ (p : ClockConfig) (b b′ : List ℕ) (r : Length) (o : InitCall p read
       let a = answered p reading b b′ r o n e in
       let sheet : take n b′ ≡ sheetBytes p reading
       = rw (a .bytes, a .count) (take-append-seam (sheetBytes p reading) _) in
-      let numbers : reportNumbers (ranOf (take n b′) (n / 8)) ≡ numbersOf (settingsOf p reading)
+      let numbers : reportNumbers (ranOf (take n b′) (n / 8)) ≡ printedNumbers (settingsOf p reading)
       = rw (sheet, a .count) (run-numbers p reading (a .ok) (o .typed)) in
       ap (linesOf reportNames) numbers ∙ rw (eq-eqb _ _ (a .ok))
 

@@ -1,22 +1,17 @@
 -- The example of docs/FORMAT.md, Program clocks: the report of `125000000`.
--- Assumes nothing.
-use mathlib.Core.List.{List, [], _∷_, _++_}
-use mathlib.Core.Path.{_≡_}
-use Prim.Native.Nat.{ℕ}
-use Prim.Native.String.{String}
+use mathlib.Core.{List.List, List.[], List._∷_, List._++_, Path._≡_}
+use Prim.Native.{Nat.ℕ, String.String}
 use borrow.Author.Tests.{eq-eqb}
 use lib.Count.{ones, ones-ones}
-use Rattle.text.specs.Ascii.{ascii}
-use Rattle.text.specs.Decimal.{decimalOf, valueOf, isNumber, numberOf}
+use Rattle.text.specs.{Ascii.ascii, Decimal.decimalOf, Decimal.valueOf, Decimal.isNumber, Decimal.numberOf}
 use Rattle.divider.specs.Clock.{dividedHz}
 use Rattle.chip.specs.declared.Chip.the-variants.{Rp2040}
 use Rattle.config.specs.Presets.{crystalPlan, systemPlan}
 use Rattle.settings.specs.Frequencies.{pllHz, sourcesOf, refHz, sysHz, tenOf}
 use Rattle.sheet.specs.Writer.{refusalIn}
-use Rattle.sheet.specs.Steps.{releaseMask}
+use Rattle.sheet_steps.specs.Steps.{releaseMask}
 use Rattle.sheet.proofs.Examples.{crystal-steps}
-use Rattle.report.specs.Lines.{lineOf}
-use Rattle.report.specs.Report.{reading, planReport, reportOf}
+use Rattle.report.specs.{Lines.lineOf, Report.reading, Report.planReport, Report.reportOf}
 
 -- each text closed by a newline
 abbrev pub texts : List String → List ℕ

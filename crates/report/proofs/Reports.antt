@@ -1,32 +1,23 @@
 -- What holds of every report.
--- Assumes nothing.
-use mathlib.Core.Bool.{Bool, true, false}
-use mathlib.Core.List.{List, [], _∷_, _++_}
-use mathlib.Core.Logic.{_⊎_, inl, inr}
-use mathlib.Core.Path.{_≡_, refl, ap, _∙_}
-use Prim.Native.Nat.{ℕ, _+_, _≤_}
-use Prim.Native.String.{String}
+use mathlib.Core.{Bool.Bool, Bool.true, Bool.false, List.List, List.[], List._∷_, List._++_}
+use mathlib.Core.{Logic._⊎_, Logic.inl, Logic.inr, Path._≡_, Path.refl, Path.ap, Path._∙_}
+use Prim.Native.{Nat.ℕ, Nat._+_, Nat._≤_, String.String}
 use native.Mathlib.Omega.{arith}
 use borrow.Author.Tests.{eq-eqb}
-use lib.Count.{ones, ones-le}
-use lib.ListN.{length, take, length-append}
+use lib.{Count.ones, Count.ones-le, ListN.length, ListN.take, ListN.length-append}
 use Rattle.base.specs.Answer.{value}
-use Rattle.text.specs.Ascii.{ascii}
-use Rattle.text.specs.Decimal.{valueOf, isNumber, numberOf}
-use Rattle.text.specs.Words.{upTo, lineNumberOf}
-use Rattle.text.proofs.Decimals.{length-decimal}
-use Rattle.text.proofs.Lines.{line-start}
+use Rattle.text.specs.{Ascii.ascii, Decimal.valueOf, Decimal.isNumber, Decimal.numberOf, Words.upTo, Words.lineNumberOf}
+use Rattle.text.proofs.{Decimals.length-decimal, Lines.line-start}
 use Rattle.config.specs.declared.ClockConfig.{ClockConfig}
-use Rattle.settings.specs.Settings.{settingsOf}
-use Rattle.settings.specs.Frequencies.{tenOf}
+use Rattle.settings.specs.{Settings.settingsOf, Frequencies.tenOf}
 use Rattle.settings.proofs.Small.{Hz}
 use Rattle.refusals.proofs.Stored.{EachHz, ten-small}
 use Rattle.sheet.proofs.Formed.{masks}
-use Rattle.sheet.specs.Steps.{releaseMask}
+use Rattle.sheet_steps.specs.Steps.{releaseMask}
 use Rattle.replies.specs.Reply.{refusedLine}
 use Rattle.replies.proofs.Refused.{refused-most}
 use Rattle.report.specs.Lines.{lineOf, linesOf, reportNames}
-use Rattle.report.specs.Report.{reading, numbersOf, planReport, plannedReport, targetReport, reportOf}
+use Rattle.report.specs.Report.{reading, printedNumbers, planReport, plannedReport, targetReport, reportOf}
 use Rattle.report.proofs.Systems.{Served, system-accepted}
 
 -- an input that has a target: its plan is accepted, and the report is its eleven lines
@@ -35,7 +26,7 @@ pub record Reported (input : List ℕ) : Type 0 where
   pub plan : ClockConfig
   pub read : lineNumberOf input ≡ value target
   pub served : Served target plan
-  pub lines : reportOf input ≡ linesOf reportNames (numbersOf (settingsOf plan reading))
+  pub lines : reportOf input ≡ linesOf reportNames (printedNumbers (settingsOf plan reading))
 
 -- every other input is refused with 24
 pub report-cases : (input : List ℕ) → (reportOf input ≡ refusedLine 24) ⊎ Reported input
@@ -97,4 +88,4 @@ report-most input = go (report-cases input)
         let few : ones mask ≤ 25 = ones-le 25 mask (omega (arith, masks (s .board .chip) .2)) in
         let each = each-append (tenOf s) (ones mask ∷ [])
         (ten-small s reading (r .served .typed) (r .served .accepted)) (omega arith, tt) in
-        rw (r .lines) (omega (arith, lines-most reportNames (numbersOf s) each))
+        rw (r .lines) (omega (arith, lines-most reportNames (printedNumbers s) each))

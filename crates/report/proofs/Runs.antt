@@ -1,34 +1,26 @@
 -- A run, call by call, and the numbers that the run of an accepted plan's sheet leaves.
--- Assumes nothing.
-use mathlib.Core.Bool.{Bool, true, false}
-use mathlib.Core.List.{List, [], _∷_, _++_, map}
+use mathlib.Core.{Bool.Bool, Bool.true, Bool.false, List.List, List.[], List._∷_, List._++_, List.map}
 use mathlib.Core.Path.{_≡_, refl, sym, ap, _∙_}
 use Prim.Native.Nat.{ℕ, zero, suc, _-_, _/_, _≤_, _<_}
-use native.Mathlib.Numerals.{add-one}
-use native.Mathlib.Omega.{arith}
+use native.Mathlib.{Numerals.add-one, Omega.arith}
 use borrow.Author.Tests.{eqb-true}
-use lib.Dec.{eqb}
-use lib.ListN.{length, take, replicate, length-map}
-use lib.Seq.{take-append-seam}
+use lib.{Dec.eqb, ListN.length, ListN.take, ListN.replicate, ListN.length-map, Seq.take-append-seam}
 use Rattle.base.specs.Answer.{Answer}
 use Rattle.step.specs.declared.Step.{Step}
 use Rattle.step.specs.Kinds as kind
 use Rattle.step.proofs.Sheets.{length-encoded}
 use Rattle.config.specs.declared.ClockConfig.{ClockConfig}
 use Rattle.settings.specs.declared.Settings.{Settings}
-use Rattle.settings.specs.Settings.{settingsOf}
-use Rattle.settings.specs.Frequencies.{tenOf}
-use Rattle.settings.specs.Typed.{Typed}
+use Rattle.settings.specs.{Settings.settingsOf, Frequencies.tenOf, Typed.Typed}
 use Rattle.refusals.specs.Refusals.{Accepted}
-use Rattle.sheet.specs.Steps.{releaseMask, clocksPart, stepsOf}
+use Rattle.sheet_steps.specs.Steps.{releaseMask, clocksPart, stepsOf}
 use Rattle.sheet.specs.Writer.{sheetBytes}
-use Rattle.runner.specs.declared.Runner.{Runner}
-use Rattle.runner.specs.declared.Stepped.{Stepped}
+use Rattle.runner.specs.declared.{Runner.Runner, Stepped.Stepped}
 use Rattle.runner.specs.Run.{Progress, Outcome, replyIs, steppedIs, fresh, isWait, advanceOf, Begun, startedWith, startOf}
 use Rattle.runner.specs.Calls.{answers, readyAnswer}
 use Rattle.up.specs.Up.{planSteps}
 use Rattle.up.proofs.Run.{sheet-starts, sheet-answers, sheet-run}
-use Rattle.report.specs.Report.{numbersOf}
+use Rattle.report.specs.Report.{printedNumbers}
 use Rattle.report.specs.Ran.{releasedIn, releasedBy, lastReleased, runs, ranOf, reportNumbers}
 
 -- one call, then the others
@@ -106,7 +98,7 @@ module _ (p : ClockConfig) (r : ℕ) (ok : Accepted p r) (t : Typed (settingsOf 
   unfolding sheetBytes
   calls = omega (arith, length-encoded (planSteps p r))
 
-  pub run-numbers : reportNumbers (ranOf (sheetBytes p r) (length (sheetBytes p r) / 8)) ≡ numbersOf (settingsOf p r)
+  pub run-numbers : reportNumbers (ranOf (sheetBytes p r) (length (sheetBytes p r) / 8)) ≡ printedNumbers (settingsOf p r)
   unfolding tenOf runs
   run-numbers =
       rw (

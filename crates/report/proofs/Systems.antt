@@ -1,34 +1,26 @@
 -- The `system_freq` plan of every target is accepted at reading 11.
--- Assumes nothing.
-use mathlib.Core.Bool.{Bool, true, false, not}
-use mathlib.Core.Path.{_≡_, refl, ap, _∙_}
+use mathlib.Core.{Bool.Bool, Bool.true, Bool.false, Bool.not, Path._≡_, Path.refl, Path.ap, Path._∙_}
 use Prim.Native.Nat.{ℕ}
 use native.Mathlib.Omega.{arith}
 use lib.Dec.{eqb, ltb}
-use Rattle.base.specs.Choice.{pick}
-use Rattle.base.specs.Answer.{value}
-use Rattle.voltage.specs.declared.CoreVoltage.{CoreVoltage}
-use Rattle.voltage.specs.declared.CoreVoltage.the-variants.{V1_10, V1_15}
-use Rattle.config.specs.declared.OptionPll.the-variants.{Some as pll}
-use Rattle.divider.specs.Clock.{dividedHz}
-use Rattle.divider.specs.Delay.{startupSum, cyclesPerUs, settlingCycles}
-use Rattle.pll.specs.declared.PllConfig.{PllConfig}
-use Rattle.pll.specs.Setting.{validOf}
-use Rattle.pll.specs.Search.{setting, searchOf}
-use Rattle.pll.proofs.Inputs.{found-valid, search-finds}
-use Rattle.pll.proofs.UsbPreset.{usb-preset}
-use Rattle.config.specs.declared.RoscRange.the-variants.{Medium}
+use Rattle.base.specs.{Choice.pick, Answer.value}
+use Rattle.voltage.specs.declared.{CoreVoltage.CoreVoltage, CoreVoltage.the-variants.V1_10, CoreVoltage.the-variants.V1_15}
+use Rattle.config.specs.declared.{OptionPll.the-variants.Some as pll, RoscRange.the-variants.Medium}
 use Rattle.config.specs.declared.ClockConfig.{ClockConfig}
+use Rattle.divider.specs.{Clock.dividedHz, Delay.startupSum, Delay.cyclesPerUs, Delay.settlingCycles}
+use Rattle.pll.specs.declared.PllConfig.{PllConfig}
+use Rattle.pll.specs.{Setting.validOf, Search.setting, Search.searchOf}
+use Rattle.pll.proofs.{Inputs.found-valid, Inputs.search-finds, UsbPreset.usb-preset}
 use Rattle.chip.specs.declared.Chip.the-variants.{Rp2040}
 use Rattle.config.specs.Presets.{ringConfig, feeding, fromPlls, crystalPlan, systemVoltage, systemPlanFrom, systemPlan}
 use Rattle.settings.specs.declared.Settings.{Settings}
 use Rattle.settings.specs.Settings.{settlingStep, settingsOf}
 use Rattle.settings.specs.Frequencies.{pllHz, sourcesOf, refHz, sysHz, sysIn}
-use Rattle.settings.proofs.Plls.{pll-silent}
-use Rattle.refusals.specs.Refusals.{strengthsOver, ringDividerOver, settlingOver, startupOver, sysPllInvalid}
-use Rattle.refusals.specs.Refusals.{usbPllInvalid, dividerBad, referenceBad, wholeBad, periBad, auxBad, rtcBad}
-use Rattle.refusals.specs.Refusals.{refusalOf, Accepted}
 use Rattle.settings.specs.Typed.{Typed}
+use Rattle.settings.proofs.Plls.{pll-silent}
+use Rattle.grounds.specs.Grounds.{strengthsOver, ringDividerOver, settlingOver, startupOver, sysPllInvalid, usbPllInvalid}
+use Rattle.grounds.specs.Grounds.{dividerBad, referenceBad, wholeBad, periBad, auxBad, rtcBad}
+use Rattle.refusals.specs.Refusals.{refusalOf, Accepted}
 use Rattle.report.specs.Report.{reading}
 
 -- undivided, a frequency stays as it is

@@ -1,19 +1,15 @@
 -- The whole output of program `clocks`, for its input.
--- Assumes nothing.
 use mathlib.Core.List.{List, [], _∷_, _++_}
 use Prim.Native.Nat.{ℕ}
-use lib.Count.{ones}
-use lib.Dec.{eqb}
-use Rattle.base.specs.Answer.{Answer, value, refusal}
-use Rattle.base.specs.Choice.{pick}
+use lib.{Count.ones, Dec.eqb}
+use Rattle.base.specs.{Answer.Answer, Answer.value, Answer.refusal, Choice.pick}
 use Rattle.text.specs.Words.{lineNumberOf}
 use Rattle.chip.specs.declared.Chip.the-variants.{Rp2040}
 use Rattle.config.specs.declared.ClockConfig.{ClockConfig}
 use Rattle.config.specs.Presets.{systemPlan}
 use Rattle.settings.specs.declared.Settings.{Settings}
-use Rattle.settings.specs.Settings.{settingsOf}
-use Rattle.settings.specs.Frequencies.{tenOf}
-use Rattle.sheet.specs.Steps.{releaseMask}
+use Rattle.settings.specs.{Settings.settingsOf, Frequencies.tenOf}
+use Rattle.sheet_steps.specs.Steps.{releaseMask}
 use Rattle.sheet.specs.Writer.{refusalIn}
 use Rattle.replies.specs.Reply.{refusedLine}
 use Rattle.report.specs.Lines.{linesOf, reportNames}
@@ -23,13 +19,13 @@ abbrev pub reading : ℕ
 reading = 11
 
 -- the stored values of the sheet, then the count of ones in the last release mask
-abbrev pub numbersOf : Settings → List ℕ
-numbersOf s = tenOf s ++ (ones (releaseMask (s .board .chip) (s .peri) (s .usb) (s .adc) (s .board .rtc)) ∷ [])
+abbrev pub printedNumbers : Settings → List ℕ
+printedNumbers s = tenOf s ++ (ones (releaseMask (s .board .chip) (s .peri) (s .usb) (s .adc) (s .board .rtc)) ∷ [])
 
 -- a plan that is refused at the reading has no sheet
 unfoldable pub planReport : ClockConfig → List ℕ
 planReport p =
-    pick (eqb (refusalIn p reading) 0) (linesOf reportNames (numbersOf (settingsOf p reading)))
+    pick (eqb (refusalIn p reading) 0) (linesOf reportNames (printedNumbers (settingsOf p reading)))
     (refusedLine (refusalIn p reading))
 
 abbrev pub plannedReport : Answer ClockConfig → List ℕ

@@ -1,23 +1,17 @@
 -- A word of hex read over zeros, the first word, and what is left behind it.
--- Assumes nothing.
-use mathlib.Core.Path.{_≡_, ap, _∙_}
-use mathlib.Core.List.{List, _++_}
+use mathlib.Core.{Path._≡_, Path.ap, Path._∙_, List.List, List._++_}
 use Prim.Native.Nat.{ℕ, _+_, _-_, _≤_}
-use native.Mathlib.Nat.{zero-add}
-use native.Mathlib.Omega.{arith}
+use native.Mathlib.{Nat.zero-add, Omega.arith}
 use borrow.Author.Tests.{leb-true}
-use lib.ListN.{length, take, drop, length-drop, replicate}
-use lib.Seq.{take-all, sets, sets-eq}
+use lib.{ListN.length, ListN.take, ListN.drop, ListN.length-drop, ListN.replicate, Seq.take-all, Seq.sets, Seq.sets-eq}
 use Rattle.base.proofs.Bools.{both-true}
-use Rattle.text.specs.Words.{upTo, indexFrom}
+use Rattle.text.specs.{Words.upTo, Words.indexFrom, Hex.isHexWord, Hex.pairValues, Hex.isReadable, Hex.HexReading}
 use Rattle.fields.proofs.Tails.{first-word}
-use Rattle.text.specs.Hex.{isHexWord, pairValues, isReadable, HexReading}
 use Rattle.step.specs.Sheet.{maxBytes}
 use Rattle.runner.specs.Run.{padded}
 use Rattle.runner.proofs.Starts.{drop-zeros}
 use Rattle.text.proofs.HexWords.{word-read}
-use Rattle.text.specs.declared.HexRead.{HexRead}
-use Rattle.text.specs.declared.HexRead.the-variants.{Bytes}
+use Rattle.text.specs.declared.{HexRead.HexRead, HexRead.the-variants.Bytes}
 
 -- read over zeros, the bytes stand in front of them
 pub word-padded : {w ys : List ℕ} {r : HexRead} {k : ℕ} → r ≡ Bytes k → HexReading w (replicate maxBytes 0) r ys

@@ -1,20 +1,13 @@
 -- What the cases `run` and `start` answer, from their numbers n and the two words of hex behind them, KEPT and SHEET.
--- Assumes nothing.
 use mathlib.Core.List.{List, [], _∷_, _++_}
 use Prim.Native.Nat.{ℕ}
-use lib.Dec.{eqb}
+use lib.{Dec.eqb, ListN.take}
 use Rattle.base.specs.Choice.{pick, bit}
-use lib.ListN.{take}
-use Rattle.text.specs.Hex.{isReadable, pairValues, hexOf}
-use Rattle.text.specs.Decimal.{decimalOf}
-use Rattle.text.specs.Words.{upTo}
+use Rattle.text.specs.{Hex.isReadable, Hex.pairValues, Hex.hexOf, Decimal.decimalOf, Words.upTo, Ascii.ascii}
 use Rattle.step.specs.Sheet.{maxBytes}
-use Rattle.runner.specs.declared.Stepper.{Stepper}
-use Rattle.runner.specs.declared.Runner.{Runner}
+use Rattle.runner.specs.declared.{Stepper.Stepper, Runner.Runner}
 use Rattle.runner.specs.Run.{Progress, done, handed, passed, waiting, Outcome, advanceOf, Go, started, Begun, padded, startOf}
-use Rattle.text.specs.Ascii.{ascii}
-use Rattle.fields.specs.Row.{nth, tenAt}
-use Rattle.fields.specs.Fields.{Tail, ended, more, bad, behind}
+use Rattle.fields.specs.{Row.nth, Row.tenAt, Fields.Tail, Fields.ended, Fields.more, Fields.bad, Fields.behind}
 use Rattle.replies.specs.Reply.{badCase, answerText, rowText}
 use Rattle.run_cases.specs.declared.Ask.{Ask}
 
@@ -36,7 +29,7 @@ runnerOfCase n at kept =
 abbrev pub stepperText : Stepper → List ℕ
 stepperText b =
     let s = b .state in
-    rowText (s .position) (s .«lock_polls» ∷ s .total ∷ bit (s .stopped) ∷ tenAt (b .freqs) 0)
+    rowText (s .position) (s .«lock_polls» ∷ s .total ∷ bit (s .stopped) ∷ b .freqs)
 
 -- `step` with KIND and the five fields, or a word
 abbrev pub progressText : Progress → List ℕ
@@ -67,25 +60,25 @@ askText Ask.Start r sheet = begunText (startOf r sheet)
 askText (Ask.Call ready) r sheet = outcomeText (advanceOf r sheet ready)
 
 -- a sheet of up to 2048 bytes is read, longer ones are no case
-unfoldable pub sheetText : Ask → Runner → List ℕ → List ℕ
-sheetText ask r word = pick (isReadable word 2048) (askText ask r (pairValues word)) badCase
+unfoldable pub askedSheet : Ask → Runner → List ℕ → List ℕ
+askedSheet ask r word = pick (isReadable word 2048) (askText ask r (pairValues word)) badCase
 
 abbrev pub behindText : Ask → Runner → Tail → List ℕ
 behindText ask r ended = badCase
-behindText ask r (more word) = sheetText ask r word
+behindText ask r (more word) = askedSheet ask r word
 behindText ask r bad = badCase
 
 -- KEPT gives up to 528 bytes; zeros follow
-unfoldable pub wordsText : Ask → List ℕ → ℕ → List ℕ → List ℕ
-wordsText ask n at words =
+unfoldable pub askedWords : Ask → List ℕ → ℕ → List ℕ → List ℕ
+askedWords ask n at words =
     pick (isReadable (upTo 32 words) maxBytes)
     (behindText ask (runnerOfCase n at (padded (pairValues (upTo 32 words)))) (behind words))
     badCase
 
 -- READY and LEN are the last numbers
 abbrev pub runText : List ℕ → List ℕ → List ℕ
-runText n words = wordsText (Ask.Call (eqb (nth n 14) 1)) n 15 words
+runText n words = askedWords (Ask.Call (eqb (nth n 14) 1)) n 15 words
 
 -- LEN is the last number
 abbrev pub startText : List ℕ → List ℕ → List ℕ
-startText n words = wordsText Ask.Start n 14 words
+startText n words = askedWords Ask.Start n 14 words

@@ -1,5 +1,4 @@
 // The cases `run` and `start`: a call and a start of the runner.
-use base::wide;
 use runner::Opened;
 use runner::Opening;
 use runner::Reply;
@@ -18,7 +17,7 @@ ghost use Rattle.fields.specs.Fields.{tailAt};
 ghost use Rattle.text.specs.Ascii.{ascii};
 ghost use Rattle.replies.specs.Reply.{answerText};
 ghost use Rattle.run_cases.specs.Runs.{runnerOfCase, stepperText, progressText, outcomeText, goText, keptText, begunText};
-ghost use Rattle.run_cases.specs.Runs.{askText, sheetText, behindText, wordsText, runText, startText};
+ghost use Rattle.run_cases.specs.Runs.{askText, askedSheet, behindText, askedWords, runText, startText};
 
 // What is asked of a runner.
 enum Ask {
@@ -48,26 +47,9 @@ pub fn put_stepper(out: &mut [u8], at: usize, stepper: Stepper) -> usize
 {
     let s = stepper.state;
     let f = stepper.freqs;
-    replies::put_row(
-        out,
-        at,
-        s.position as u64,
-        &[
-            wide(s.lock_polls),
-            wide(s.total),
-            wide(base::bit(s.stopped)),
-            wide(f[0]),
-            wide(f[1]),
-            wide(f[2]),
-            wide(f[3]),
-            wide(f[4]),
-            wide(f[5]),
-            wide(f[6]),
-            wide(f[7]),
-            wide(f[8]),
-            wide(f[9]),
-        ],
-    )
+    let end = text::put_decimal(out, at, s.position as u64);
+    let end = replies::put_words(out, end, &[s.lock_polls, s.total, base::bit(s.stopped)]);
+    replies::put_words(out, end, &f)
 }
 
 fn put_step(out: &mut [u8], s: Step) -> usize
@@ -148,7 +130,7 @@ fn put_asked(ask: Ask, r: Runner, sheet: &[u8], out: &mut [u8]) -> usize
 }
 
 fn put_on_sheet(ask: Ask, r: Runner, word: &[u8], out: &mut [u8]) -> usize
-    ensures { λ x. ⌜ Placed (now (out .entry)) 0 (sheetText ask r (now (word .entry))) x (now (out .exit)) ⌝ }
+    ensures { λ x. ⌜ Placed (now (out .entry)) 0 (askedSheet ask r (now (word .entry))) x (now (out .exit)) ⌝ }
 {
     let mut sheet = [0u8; 2048];
     match text::hex_bytes(word, &mut sheet) {
@@ -169,7 +151,7 @@ fn put_behind(ask: Ask, r: Runner, words: &[u8], end: usize, out: &mut [u8]) -> 
 }
 
 fn put_words(ask: Ask, n: &[u32; 64], at: usize, words: &[u8], out: &mut [u8]) -> usize
-    ensures { λ x. ⌜ Placed (now (out .entry)) 0 (wordsText ask (now (n .entry)) at (now (words .entry))) x (now (out .exit)) ⌝ }
+    ensures { λ x. ⌜ Placed (now (out .entry)) 0 (askedWords ask (now (n .entry)) at (now (words .entry))) x (now (out .exit)) ⌝ }
 {
     let end = text::index_from(words, 0, b' ');
     let mut kept = [0u8; MAX_BYTES];

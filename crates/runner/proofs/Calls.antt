@@ -1,27 +1,20 @@
 -- Which rule a call falls under.
--- Assumes nothing.
-use mathlib.Core.Bool.{Bool, true, false, _||_, not}
-use mathlib.Core.List.{List}
-use mathlib.Core.Path.{_≡_, refl}
-use Prim.Native.Nat.{ℕ, _+_, _*_, _%_, _<_, _≤_}
+use mathlib.Core.{Bool.Bool, Bool.true, Bool.false, Bool._||_, Bool.not, List.List, Path._≡_, Path.refl}
+use Prim.Native.Nat.{ℕ, _+_, _*_, _<_, _≤_}
 use borrow.Author.Tests.{le-leb, lt-leb, ltb-false}
 use native.Mathlib.Omega.{arith}
-use lib.Dec.{eqb, ltb, leb}
-use lib.ListN.{length, take}
-use Rattle.base.specs.Answer.{Answer, value, refusal}
-use Rattle.base.specs.Choice.{pick}
+use lib.{Dec.eqb, Dec.ltb, Dec.leb, ListN.length, ListN.take}
+use Rattle.base.specs.{Answer.Answer, Answer.value, Answer.refusal, Choice.pick}
 use Rattle.base.proofs.Bools.{both-false}
 use Rattle.step.specs.declared.Step.{Step}
 use Rattle.step.specs.Kinds as kind
-use Rattle.step.specs.Access.{readAt}
-use Rattle.step.specs.Sheet.{maxSteps, maxBytes}
+use Rattle.step.specs.{Access.readAt, Sheet.maxSteps, Sheet.maxBytes}
+use Rattle.kept.proofs.Sizes.{size-fits}
 use Rattle.runner.specs.declared.State.{State}
 use Rattle.runner.specs.Run.{Outcome, outcome, done, handed, passed, movedOn, polled, waits, isWait, unready}
+use Rattle.runner.specs.Run.{takeStep, takeRead, outside, onwardOf, turnOf}
 use Rattle.text.specs.Ascii.{same}
-use Rattle.runner.specs.Run.{takeStep, takeRead, outside, badSize, onwardOf, turnOf}
-
-pub size-fits : (n : ℕ) → badSize n ≡ false → n ≤ maxBytes
-size-fits n e = ltb-false maxBytes n (both-false (ltb maxBytes n) (not (eqb (n % 8) 0)) e .0)
+use Rattle.kept.specs.Kept.{badSize}
 
 module _ (s : State) (len : ℕ) (o : outside s len ≡ false) where
   ranged : ((ltb maxSteps (s .position) || ltb 999999 (s .«lock_polls»)) ≡ false) × (badSize len ≡ false)

@@ -1,11 +1,8 @@
 -- The types of the functions that change a runner in place, as base's `InPlace` goes by them.
--- Assumes nothing.
-use mathlib.Core.Path.{refl}
-use mathlib.Core.List.{[], _∷_}
+use mathlib.Core.{Path.refl, List.[], List._∷_}
 use Prim.Native.Nat.{_+_}
 use mir.Syntax.{field}
-use types.Part.{whole, sub, store-in}
-use types.Run.{fld, stop}
+use types.{Part.whole, Part.sub, Part.store-in, Run.fld, Run.stop}
 use denote.Struct.Laws as LL
 use Rattle.base.proofs.Solid.{Solid, Returned, Stored, struct, enum, two, in-raw}
 use Rattle.runner.specs.Run.{withStepper}

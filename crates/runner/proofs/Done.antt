@@ -1,22 +1,16 @@
 -- What done leaves: the runner as it was, for ever.
--- Assumes nothing.
-use mathlib.Core.Bool.{Bool, true, false, not}
-use mathlib.Core.List.{List}
-use mathlib.Core.Logic.{_⊎_, inl, inr}
+use mathlib.Core.{Bool.Bool, Bool.true, Bool.false, Bool.not, List.List, Logic._⊎_, Logic.inl, Logic.inr}
 use mathlib.Core.Path.{_≡_, refl}
 use Prim.Native.Nat.{ℕ, _+_, _*_}
-use lib.Dec.{eqb, ltb, leb}
-use lib.ListN.{length, take}
-use Rattle.base.specs.Answer.{Answer, value, refusal}
-use Rattle.base.specs.Choice.{pick}
+use lib.{Dec.eqb, Dec.ltb, Dec.leb, ListN.length, ListN.take}
+use Rattle.base.specs.{Answer.Answer, Answer.value, Answer.refusal, Choice.pick}
 use Rattle.step.specs.declared.Step.{Step}
 use Rattle.step.specs.Kinds as kind
 use Rattle.step.specs.Access.{readAt}
-use Rattle.runner.specs.declared.State.{State}
-use Rattle.runner.specs.declared.Runner.{Runner}
-use Rattle.runner.specs.Run.{Progress, done, handed, passed, waiting, Outcome, outcome, isWait, unready}
+use Rattle.runner.specs.declared.{State.State, Runner.Runner}
+use Rattle.runner.specs.Run.{Progress, done, handed, passed, waiting, Outcome, outcome, isWait, unready, takeStep}
+use Rattle.runner.specs.Run.{takeRead, outside, onwardOf, turnOf, stepperOf, advanceOf}
 use Rattle.text.specs.Ascii.{same}
-use Rattle.runner.specs.Run.{takeStep, takeRead, outside, onwardOf, turnOf, stepperOf, advanceOf}
 use Rattle.runner.proofs.Calls.{both}
 
 abbrev NotDone : Answer Progress → Type 0

@@ -1,26 +1,20 @@
 -- What a call gives to a runner that is under way over a sheet of well-formed steps.
--- Assumes nothing.
 use Prim.Native.Nat.{ℕ, _+_, _*_, _%_, _≤_, _<_}
 use native.Mathlib.Omega.{arith}
-use mathlib.Core.Bool.{Bool, true, false}
-use mathlib.Core.List.{List}
-use mathlib.Core.Path.{_≡_, refl, sym, _∙_}
+use mathlib.Core.{Bool.Bool, Bool.true, Bool.false, List.List, Path._≡_, Path.refl, Path.sym, Path._∙_}
 use borrow.Author.Tests.{lt-ltb, le-ltb, eq-eqb, eqb-true}
-use lib.Dec.{eqb}
-use lib.ListN.{length}
+use lib.{Dec.eqb, ListN.length}
 use Rattle.base.specs.Answer.{value}
 use Rattle.step.specs.declared.Step.{Step}
 use Rattle.step.specs.Kinds as kind
-use Rattle.step.specs.Access.{readAt}
-use Rattle.step.specs.Sheet.{maxSteps, maxBytes}
-use Rattle.runner.specs.declared.State.{State}
-use Rattle.runner.specs.declared.Runner.{Runner}
+use Rattle.step.specs.{Access.readAt, Sheet.maxSteps, Sheet.maxBytes}
+use Rattle.runner.specs.declared.{State.State, Runner.Runner}
 use Rattle.runner.specs.Run.{done, handed, passed, waiting, Outcome, outcome, isWait, oneMore, movedOn, unready}
-use Rattle.runner.specs.Run.{takeStep, takeRead, outside, badSize, padded, withStepper, startedWith, onwardOf, turnOf}
+use Rattle.runner.specs.Run.{takeStep, takeRead, outside, padded, withStepper, startedWith, onwardOf, turnOf}
 use Rattle.runner.specs.Run.{storedBy, joined, inRunner, stepperOf, advanceOf}
+use Rattle.kept.specs.Kept.{badSize}
 use Rattle.text.proofs.Same.{same-refl}
-use Rattle.runner.proofs.Starts.{kept-sheet}
-use Rattle.runner.proofs.Calls.{onward-done, onward-read, call-goes}
+use Rattle.runner.proofs.{Starts.kept-sheet, Calls.onward-done, Calls.onward-read, Calls.call-goes}
 
 abbrev pub going : ℕ → ℕ → ℕ → State
 going p polls total = record { position = p; «lock_polls» = polls; total = total; stopped = false }

@@ -1,4 +1,3 @@
-pub mod Same
 pub mod Calls
 pub mod Changed
 pub mod Starts

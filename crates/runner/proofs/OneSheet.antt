@@ -1,7 +1,5 @@
 -- A runner goes by the sheet that it was started with, and by no other.
--- Assumes nothing.
-use mathlib.Core.Bool.{Bool, true, false}
-use mathlib.Core.List.{List, [], _∷_}
+use mathlib.Core.{Bool.Bool, Bool.true, Bool.false, List.List, List.[], List._∷_}
 use mathlib.Core.Path.{_≡_, refl, sym, ap, _∙_}
 use Prim.Native.Nat.{ℕ}
 use lib.ListN.{take}

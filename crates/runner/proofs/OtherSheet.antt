@@ -1,31 +1,24 @@
 -- Whatever calls came before, a started runner refuses any other sheet with 27, or with 22 once it is stopped.
--- Assumes nothing.
-use mathlib.Core.Bool.{Bool, true, false, not}
-use mathlib.Core.List.{List, [], _∷_}
+use mathlib.Core.{Bool.Bool, Bool.true, Bool.false, Bool.not, List.List, List.[], List._∷_}
 use mathlib.Core.Path.{_≡_, refl, sym, ap, _∙_}
 use Prim.Native.Nat.{ℕ, _+_, _*_, _%_, _≤_, _<_}
 use native.Mathlib.Omega.{arith}
 use borrow.Author.Tests.{leb-false, ltb-true, eqb-true, le-ltb, not-false}
-use lib.Dec.{eqb, ltb, leb}
-use lib.ListN.{length, take, length-take}
-use Rattle.base.specs.Answer.{Answer, value, refusal}
-use Rattle.base.specs.Choice.{pick}
+use lib.{Dec.eqb, Dec.ltb, Dec.leb, ListN.length, ListN.take, ListN.length-take}
+use Rattle.base.specs.{Answer.Answer, Answer.value, Answer.refusal, Choice.pick}
 use Rattle.base.proofs.Bools.{both-false}
 use Rattle.step.specs.declared.Step.{Step}
 use Rattle.step.specs.Kinds as kind
-use Rattle.step.specs.Access.{readAt}
-use Rattle.step.specs.Sheet.{maxSteps, maxBytes}
+use Rattle.step.specs.{Access.readAt, Sheet.maxSteps, Sheet.maxBytes}
 use Rattle.text.specs.Ascii.{same}
 use Rattle.text.proofs.Same.{same-length}
-use Rattle.runner.specs.declared.State.{State}
-use Rattle.runner.specs.declared.Runner.{Runner}
-use Rattle.runner.specs.Run.{Outcome, outcome, unready, isWait, takeStep, takeRead, badSize, outside, onwardOf, turnOf}
+use Rattle.runner.specs.declared.{State.State, Runner.Runner}
+use Rattle.runner.specs.Run.{Outcome, outcome, unready, isWait, takeStep, takeRead, outside, onwardOf, turnOf}
 use Rattle.runner.specs.Run.{stepperOf, padded, startedWith, advanceOf}
 use Rattle.runner.specs.Calls.{Call, call, afterCalls}
-use Rattle.runner.proofs.Calls.{both, size-fits}
-use Rattle.runner.proofs.Starts.{kept-sheet}
-use Rattle.runner.proofs.Untouched.{stopped-stays}
-use Rattle.runner.proofs.OneSheet.{other-refused}
+use Rattle.kept.specs.Kept.{badSize}
+use Rattle.runner.proofs.{Calls.both, Starts.kept-sheet, Untouched.stopped-stays, OneSheet.other-refused}
+use Rattle.kept.proofs.Sizes.{size-fits}
 
 either : {A : Type 0} (P : A → Type 0) (b : Bool) (x y : A) → (b ≡ true → P x) → (b ≡ false → P y) → P (pick b x y)
 either P true x y p q = p refl

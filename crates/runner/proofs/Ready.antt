@@ -1,17 +1,12 @@
 -- A sheet of well-formed steps under a runner that was started with it and hears ready each time.
--- Assumes nothing.
-use mathlib.Core.Bool.{Bool, true, false}
-use mathlib.Core.List.{List, [], _∷_, _++_, map}
+use mathlib.Core.{Bool.Bool, Bool.true, Bool.false, List.List, List.[], List._∷_, List._++_, List.map}
 use mathlib.Core.Path.{_≡_, refl, ap, _∙_}
 use Prim.Native.Nat.{ℕ, suc, _+_, _*_, _≤_, _<_}
-use native.Mathlib.Nat.{add-zero, zero-add}
-use native.Mathlib.Numerals.{add-one}
-use native.Mathlib.Omega.{arith}
+use native.Mathlib.{Nat.add-zero, Nat.zero-add, Numerals.add-one, Omega.arith}
 use lib.ListN.{length, getD, replicate}
 use Rattle.base.specs.Answer.{Answer, value}
 use Rattle.step.specs.declared.Step.{Step}
-use Rattle.step.specs.Access.{readAt}
-use Rattle.step.specs.Sheet.{maxSteps, encoded, AllFormed}
+use Rattle.step.specs.{Access.readAt, Sheet.maxSteps, Sheet.encoded, Sheet.AllFormed}
 use Rattle.step.proofs.Sheets.{length-encoded, read-encoded}
 use Rattle.runner.specs.declared.Runner.{Runner}
 use Rattle.runner.specs.Run.{Progress, done, Outcome, outcome, isWait, takeStep, storedBy, freqsAfter, startedWith, advanceOf}

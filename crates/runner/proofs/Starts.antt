@@ -1,20 +1,14 @@
 -- What a start leaves.
--- Assumes nothing.
-use mathlib.Core.Bool.{Bool, true, false}
-use mathlib.Core.List.{List, _++_}
-use mathlib.Core.Path.{_≡_, refl, sym, ap, _∙_}
+use mathlib.Core.{Bool.Bool, Bool.true, Bool.false, List.List, List._++_, Path._≡_, Path.refl, Path.sym, Path.ap, Path._∙_}
 use Prim.Native.Nat.{ℕ, _+_, _-_, _≤_}
 use native.Mathlib.Omega.{arith}
 use lib.ListN.{length, take, drop, replicate, replicate-append-replicate, length-replicate, length-append}
 use lib.Seq.{take-length, drop-append-seam, take-append-seam}
-use Rattle.base.specs.Answer.{value, refusal}
-use Rattle.base.specs.Choice.{pick}
+use Rattle.base.specs.{Answer.value, Answer.refusal, Choice.pick}
 use Rattle.step.specs.Sheet.{maxBytes}
-use Rattle.runner.specs.declared.Runner.{Runner}
-use Rattle.runner.specs.declared.Stepper.{Stepper}
-use Rattle.runner.specs.declared.Opening.{Opening}
-use Rattle.runner.specs.declared.Opened.{Opened}
-use Rattle.runner.specs.Run.{Begun, begun, started, openingIs, openedIs, badSize, padded, freshStepper, startedWith, startOf}
+use Rattle.runner.specs.declared.{Runner.Runner, Stepper.Stepper, Opening.Opening, Opened.Opened}
+use Rattle.runner.specs.Run.{Begun, begun, started, openingIs, openedIs, padded, freshStepper, startedWith, startOf}
+use Rattle.kept.specs.Kept.{badSize}
 
 module _ (r : Runner) (sheet : List ℕ) where
   pub start-refused : badSize (length sheet) ≡ true → begun (refusal 20) r ≡ startOf r sheet

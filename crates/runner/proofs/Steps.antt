@@ -1,17 +1,12 @@
 -- What is known of a step that was read from a sheet, and so of one that is handed out.
--- Assumes nothing.
-use mathlib.Core.Bool.{Bool, true, false, _&&_}
-use mathlib.Core.List.{List}
-use mathlib.Core.Path.{_≡_}
+use mathlib.Core.{Bool.Bool, Bool.true, Bool.false, Bool._&&_, List.List, Path._≡_}
 use Prim.Native.Nat.{ℕ, _*_, _<_}
 use native.Mathlib.Omega.{arith}
 use lib.Dec.{T, leb, leb→le}
 use Rattle.base.specs.Answer.{value}
 use Rattle.step.specs.declared.Step.{Step}
 use Rattle.step.specs.Kinds as kind
-use Rattle.step.specs.Access.{readAt}
-use Rattle.step.specs.Layout.{rows, width, widths}
-use Rattle.step.specs.Steps.{storable, WellFormed}
+use Rattle.step.specs.{Access.readAt, Layout.rows, Layout.width, Layout.widths, Steps.storable, Steps.WellFormed}
 use Rattle.step.proofs.Accesses.{read-sound}
 use Rattle.runner.specs.declared.State.{State}
 use Rattle.runner.specs.Run.{Outcome, HandsFormed, turnOf}

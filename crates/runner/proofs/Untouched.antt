@@ -1,17 +1,9 @@
 -- What a refusal leaves: the runner as it was, save at the lock timeout.
--- Assumes nothing.
-use mathlib.Core.Bool.{Bool, true, false}
-use mathlib.Core.List.{List, [], _∷_}
-use mathlib.Core.Logic.{inl, inr}
-use mathlib.Core.Path.{_≡_, refl}
+use mathlib.Core.{Bool.Bool, Bool.true, Bool.false, List.List, List.[], List._∷_, Logic.inl, Logic.inr, Path._≡_, Path.refl}
 use Prim.Native.Nat.{ℕ}
-use Rattle.base.specs.Answer.{Answer, value, refusal}
-use Rattle.base.specs.Choice.{pick}
-use Rattle.runner.specs.declared.State.{State}
-use Rattle.runner.specs.declared.Stepper.{Stepper}
-use Rattle.runner.specs.declared.Runner.{Runner}
-use Rattle.runner.specs.Run.{Progress, Outcome, outcome, polled}
-use Rattle.runner.specs.Run.{outside, turnOf, joined, stepperOf, inRunner, advanceOf}
+use Rattle.base.specs.{Answer.Answer, Answer.value, Answer.refusal, Choice.pick}
+use Rattle.runner.specs.declared.{State.State, Stepper.Stepper, Runner.Runner}
+use Rattle.runner.specs.Run.{Progress, Outcome, outcome, polled, outside, turnOf, joined, stepperOf, inRunner, advanceOf}
 use Rattle.runner.specs.Calls.{after, Untouched, stepperTimedOut, timedOut}
 use Rattle.runner.proofs.Calls.{every-turn}
 

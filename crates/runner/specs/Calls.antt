@@ -1,19 +1,11 @@
 -- Inside: calls over one sheet, one for each ready flag, and what is expected of them where all are ready.
--- Assumes nothing.
 use Prim.Native.Nat.{ℕ}
-use mathlib.Core.Bool.{Bool, true, false}
-use mathlib.Core.Logic.{_⊎_}
-use mathlib.Core.Path.{_≡_}
-use mathlib.Core.List.{List, [], _∷_}
-use Rattle.base.specs.Answer.{Answer, value, refusal}
-use Rattle.base.specs.Choice.{pick}
+use mathlib.Core.{Bool.Bool, Bool.true, Bool.false, Logic._⊎_, Path._≡_, List.List, List.[], List._∷_}
+use Rattle.base.specs.{Answer.Answer, Answer.value, Answer.refusal, Choice.pick}
 use Rattle.step.specs.declared.Step.{Step}
-use Rattle.runner.specs.declared.State.{State}
-use Rattle.runner.specs.declared.Stepper.{Stepper}
-use Rattle.runner.specs.declared.Runner.{Runner}
+use Rattle.runner.specs.declared.{State.State, Stepper.Stepper, Runner.Runner}
 use Rattle.text.specs.Ascii.{same}
-use Rattle.runner.specs.Run.{Progress, handed, passed, Outcome, isWait, polled, storedBy, withStepper, startedWith}
-use Rattle.runner.specs.Run.{advanceOf}
+use Rattle.runner.specs.Run.{Progress, handed, passed, Outcome, isWait, polled, storedBy, withStepper, startedWith, advanceOf}
 
 -- what the calls answer
 abbrev pub answers : Runner → List ℕ → List Bool → List (Answer Progress)

@@ -1,27 +1,15 @@
 -- What a start and each call of the runner answer and leave, for every runner, sheet and ready flag.
--- Assumes nothing.
-use Prim.Native.Nat.{ℕ, _+_, _-_, _*_, _%_}
-use mathlib.Core.Bool.{Bool, true, false, _||_, not}
-use mathlib.Core.List.{List, _++_}
-use lib.Dec.{eqb, ltb, leb}
-use lib.ListN.{length, getD, set, take, replicate}
-use Rattle.base.specs.Answer.{Answer, value, refusal}
-use Rattle.base.specs.Choice.{pick}
+use Prim.Native.Nat.{ℕ, _+_, _-_, _*_}
+use mathlib.Core.{Bool.Bool, Bool.true, Bool.false, Bool._||_, Bool.not, List.List, List._++_}
+use lib.{Dec.eqb, Dec.ltb, Dec.leb, ListN.length, ListN.getD, ListN.set, ListN.take, ListN.replicate}
+use Rattle.base.specs.{Answer.Answer, Answer.value, Answer.refusal, Choice.pick}
 use Rattle.text.specs.Ascii.{same}
 use Rattle.step.specs.declared.Step.{Step}
 use Rattle.step.specs.Kinds as kind
-use Rattle.step.specs.Access.{readAt}
-use Rattle.step.specs.Sheet.{maxSteps, maxBytes}
-use Rattle.step.specs.Steps.{WellFormed}
-use Rattle.runner.specs.declared.Reply.{Reply}
-use Rattle.runner.specs.declared.State.{State}
-use Rattle.runner.specs.declared.Stepper.{Stepper}
-use Rattle.runner.specs.declared.Runner.{Runner}
-use Rattle.runner.specs.declared.Turned.{Turned}
-use Rattle.runner.specs.declared.Moved.{Moved}
-use Rattle.runner.specs.declared.Stepped.{Stepped}
-use Rattle.runner.specs.declared.Opening.{Opening}
-use Rattle.runner.specs.declared.Opened.{Opened}
+use Rattle.step.specs.{Access.readAt, Sheet.maxSteps, Sheet.maxBytes, Steps.WellFormed}
+use Rattle.kept.specs.Kept.{badSize}
+use Rattle.runner.specs.declared.{Reply.Reply, State.State, Stepper.Stepper, Runner.Runner, Turned.Turned}
+use Rattle.runner.specs.declared.{Moved.Moved, Stepped.Stepped, Opening.Opening, Opened.Opened}
 
 -- what a call that is not refused answers
 pub data Progress : Type 0 where
@@ -131,10 +119,6 @@ takeStep s step ready =
 unfoldable pub takeRead : State → Answer Step → Bool → Outcome State
 takeRead s (value step) ready = takeStep s step ready
 takeRead s (refusal n) ready = outcome (refusal n) s
-
--- a length that no sheet has: over that of the most steps, or no multiple of 8
-abbrev pub badSize : ℕ → Bool
-badSize n = ltb maxBytes n || not (eqb (n % 8) 0)
 
 -- refusal 21: position over the greatest number of steps, lock polls over 999999, or a kept length that no sheet has
 unfoldable pub outside : State → ℕ → Bool

@@ -1,15 +1,17 @@
 // The runner over its kept sheet: each call takes one step. `turn` does the work on the state, `move_stepper` on the
 // part that steps under a kept sheet, `advance` on a whole runner by value, and `poll` changes a runner in place.
 // `restarted` and `start` take a sheet.
-mod kept;
 mod stepping;
 
 use step::MAX_BYTES;
 use step::MAX_STEPS;
 use step::Step;
 ghost use mathlib.Core.Path.{_≡_};
+ghost use Prim.Native.Nat.{_<_, _≤_};
+ghost use lib.ListN.{length};
+ghost use Rattle.step.specs.Sheet.{maxBytes};
 ghost use Rattle.runner.specs.Run.{outcome, replyIs, turnedIs, movedIs, steppedIs, freshStepper, fresh, freqOf};
-ghost use Rattle.runner.specs.Run.{turnOf, stepperOf, advanceOf, begun, openingIs, openedIs, startOf};
+ghost use Rattle.runner.specs.Run.{turnOf, stepperOf, advanceOf, padded, begun, openingIs, openedIs, startOf};
 
 // What a runner holds besides the frequencies.
 pub struct State {
@@ -177,6 +179,16 @@ pub fn poll(r: &mut Runner, sheet: &[u8], ready: bool) -> Reply
     m.reply
 }
 
+// What is kept of a sheet: its bytes, and zeros past them.
+fn keep(sheet: &[u8]) -> [u8; MAX_BYTES]
+    requires { ⌜ length (now sheet) ≤ maxBytes ⌝ }
+    ensures { λ r. ⌜ r ≡ padded (now (sheet .entry)) ⌝ }
+{
+    let mut kept = [0u8; MAX_BYTES];
+    let _n = bytes::copy(sheet, &mut kept);
+    kept
+}
+
 // A start, by value: takes the sheet and makes the runner fresh, or refuses with 20.
 pub fn restarted(r: Runner, sheet: &[u8]) -> Opened
     ensures { λ o. ⌜ openedIs o ≡ startOf r (now (sheet .entry)) ⌝ }
@@ -188,7 +200,7 @@ pub fn restarted(r: Runner, sheet: &[u8]) -> Opened
             runner: r,
         };
     }
-    let kept = kept::keep(sheet);
+    let kept = keep(sheet);
     let fresh = Stepper::new();
     Opened {
         reply: Opening::Started,
@@ -209,72 +221,71 @@ pub fn start(r: &mut Runner, sheet: &[u8]) -> Opening
     o.reply
 }
 
+// The frequency that a runner holds for a clock, by the clock's number.
+fn freq(r: Runner, clock: usize) -> u32
+    requires { ⌜ clock < 10 ⌝ }
+    ensures { λ hz. ⌜ hz ≡ freqOf r clock ⌝ }
+{
+    let s = r.stepper;
+    s.freqs[clock]
+}
+
 pub fn rosc_freq(r: Runner) -> u32
     ensures { λ hz. ⌜ hz ≡ freqOf r 0 ⌝ }
 {
-    let s = r.stepper;
-    s.freqs[0]
+    freq(r, 0)
 }
 
 pub fn xosc_freq(r: Runner) -> u32
     ensures { λ hz. ⌜ hz ≡ freqOf r 1 ⌝ }
 {
-    let s = r.stepper;
-    s.freqs[1]
+    freq(r, 1)
 }
 
 pub fn pll_sys_freq(r: Runner) -> u32
     ensures { λ hz. ⌜ hz ≡ freqOf r 2 ⌝ }
 {
-    let s = r.stepper;
-    s.freqs[2]
+    freq(r, 2)
 }
 
 pub fn pll_usb_freq(r: Runner) -> u32
     ensures { λ hz. ⌜ hz ≡ freqOf r 3 ⌝ }
 {
-    let s = r.stepper;
-    s.freqs[3]
+    freq(r, 3)
 }
 
 pub fn clk_ref_freq(r: Runner) -> u32
     ensures { λ hz. ⌜ hz ≡ freqOf r 4 ⌝ }
 {
-    let s = r.stepper;
-    s.freqs[4]
+    freq(r, 4)
 }
 
 pub fn clk_sys_freq(r: Runner) -> u32
     ensures { λ hz. ⌜ hz ≡ freqOf r 5 ⌝ }
 {
-    let s = r.stepper;
-    s.freqs[5]
+    freq(r, 5)
 }
 
 pub fn clk_peri_freq(r: Runner) -> u32
     ensures { λ hz. ⌜ hz ≡ freqOf r 6 ⌝ }
 {
-    let s = r.stepper;
-    s.freqs[6]
+    freq(r, 6)
 }
 
 pub fn clk_usb_freq(r: Runner) -> u32
     ensures { λ hz. ⌜ hz ≡ freqOf r 7 ⌝ }
 {
-    let s = r.stepper;
-    s.freqs[7]
+    freq(r, 7)
 }
 
 pub fn clk_adc_freq(r: Runner) -> u32
     ensures { λ hz. ⌜ hz ≡ freqOf r 8 ⌝ }
 {
-    let s = r.stepper;
-    s.freqs[8]
+    freq(r, 8)
 }
 
 pub fn clk_rtc_freq(r: Runner) -> u32
     ensures { λ hz. ⌜ hz ≡ freqOf r 9 ⌝ }
 {
-    let s = r.stepper;
-    s.freqs[9]
+    freq(r, 9)
 }

@@ -1,17 +1,13 @@
 -- The codes of ranges and sources: each is read back, and each fits the bits of its field.
--- Assumes nothing.
-use mathlib.Core.Path.{_≡_, refl}
-use mathlib.Core.Bool.{Bool, true, false}
+use mathlib.Core.{Path._≡_, Path.refl, Bool.Bool, Bool.true, Bool.false}
 use Prim.Native.Nat.{ℕ, _%_, _≤_, _<_}
 use native.Mathlib.Omega.{arith}
 use lib.Dec.{eqb}
 use borrow.Author.Tests.{eqb-true, eqb-false}
 use Rattle.base.specs.Choice.{pick}
-use Rattle.voltage.proofs.Codes.{core-voltage-code, code-small, bod-small}
-use Rattle.voltage.proofs.Codes.{core-voltage-code-235, code-small-235, bod-small-235}
+use Rattle.voltage.proofs.Codes.{core-voltage-code, code-small, bod-small, core-voltage-code-235, code-small-235, bod-small-235}
 use Rattle.config.specs.declared.ChipConfig.{ChipConfig}
 use Rattle.config.specs.declared.ChipConfig.the-variants.{Rp2040 as on2040, Rp235x as on235x}
-use Rattle.config.specs.Board.{boardOf}
 use Rattle.config.specs.declared.RoscRange.{RoscRange}
 use Rattle.config.specs.declared.RoscRange.the-variants.{Low, Medium, High, TooHigh}
 use Rattle.config.specs.declared.RefClkSrc.{RefClkSrc}
@@ -23,12 +19,12 @@ use Rattle.config.specs.declared.PeriClkSrc.{PeriClkSrc}
 use Rattle.config.specs.declared.PeriClkSrc.the-variants.{Sys as periSys, PllSys as periPllSys, PllUsb as periPllUsb}
 use Rattle.config.specs.declared.PeriClkSrc.the-variants.{Rosc as periRosc, Xosc as periXosc}
 use Rattle.config.specs.declared.AuxClkSrc.{AuxClkSrc}
-use Rattle.config.specs.declared.AuxClkSrc.the-variants.{PllUsb as auxPllUsb, PllSys as auxPllSys, Rosc as auxRosc}
-use Rattle.config.specs.declared.AuxClkSrc.the-variants.{Xosc as auxXosc}
+use Rattle.config.specs.declared.AuxClkSrc.the-variants.{PllUsb as auxPllUsb, PllSys as auxPllSys, Rosc as auxRosc, Xosc as auxXosc}
 use Rattle.config.specs.declared.OptionAux.{OptionAux}
 use Rattle.config.specs.declared.OptionAux.the-variants.{Some as aux, None as noAux}
-use Rattle.settings.specs.Codes.{rangeCode, refCode, sysSelect, sysAux, periAux, auxCode}
-use Rattle.settings.specs.Codes.{rangeFrom, refFrom, periFrom, auxFrom, divFrom, chipFrom}
+use Rattle.config.specs.Board.{boardOf}
+use Rattle.settings.specs.Codes.{rangeCode, refCode, sysSelect, sysAux, periAux, auxCode, rangeFrom, refFrom}
+use Rattle.settings.specs.Codes.{periFrom, auxFrom, divFrom, chipFrom}
 
 pub range-code : (x : RoscRange) → (rangeFrom (rangeCode x) ≡ x) × (rangeCode x < 4)
 range-code Low = (refl, omega arith)

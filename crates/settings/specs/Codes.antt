@@ -1,22 +1,12 @@
 -- The codes that steps hold for a plan's ranges and sources, and what each code stands for (docs/FORMAT.md, Codes).
--- Assumes nothing.
 use Prim.Native.Nat.{ℕ, _-_}
 use lib.Dec.{eqb}
-use Rattle.base.specs.Choice.{pick}
-use Rattle.base.specs.Answer.{Answer, value, refusal}
-use Rattle.chip.specs.declared.Chip.{Chip}
-use Rattle.chip.specs.declared.Chip.the-variants.{Rp2040, Rp235x}
-use Rattle.voltage.specs.declared.CoreVoltage.{CoreVoltage}
-use Rattle.voltage.specs.declared.CoreVoltage235.{CoreVoltage235}
-use Rattle.voltage.specs.Voltage.{coreVoltageOf}
-use Rattle.voltage.specs.Voltage235.{coreVoltage235Of}
-use Rattle.config.specs.declared.RoscRange.{RoscRange}
-use Rattle.config.specs.declared.RefClkSrc.{RefClkSrc}
-use Rattle.config.specs.declared.SysClkSrc.{SysClkSrc}
-use Rattle.config.specs.declared.PeriClkSrc.{PeriClkSrc}
-use Rattle.config.specs.declared.AuxClkSrc.{AuxClkSrc}
-use Rattle.config.specs.declared.OptionRtc.{OptionRtc}
-use Rattle.config.specs.declared.ChipConfig.{ChipConfig}
+use Rattle.base.specs.{Choice.pick, Answer.Answer, Answer.value, Answer.refusal}
+use Rattle.chip.specs.declared.{Chip.Chip, Chip.the-variants.Rp2040, Chip.the-variants.Rp235x}
+use Rattle.voltage.specs.declared.{CoreVoltage.CoreVoltage, CoreVoltage235.CoreVoltage235}
+use Rattle.voltage.specs.{Voltage.coreVoltageOf, Voltage235.coreVoltage235Of}
+use Rattle.config.specs.declared.{RoscRange.RoscRange, RefClkSrc.RefClkSrc, SysClkSrc.SysClkSrc, PeriClkSrc.PeriClkSrc}
+use Rattle.config.specs.declared.{AuxClkSrc.AuxClkSrc, OptionRtc.OptionRtc, ChipConfig.ChipConfig}
 
 -- step 12
 abbrev pub rangeCode : RoscRange → ℕ

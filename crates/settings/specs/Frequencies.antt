@@ -1,26 +1,14 @@
 -- The frequency of each clock in Hz, 0 where it is absent: the ten values that a sheet stores.
--- Assumes nothing.
 use Prim.Native.Nat.{ℕ, _/_}
 use mathlib.Core.List.{List, [], _∷_, _++_}
-use Rattle.chip.specs.declared.Chip.{Chip}
-use Rattle.chip.specs.declared.Chip.the-variants.{Rp2040, Rp235x}
+use Rattle.chip.specs.declared.{Chip.Chip, Chip.the-variants.Rp2040, Chip.the-variants.Rp235x}
 use Rattle.chip.specs.Chips.{factsOf}
 use Rattle.divider.specs.Clock.{dividedHz}
 use Rattle.pll.specs.Setting.{validHz}
-use Rattle.config.specs.declared.OptionRosc.{OptionRosc}
-use Rattle.config.specs.declared.OptionPll.{OptionPll}
-use Rattle.config.specs.declared.RefClkSrc.{RefClkSrc}
-use Rattle.config.specs.declared.SysClkSrc.{SysClkSrc}
-use Rattle.config.specs.declared.PeriClkSrc.{PeriClkSrc}
-use Rattle.config.specs.declared.RefClkConfig.{RefClkConfig}
-use Rattle.config.specs.declared.Board.{Board}
-use Rattle.config.specs.declared.OptionPeri.{OptionPeri}
-use Rattle.config.specs.declared.AuxClkSrc.{AuxClkSrc}
-use Rattle.config.specs.declared.OptionAux.{OptionAux}
-use Rattle.config.specs.declared.OptionRtc.{OptionRtc}
-use Rattle.settings.specs.declared.OptionCrystal.{OptionCrystal}
-use Rattle.settings.specs.declared.Settings.{Settings}
-use Rattle.settings.specs.declared.Sources.{Sources}
+use Rattle.config.specs.declared.{OptionRosc.OptionRosc, OptionPll.OptionPll, RefClkSrc.RefClkSrc, SysClkSrc.SysClkSrc}
+use Rattle.config.specs.declared.{PeriClkSrc.PeriClkSrc, RefClkConfig.RefClkConfig, Board.Board, OptionPeri.OptionPeri}
+use Rattle.config.specs.declared.{AuxClkSrc.AuxClkSrc, OptionAux.OptionAux, OptionRtc.OptionRtc}
+use Rattle.settings.specs.declared.{OptionCrystal.OptionCrystal, Settings.Settings, Sources.Sources}
 use Rattle.settings.specs.declared.Frequencies.{Frequencies}
 use Rattle.settings.specs.Settings.{ringHz}
 

@@ -1,18 +1,13 @@
 -- A plan's settings at a reading (docs/FORMAT.md, Settings that count): what demand 3 compares. Each part that may be
 -- absent also says whether it is there.
--- Assumes nothing.
 use Prim.Native.Nat.{ℕ}
 use lib.Dec.{eqb}
 use Rattle.base.specs.Choice.{pick}
 use Rattle.divider.specs.Delay.{delayOf, settlingCycles}
-use Rattle.config.specs.declared.OptionRosc.{OptionRosc}
-use Rattle.config.specs.declared.OptionXosc.{OptionXosc}
-use Rattle.config.specs.declared.OptionU32.{OptionU32}
+use Rattle.config.specs.declared.{OptionRosc.OptionRosc, OptionXosc.OptionXosc, OptionU32.OptionU32}
 use Rattle.config.specs.declared.ClockConfig.{ClockConfig}
 use Rattle.config.specs.Board.{boardOf}
-use Rattle.settings.specs.declared.OptionCrystal.{OptionCrystal}
-use Rattle.settings.specs.declared.OptionCycles.{OptionCycles}
-use Rattle.settings.specs.declared.Settings.{Settings}
+use Rattle.settings.specs.declared.{OptionCrystal.OptionCrystal, OptionCycles.OptionCycles, Settings.Settings}
 
 -- the delay multiplier counts only through the startup delay
 abbrev pub crystalOf : OptionXosc → OptionCrystal

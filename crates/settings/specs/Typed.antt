@@ -1,5 +1,4 @@
 -- Settings whose numbers are of their types, as every settings that a program holds are.
--- Assumes nothing.
 use Prim.Native.Nat.{_<_, _^_}
 use Rattle.config.specs.declared.OptionRtc.{OptionRtc}
 use Rattle.config.specs.Board.{FractionFits}

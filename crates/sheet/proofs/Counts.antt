@@ -1,23 +1,16 @@
 -- What a sheet holds at most: for any weight of the kinds no sheet weighs more than one with every part. So it has at most
 -- 65 steps.
--- Assumes nothing.
 use Prim.Native.Nat.{ℕ, _+_, _/_, _≤_}
-use mathlib.Core.Bool.{Bool, true, false}
-use mathlib.Core.List.{List, [], _∷_, _++_}
-use mathlib.Core.Path.{_≡_, refl}
-use lib.Dec.{eqb}
-use lib.ListN.{length}
+use mathlib.Core.{Bool.Bool, Bool.true, Bool.false, List.List, List.[], List._∷_, List._++_, Path._≡_, Path.refl}
+use lib.{Dec.eqb, ListN.length}
 use native.Mathlib.Omega.{arith}
 use Rattle.base.specs.Choice.{pick}
-use Rattle.chip.specs.declared.Chip.{Chip}
-use Rattle.chip.specs.declared.Chip.the-variants.{Rp2040, Rp235x}
+use Rattle.chip.specs.declared.{Chip.Chip, Chip.the-variants.Rp2040, Chip.the-variants.Rp235x}
 use Rattle.chip.specs.Chips.{factsOf}
 use Rattle.step.specs.declared.Step.{Step}
 use Rattle.step.specs.Sheet.{maxSteps}
 use Rattle.step.specs.Kinds as kind
-use Rattle.config.specs.declared.Board.{Board}
-use Rattle.config.specs.declared.SysClkSrc.{SysClkSrc}
-use Rattle.config.specs.declared.OptionRosc.{OptionRosc}
+use Rattle.config.specs.declared.{Board.Board, SysClkSrc.SysClkSrc, OptionRosc.OptionRosc}
 use Rattle.config.specs.declared.OptionRosc.the-variants.{Some as ring, None as noRing}
 use Rattle.config.specs.declared.OptionPll.{OptionPll}
 use Rattle.config.specs.declared.OptionPll.the-variants.{Some as pll, None as noPll}
@@ -31,13 +24,11 @@ use Rattle.settings.specs.declared.OptionCrystal.{OptionCrystal}
 use Rattle.settings.specs.declared.OptionCrystal.the-variants.{Some as crystal, None as noCrystal}
 use Rattle.settings.specs.declared.OptionCycles.{OptionCycles}
 use Rattle.settings.specs.declared.OptionCycles.the-variants.{Some as cycles, None as noCycles}
-use Rattle.settings.specs.declared.Settings.{Settings}
-use Rattle.settings.specs.declared.Frequencies.{Frequencies}
-use Rattle.settings.specs.Codes.{sysSelect}
-use Rattle.settings.specs.Frequencies.{frequenciesOf}
-use Rattle.sheet.specs.Steps.{step1, step2, markSteps, headPart, ringPart, settlingSteps, voltagePart, pllSteps}
-use Rattle.sheet.specs.Steps.{crystalPart, tickSteps, switchSteps, sysPart, periPart, auxPart, rtcPart, clocksPart}
-use Rattle.sheet.specs.Steps.{stepsOf, mostSteps}
+use Rattle.settings.specs.declared.{Settings.Settings, Frequencies.Frequencies}
+use Rattle.settings.specs.{Codes.sysSelect, Frequencies.frequenciesOf}
+use Rattle.sheet_steps.specs.Steps.{step1, step2, markSteps, headPart, ringPart, settlingSteps, voltagePart, pllSteps}
+use Rattle.sheet_steps.specs.Steps.{crystalPart, tickSteps, switchSteps, sysPart, periPart, auxPart, rtcPart, clocksPart}
+use Rattle.sheet_steps.specs.Steps.{stepsOf, mostSteps}
 
 -- the sum of a weight over kinds, and over the kinds of steps
 abbrev pub weight : (ℕ → ℕ) → List ℕ → ℕ

@@ -1,32 +1,22 @@
 -- Demand 3, first of the definitions, then of any two calls of the writer, from what it promises alone: the settings of an
 -- accepted plan are read back from its steps, and its steps from its bytes.
--- Assumes nothing.
-use mathlib.Core.Path.{_≡_, sym, ap, _∙_}
-use mathlib.Core.Logic.{_↔_}
+use mathlib.Core.{Path._≡_, Path.sym, Path.ap, Path._∙_, Logic._↔_, List.List, List._++_}
 use Prim.Native.Nat.{ℕ, _≤_, _<_}
-use mathlib.Core.List.{List, _++_}
-use native.Mathlib.Omega.{arith}
-use native.Mathlib.Nat.{lt-of-not-le}
-use native.Mathlib.Decide.{decLe, ℕ-discrete}
-use lib.ListN.{length, drop, getD, List·getD-append}
-use lib.Seq.{ext-getD}
+use native.Mathlib.{Omega.arith, Nat.lt-of-not-le, Decide.decLe, Decide.ℕ-discrete}
+use lib.{ListN.length, ListN.drop, ListN.getD, ListN.List·getD-append, Seq.ext-getD}
 use Rattle.base.specs.Answer.{Answer, value, refusal, lengthIs}
-use Rattle.base.specs.declared.Length.{Length}
-use Rattle.base.specs.declared.Length.the-variants.{Refused}
+use Rattle.base.specs.declared.{Length.Length, Length.the-variants.Refused}
 use Rattle.step.specs.Sheet.{encoded}
 use Rattle.step.proofs.Sheets.{encoded-injective}
 use Rattle.config.specs.declared.ClockConfig.{ClockConfig}
 use Rattle.config.specs.Board.{boardOf}
 use Rattle.settings.specs.declared.Settings.{Settings}
-use Rattle.settings.specs.Settings.{settingsOf}
-use Rattle.settings.specs.Typed.{Typed}
+use Rattle.settings.specs.{Settings.settingsOf, Typed.Typed}
 use Rattle.refusals.specs.Refusals.{Accepted}
-use Rattle.sheet.specs.Steps.{stepsOf}
-use Rattle.sheet.specs.Read.{settingsFrom}
-use Rattle.sheet.proofs.Sheets.{settings-back, steps-formed}
-use Rattle.sheet.specs.Writer.{sheetBytes, refusalIn, InitCall}
+use Rattle.sheet_steps.specs.Steps.{stepsOf}
+use Rattle.sheet.specs.{Read.settingsFrom, Writer.sheetBytes, Writer.refusalIn, Writer.InitCall}
 use Rattle.sheet.specs.Demand3.{SameUpTo, Demand3}
-use Rattle.sheet.proofs.Ends.{accepted, refused, too-short}
+use Rattle.sheet.proofs.{Sheets.settings-back, Sheets.steps-formed, Ends.accepted, Ends.refused, Ends.too-short}
 
 -- of the definitions
 pub same-sheets : (p q : ClockConfig) (reading : ℕ) → Typed (settingsOf p reading) → Typed (settingsOf q reading)

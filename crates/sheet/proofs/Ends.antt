@@ -1,31 +1,25 @@
 -- A gathered sheet is ready to be written, and the three ways in which the writer ends.
--- Assumes nothing.
-use mathlib.Core.Bool.{true, false}
-use mathlib.Core.Path.{_≡_, refl, sym, ap, _∙_}
-use Prim.Native.Nat.{ℕ, _*_, _≤_, _<_}
+use mathlib.Core.{Bool.true, Bool.false, Path._≡_, Path.refl, Path.sym, Path.ap, Path._∙_}
 use mathlib.Core.List.{List, [], _++_, map}
+use Prim.Native.Nat.{ℕ, _*_, _≤_, _<_}
 use lib.ListN.{length, take, drop, replicate, length-map}
 use borrow.Author.Tests.{eq-eqb, ne-eqb, lt-ltb, le-ltb, leb-true, leb-false}
 use native.Mathlib.Omega.{arith}
 use Rattle.base.specs.declared.Length.the-variants.{Bytes, Refused}
 use Rattle.step.specs.declared.Step.{Step}
-use Rattle.step.specs.Bytes.{turnedOf, bytesOf}
-use Rattle.step.specs.Sheet.{maxSteps, maxBytes, encoded}
+use Rattle.step.specs.{Bytes.turnedOf, Bytes.bytesOf, Sheet.maxSteps, Sheet.maxBytes, Sheet.encoded}
 use Rattle.step.specs.Access.{roomFor, copied}
 use Rattle.step.proofs.Sheets.{length-encoded}
 use Rattle.config.specs.declared.ClockConfig.{ClockConfig}
-use Rattle.settings.specs.Settings.{settingsOf}
+use Rattle.settings.specs.{Settings.settingsOf, Frequencies.frequenciesOf, Typed.Typed}
 use Rattle.settings.specs.declared.Settings.{Settings}
-use Rattle.settings.specs.Frequencies.{frequenciesOf}
 use Rattle.config.specs.Board.{FractionFits}
-use Rattle.settings.specs.Typed.{Typed}
 use Rattle.refusals.specs.declared.Examined.{Examined}
 use Rattle.refusals.specs.Refusals.{refusalOf, examinedOf, Accepted}
-use Rattle.sheet.specs.Steps.{stepsOf}
+use Rattle.sheet_steps.specs.{Steps.stepsOf, Gather.Gathered, Gather.held, Gather.wordOf, Gather.pushes}
 use Rattle.sheet.proofs.Counts.{steps-few}
-use Rattle.sheet.specs.Gather.{Gathered, held, wordOf, pushes}
 use Rattle.sheet.specs.Writer.{sheetBytes, refusalIn, initAnswer, initBuffer, InitCall}
-use Rattle.sheet.proofs.Gathering.{Holds, holds-pushes, turned-back}
+use Rattle.sheet_steps.proofs.Gathering.{Holds, holds-pushes, turned-back}
 
 -- gathered words whose bytes, turned as they are copied, are these
 pub record Ready (g : Gathered) (bytes : List ℕ) : Type 0 where

@@ -1,31 +1,26 @@
 -- Accepted plans at reading 11: the crystal presets, whose sheets have 62 and 63 steps, and plans whose sheets have as many
 -- steps as their chip's may.
--- Assumes nothing.
-use mathlib.Core.Path.{_≡_, refl}
+use mathlib.Core.{Path._≡_, Path.refl, List.[], List._∷_, List.map}
 use Prim.Native.Nat.{ℕ}
-use mathlib.Core.List.{[], _∷_, map}
 use lib.ListN.{length, getD}
 use Rattle.step.specs.declared.Step.{Step}
 use native.Mathlib.Omega.{arith}
 use Rattle.chip.specs.declared.Chip.the-variants.{Rp2040, Rp235x}
-use Rattle.voltage.specs.declared.CoreVoltage.the-variants.{V1_15}
-use Rattle.voltage.specs.declared.CoreVoltage235.the-variants.{V1_15 as volts115}
-use Rattle.config.specs.declared.ChipConfig.the-variants.{Rp235x as on235x}
-use Rattle.divider.specs.Delay.{startupSum, cyclesPerUs, settlingCycles}
-use Rattle.divider.specs.Clock.{dividedHz}
-use Rattle.step.specs.Sheet.{maxSteps}
-use Rattle.config.specs.declared.RoscRange.the-variants.{Medium}
+use Rattle.voltage.specs.declared.{CoreVoltage.the-variants.V1_15, CoreVoltage235.the-variants.V1_15 as volts115}
+use Rattle.config.specs.declared.{ChipConfig.the-variants.Rp235x as on235x, RoscRange.the-variants.Medium}
 use Rattle.config.specs.declared.ClockConfig.{ClockConfig}
+use Rattle.divider.specs.{Delay.startupSum, Delay.cyclesPerUs, Delay.settlingCycles, Clock.dividedHz}
+use Rattle.step.specs.Sheet.{maxSteps}
 use Rattle.pll.specs.Search.{setting}
 use Rattle.config.specs.Presets.{ringConfig, feeding, fromPlls, crystalPlan}
 use Rattle.settings.specs.Settings.{settlingStep, settingsOf}
 use Rattle.settings.specs.Frequencies.{pllHz, sourcesOf, refHz, sysHz, sysIn}
-use Rattle.refusals.specs.Refusals.{strengthsOver, ringDividerOver, settlingOver, startupOver, sysPllInvalid}
-use Rattle.refusals.specs.Refusals.{usbPllInvalid, dividerBad, referenceBad, wholeBad, periBad, auxBad, rtcBad}
-use Rattle.refusals.specs.Refusals.{refusalOf, Accepted}
 use Rattle.settings.specs.Typed.{Typed}
-use Rattle.sheet.specs.Steps.{step0, step1, headPart, ringPart, voltagePart, crystalPart, switchSteps, sysPart}
-use Rattle.sheet.specs.Steps.{periPart, auxPart, rtcPart, releaseMask, clocksPart, stepsOf}
+use Rattle.grounds.specs.Grounds.{strengthsOver, ringDividerOver, settlingOver, startupOver, sysPllInvalid, usbPllInvalid}
+use Rattle.grounds.specs.Grounds.{dividerBad, referenceBad, wholeBad, periBad, auxBad, rtcBad}
+use Rattle.refusals.specs.Refusals.{refusalOf, Accepted}
+use Rattle.sheet_steps.specs.Steps.{step0, step1, headPart, ringPart, voltagePart, crystalPart, switchSteps, sysPart}
+use Rattle.sheet_steps.specs.Steps.{periPart, auxPart, rtcPart, releaseMask, clocksPart, stepsOf}
 
 -- a plan of numbers of their types that is accepted at a reading and gives a sheet of n steps
 pub record Gives (p : ClockConfig) (reading n : ℕ) : Type 0 where

@@ -1,7 +1,5 @@
 -- What the refusals of a plan leave of its numbers.
--- Assumes nothing.
-use mathlib.Core.Path.{_≡_}
-use mathlib.Core.Bool.{Bool, false, _||_}
+use mathlib.Core.{Path._≡_, Bool.Bool, Bool.false, Bool._||_}
 use Prim.Native.Nat.{ℕ, _≤_, _<_}
 use native.Mathlib.Omega.{arith}
 use lib.Dec.{eqb, ltb}
@@ -11,7 +9,7 @@ use Rattle.config.specs.declared.OptionAux.{OptionAux}
 use Rattle.config.specs.declared.OptionAux.the-variants.{Some as aux, None as noAux}
 use Rattle.settings.specs.declared.OptionCycles.the-variants.{None as noCycles}
 use Rattle.settings.specs.Settings.{settlingStep}
-use Rattle.refusals.specs.Refusals.{dividerBad, auxBad}
+use Rattle.grounds.specs.Grounds.{dividerBad, auxBad}
 use Rattle.refusals.proofs.Accepted.{divider-good}
 use Rattle.settings.proofs.Decoded.{Small, AuxSmall}
 

@@ -1,29 +1,20 @@
 -- The steps of an accepted plan are well formed: every field fits its bits.
--- Assumes nothing.
-use mathlib.Core.Path.{_≡_}
-use mathlib.Core.Bool.{Bool, true, false, _||_}
+use mathlib.Core.{Path._≡_, Bool.Bool, Bool.true, Bool.false, Bool._||_, List.List, List.[], List._∷_, List._++_}
 use Prim.Native.Nat.{ℕ, _+_, _/_, _≤_, _<_, _^_}
 use native.Mathlib.Omega.{arith}
-use mathlib.Core.List.{List, [], _∷_, _++_}
 use lib.Dec.{T, eqb, ltb, le→leb}
 use borrow.Author.Tests.{ltb-false, not-false}
 use Rattle.base.specs.Choice.{pick}
 use Rattle.base.proofs.Bools.{both-false}
-use Rattle.chip.specs.declared.Chip.{Chip}
-use Rattle.chip.specs.declared.Chip.the-variants.{Rp2040, Rp235x}
+use Rattle.chip.specs.declared.{Chip.Chip, Chip.the-variants.Rp2040, Chip.the-variants.Rp235x}
 use Rattle.chip.specs.Chips.{factsOf}
 use Rattle.pll.specs.Setting.{validOf}
 use Rattle.pll.proofs.Valid.{valid}
 use Rattle.step.specs.declared.Step.{Step}
 use Rattle.step.specs.Kinds as kind
-use Rattle.step.specs.Fields.{Fill}
-use Rattle.step.specs.Layout.{rows, width, widths}
-use Rattle.step.specs.Steps.{values, known, storable}
+use Rattle.step.specs.{Fields.Fill, Layout.rows, Layout.width, Layout.widths, Steps.values, Steps.known, Steps.storable}
 use Rattle.step.specs.Sheet.{AllFormed}
-use Rattle.config.specs.declared.RefClkConfig.{RefClkConfig}
-use Rattle.config.specs.declared.SysClkSrc.{SysClkSrc}
-use Rattle.config.specs.declared.Board.{Board}
-use Rattle.config.specs.declared.OptionRosc.{OptionRosc}
+use Rattle.config.specs.declared.{RefClkConfig.RefClkConfig, SysClkSrc.SysClkSrc, Board.Board, OptionRosc.OptionRosc}
 use Rattle.config.specs.declared.OptionRosc.the-variants.{Some as ring, None as noRing}
 use Rattle.config.specs.declared.OptionPll.{OptionPll}
 use Rattle.config.specs.declared.OptionPll.the-variants.{Some as pll, None as noPll}
@@ -38,17 +29,15 @@ use Rattle.settings.specs.declared.OptionCrystal.the-variants.{Some as crystal,
 use Rattle.settings.specs.declared.OptionCycles.{OptionCycles}
 use Rattle.settings.specs.declared.OptionCycles.the-variants.{Some as cycles, None as noCycles}
 use Rattle.settings.specs.declared.Sources.{Sources}
-use Rattle.settings.specs.Codes.{sysSelect}
-use Rattle.settings.specs.Settings.{ringHz}
-use Rattle.settings.specs.Typed.{RtcTyped}
+use Rattle.settings.specs.{Codes.sysSelect, Settings.ringHz, Typed.RtcTyped}
 use Rattle.settings.proofs.Small.{Hz, AllHz}
-use Rattle.refusals.specs.Refusals.{strengthsOver, ringDividerOver, settlingOver, startupOver, pllInvalid}
-use Rattle.refusals.specs.Refusals.{sysPllInvalid, usbPllInvalid, wholeBad, rtcBad}
-use Rattle.refusals.proofs.Accepted.{strengths-few, whole-good}
-use Rattle.sheet.specs.Steps.{step1, step2, storeStep, markSteps, headPart, ringPart, settlingSteps, voltagePart}
-use Rattle.sheet.specs.Steps.{pllSteps, crystalPart, sourcePart, tickSteps, refPart, switchSteps, sysPart, periPart}
-use Rattle.sheet.specs.Steps.{auxPart, rtcPart, releaseMask, lastPart}
 use Rattle.settings.proofs.Decoded.{range-code, ref-code, sys-code, peri-code, aux-code}
+use Rattle.grounds.specs.Grounds.{strengthsOver, ringDividerOver, settlingOver, startupOver, pllInvalid, sysPllInvalid}
+use Rattle.grounds.specs.Grounds.{usbPllInvalid, wholeBad, rtcBad}
+use Rattle.refusals.proofs.Accepted.{strengths-few, whole-good}
+use Rattle.sheet_steps.specs.Steps.{step1, step2, storeStep, markSteps, headPart, ringPart, settlingSteps, voltagePart}
+use Rattle.sheet_steps.specs.Steps.{pllSteps, crystalPart, sourcePart, tickSteps, refPart, switchSteps, sysPart, periPart}
+use Rattle.sheet_steps.specs.Steps.{auxPart, rtcPart, releaseMask, lastPart}
 use Rattle.sheet.proofs.Facts.{none-more, AuxFits}
 
 -- what is to be shown of each step, as one row of facts

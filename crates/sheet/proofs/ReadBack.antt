@@ -1,10 +1,7 @@
 -- The settings are read back from the steps that they give.
--- Assumes nothing.
-use mathlib.Core.Path.{_≡_, refl}
-use mathlib.Core.Bool.{Bool, true, false}
+use mathlib.Core.{Path._≡_, Path.refl, Bool.Bool, Bool.true, Bool.false, List.List, List.[], List._∷_, List._++_}
 use Prim.Native.Nat.{ℕ, _+_, _-_}
 use native.Mathlib.Omega.{arith}
-use mathlib.Core.List.{List, [], _∷_, _++_}
 use lib.Dec.{eqb}
 use borrow.Author.Tests.{eqb-true, eq-eqb}
 use Rattle.base.specs.Choice.{pick}
@@ -13,15 +10,9 @@ use Rattle.step.specs.Kinds as kind
 use Rattle.config.specs.declared.SysClkSrc.{SysClkSrc}
 use Rattle.config.specs.declared.SysClkSrc.the-variants.{Ref as sysRef, PllSys as sysPllSys, PllUsb as sysPllUsb}
 use Rattle.config.specs.declared.SysClkSrc.the-variants.{Rosc as sysRosc, Xosc as sysXosc}
-use Rattle.chip.specs.declared.Chip.{Chip}
-use Rattle.chip.specs.declared.Chip.the-variants.{Rp2040, Rp235x}
-use Rattle.chip.specs.Chips.{factsOf}
-use Rattle.config.specs.declared.Board.{Board}
-use Rattle.config.specs.declared.ChipConfig.{ChipConfig}
+use Rattle.config.specs.declared.{Board.Board, ChipConfig.ChipConfig}
 use Rattle.config.specs.declared.ChipConfig.the-variants.{Rp2040 as on2040, Rp235x as on235x}
-use Rattle.config.specs.Board.{boardOf}
-use Rattle.config.specs.declared.ClockConfig.{ClockConfig}
-use Rattle.config.specs.declared.OptionRosc.{OptionRosc}
+use Rattle.config.specs.declared.{ClockConfig.ClockConfig, OptionRosc.OptionRosc}
 use Rattle.config.specs.declared.OptionRosc.the-variants.{Some as ring, None as noRing}
 use Rattle.config.specs.declared.OptionPll.{OptionPll}
 use Rattle.config.specs.declared.OptionPll.the-variants.{Some as pll, None as noPll}
@@ -31,19 +22,21 @@ use Rattle.config.specs.declared.OptionAux.{OptionAux}
 use Rattle.config.specs.declared.OptionAux.the-variants.{Some as aux, None as noAux}
 use Rattle.config.specs.declared.OptionRtc.{OptionRtc}
 use Rattle.config.specs.declared.OptionRtc.the-variants.{Some as rtc, None as noRtc}
+use Rattle.chip.specs.declared.{Chip.Chip, Chip.the-variants.Rp2040, Chip.the-variants.Rp235x}
+use Rattle.chip.specs.Chips.{factsOf}
+use Rattle.config.specs.Board.{boardOf}
 use Rattle.settings.specs.declared.OptionCrystal.{OptionCrystal}
 use Rattle.settings.specs.declared.OptionCrystal.the-variants.{Some as crystal, None as noCrystal}
 use Rattle.settings.specs.declared.OptionCycles.{OptionCycles}
 use Rattle.settings.specs.declared.OptionCycles.the-variants.{Some as cycles, None as noCycles}
 use Rattle.settings.specs.declared.Settings.{Settings}
-use Rattle.settings.specs.Settings.{settingsOf}
-use Rattle.settings.specs.Frequencies.{sourcesOf}
+use Rattle.settings.specs.{Settings.settingsOf, Frequencies.sourcesOf}
 use Rattle.settings.proofs.Decoded.{range-code, ref-code, peri-code, aux-code, chip-back, Small, AuxSmall, div-back}
-use Rattle.sheet.specs.Steps.{step1, storeStep, markSteps, headPart, ringPart, settlingSteps, voltagePart}
-use Rattle.sheet.specs.Steps.{pllSteps, crystalPart, tickSteps, switchSteps, sysPart, periPart, auxPart, rtcPart}
-use Rattle.sheet.specs.Steps.{lastPart, clocksPart, stepsOf}
-use Rattle.sheet.specs.Read.{part, Voltage, readChip, readRing, readVoltage, pastTick, readPll, readCrystal}
-use Rattle.sheet.specs.Read.{readSys, readPeri, readAux, readRtc, settingsFrom}
+use Rattle.sheet_steps.specs.Steps.{step1, storeStep, markSteps, headPart, ringPart, settlingSteps, voltagePart, pllSteps}
+use Rattle.sheet_steps.specs.Steps.{crystalPart, tickSteps, switchSteps, sysPart, periPart, auxPart, rtcPart, lastPart}
+use Rattle.sheet_steps.specs.Steps.{clocksPart, stepsOf}
+use Rattle.sheet.specs.Read.{part, Voltage, readChip, readRing, readVoltage, pastTick, readPll, readCrystal, readSys}
+use Rattle.sheet.specs.Read.{readPeri, readAux, readRtc, settingsFrom}
 
 mark-back : (chip : Chip) (ys : List Step)
     → readChip (markSteps chip ++ (headPart chip ++ ys)) ≡ part chip (headPart chip ++ ys)

@@ -1,22 +1,17 @@
 -- What holds of the steps of an accepted plan: its settings are read back from them, and each step is well formed.
--- Assumes nothing.
-use mathlib.Core.Path.{_≡_}
-use mathlib.Core.Bool.{true, false}
+use mathlib.Core.{Path._≡_, Bool.true, Bool.false}
 use Prim.Native.Nat.{ℕ}
 use Rattle.config.specs.Board.{boardOf}
 use Rattle.step.specs.Sheet.{AllFormed}
 use Rattle.config.specs.declared.ClockConfig.{ClockConfig}
-use Rattle.settings.specs.Settings.{settingsOf}
-use Rattle.settings.specs.Frequencies.{frequenciesOf}
-use Rattle.settings.specs.Typed.{Typed}
+use Rattle.settings.specs.{Settings.settingsOf, Frequencies.frequenciesOf, Typed.Typed}
 use Rattle.refusals.specs.Refusals.{Accepted}
 use Rattle.refusals.proofs.Accepted.{accepted-by, divider-good, whole-good, reference-good}
 use Rattle.refusals.proofs.Stored.{stored}
 use Rattle.settings.proofs.Decoded.{board-small}
-use Rattle.sheet.specs.Steps.{clocksPart, stepsOf}
+use Rattle.sheet_steps.specs.Steps.{clocksPart, stepsOf}
 use Rattle.sheet.specs.Read.{settingsFrom}
-use Rattle.sheet.proofs.Facts.{aux-fits, aux-divider, settling-none}
-use Rattle.sheet.proofs.Stores.{ring-source}
+use Rattle.sheet.proofs.{Facts.aux-fits, Facts.aux-divider, Facts.settling-none, Stores.ring-source}
 use Rattle.sheet.proofs.ReadBack.{readable-back}
 use Rattle.sheet.proofs.Formed.{_and_, formed, mark-good, head-good, ring-good, voltage-good, crystal-good}
 use Rattle.sheet.proofs.Formed.{source-good, ref-good, sys-good, peri-good, aux-good, rtc-good, last-good}

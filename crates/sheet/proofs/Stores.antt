@@ -1,20 +1,11 @@
 -- The stores of a sheet are one for each clock in order, with the frequencies of the settings: ten, nine of the RP235x.
--- Assumes nothing.
-use mathlib.Core.Path.{_≡_, refl, ap}
-use mathlib.Core.Bool.{Bool, true, false}
+use mathlib.Core.{Path._≡_, Path.refl, Path.ap, Bool.Bool, Bool.true, Bool.false, List.List, List.[], List._∷_, List._++_}
 use Prim.Native.Nat.{ℕ}
-use mathlib.Core.List.{List, [], _∷_, _++_}
 use lib.Dec.{eqb}
 use Rattle.base.specs.Choice.{pick}
-use Rattle.chip.specs.declared.Chip.{Chip}
-use Rattle.chip.specs.declared.Chip.the-variants.{Rp2040, Rp235x}
+use Rattle.chip.specs.declared.{Chip.Chip, Chip.the-variants.Rp2040, Chip.the-variants.Rp235x}
 use Rattle.chip.specs.Chips.{factsOf}
-use Rattle.config.specs.declared.Board.{Board}
-use Rattle.config.specs.declared.SysClkSrc.{SysClkSrc}
-use Rattle.step.specs.declared.Step.{Step}
-use Rattle.step.specs.Kinds as kind
-use Rattle.config.specs.declared.RefClkConfig.{RefClkConfig}
-use Rattle.config.specs.declared.OptionRosc.{OptionRosc}
+use Rattle.config.specs.declared.{Board.Board, SysClkSrc.SysClkSrc, RefClkConfig.RefClkConfig, OptionRosc.OptionRosc}
 use Rattle.config.specs.declared.OptionRosc.the-variants.{Some as ring, None as noRing}
 use Rattle.config.specs.declared.OptionPll.{OptionPll}
 use Rattle.config.specs.declared.OptionPll.the-variants.{Some as pll, None as noPll}
@@ -24,17 +15,18 @@ use Rattle.config.specs.declared.OptionAux.{OptionAux}
 use Rattle.config.specs.declared.OptionAux.the-variants.{Some as aux, None as noAux}
 use Rattle.config.specs.declared.OptionRtc.{OptionRtc}
 use Rattle.config.specs.declared.OptionRtc.the-variants.{Some as rtc, None as noRtc}
+use Rattle.step.specs.declared.Step.{Step}
+use Rattle.step.specs.Kinds as kind
 use Rattle.settings.specs.declared.OptionCrystal.{OptionCrystal}
 use Rattle.settings.specs.declared.OptionCrystal.the-variants.{Some as crystal, None as noCrystal}
 use Rattle.settings.specs.declared.OptionCycles.{OptionCycles}
 use Rattle.settings.specs.declared.OptionCycles.the-variants.{Some as cycles, None as noCycles}
 use Rattle.settings.specs.declared.Settings.{Settings}
-use Rattle.settings.specs.Codes.{sysSelect, sysAux}
-use Rattle.settings.specs.Settings.{ringHz}
+use Rattle.settings.specs.{Codes.sysSelect, Codes.sysAux, Settings.ringHz}
 use Rattle.settings.specs.Frequencies.{sourcesOf, tenthOf, storedOf}
-use Rattle.sheet.specs.Steps.{step1, step2, storeStep, markSteps, headPart, ringPart, settlingSteps, voltagePart}
-use Rattle.sheet.specs.Steps.{pllSteps, crystalPart, refPart, switchSteps, sysPart, periPart, auxPart, rtcPart}
-use Rattle.sheet.specs.Steps.{lastPart, clocksPart, stepsOf}
+use Rattle.sheet_steps.specs.Steps.{step1, step2, storeStep, markSteps, headPart, ringPart, settlingSteps, voltagePart}
+use Rattle.sheet_steps.specs.Steps.{pllSteps, crystalPart, refPart, switchSteps, sysPart, periPart, auxPart, rtcPart}
+use Rattle.sheet_steps.specs.Steps.{lastPart, clocksPart, stepsOf}
 use Rattle.sheet.specs.Stores.{storesIn, storesFrom}
 
 mark-stores : (chip : Chip) (ys : List Step) → storesIn (markSteps chip ++ ys) ≡ storesIn ys

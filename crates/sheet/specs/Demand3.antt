@@ -1,9 +1,6 @@
 -- Demand 3: two sheets are equal exactly when the plans agree in every setting.
--- Assumes nothing.
-use mathlib.Core.Path.{_≡_}
-use mathlib.Core.Logic.{_↔_}
+use mathlib.Core.{Path._≡_, Logic._↔_, List.List}
 use Prim.Native.Nat.{ℕ, _<_}
-use mathlib.Core.List.{List}
 use lib.ListN.{getD}
 use Rattle.base.specs.Answer.{value, lengthIs}
 use Rattle.base.specs.declared.Length.{Length}

@@ -1,30 +1,19 @@
 -- Inside: the settings that a sheet's steps hold, taken out part by part in the order of the sheet.
 -- It answers settings for any list of steps; what it answers for a plan's steps is the plan's settings: `settings-back`.
--- Assumes nothing.
-use mathlib.Core.Bool.{_&&_}
+use mathlib.Core.{Bool._&&_, List.List}
 use Prim.Native.Nat.{ℕ, _-_}
-use mathlib.Core.List.{List}
-use lib.ListN.{getD, drop}
-use lib.Dec.{eqb}
+use lib.{ListN.getD, ListN.drop, Dec.eqb}
 use Rattle.base.specs.Choice.{pick}
-use Rattle.chip.specs.declared.Chip.{Chip}
-use Rattle.chip.specs.declared.Chip.the-variants.{Rp2040, Rp235x}
+use Rattle.chip.specs.declared.{Chip.Chip, Chip.the-variants.Rp2040, Chip.the-variants.Rp235x}
 use Rattle.chip.specs.Chips.{factsOf}
 use Rattle.step.specs.declared.Step.{Step}
 use Rattle.step.specs.Kinds as kind
-use Rattle.config.specs.declared.RefClkConfig.{RefClkConfig}
-use Rattle.config.specs.declared.SysClkSrc.{SysClkSrc}
-use Rattle.config.specs.declared.OptionRosc.{OptionRosc}
-use Rattle.config.specs.declared.OptionPll.{OptionPll}
-use Rattle.config.specs.declared.OptionPeri.{OptionPeri}
-use Rattle.config.specs.declared.OptionAux.{OptionAux}
-use Rattle.config.specs.declared.OptionRtc.{OptionRtc}
+use Rattle.config.specs.declared.{RefClkConfig.RefClkConfig, SysClkSrc.SysClkSrc, OptionRosc.OptionRosc}
+use Rattle.config.specs.declared.{OptionPll.OptionPll, OptionPeri.OptionPeri, OptionAux.OptionAux, OptionRtc.OptionRtc}
 use Rattle.config.specs.Board.{boardOf}
-use Rattle.settings.specs.declared.OptionCrystal.{OptionCrystal}
-use Rattle.settings.specs.declared.OptionCycles.{OptionCycles}
-use Rattle.settings.specs.declared.Settings.{Settings}
+use Rattle.settings.specs.declared.{OptionCrystal.OptionCrystal, OptionCycles.OptionCycles, Settings.Settings}
 use Rattle.settings.specs.Codes.{rangeFrom, refFrom, sysFrom, periFrom, auxFrom, divFrom, chipFrom}
-use Rattle.sheet.specs.Steps.{step0}
+use Rattle.sheet_steps.specs.Steps.{step0}
 
 -- what a part of a sheet sets, and the steps after it
 pub data Part (A : Type 0) : Type 0 where

@@ -1,12 +1,11 @@
 -- Inside: the stores of a sheet.
--- Assumes nothing.
 use Prim.Native.Nat.{ℕ, _+_}
 use mathlib.Core.List.{List, [], _∷_}
 use lib.Dec.{eqb}
 use Rattle.base.specs.Choice.{pick}
 use Rattle.step.specs.declared.Step.{Step}
 use Rattle.step.specs.Kinds as kind
-use Rattle.sheet.specs.Steps.{storeStep}
+use Rattle.sheet_steps.specs.Steps.{storeStep}
 
 -- the stores among steps, in their order
 abbrev pub storesIn : List Step → List Step

@@ -1,20 +1,14 @@
 -- What the writer answers, and what it leaves in the caller's bytes.
--- Assumes nothing.
-use mathlib.Core.Path.{_≡_}
-use mathlib.Core.Bool.{not}
-use mathlib.Core.List.{List, _++_}
+use mathlib.Core.{Path._≡_, Bool.not, List.List, List._++_}
 use Prim.Native.Nat.{ℕ}
-use lib.Dec.{eqb, ltb}
-use lib.ListN.{length, drop}
-use Rattle.base.specs.Choice.{pick}
-use Rattle.base.specs.Answer.{Answer, value, refusal, lengthIs}
+use lib.{Dec.eqb, Dec.ltb, ListN.length, ListN.drop}
+use Rattle.base.specs.{Choice.pick, Answer.Answer, Answer.value, Answer.refusal, Answer.lengthIs}
 use Rattle.base.specs.declared.Length.{Length}
 use Rattle.step.specs.Sheet.{encoded}
 use Rattle.config.specs.declared.ClockConfig.{ClockConfig}
-use Rattle.settings.specs.Settings.{settingsOf}
+use Rattle.settings.specs.{Settings.settingsOf, Typed.Typed}
 use Rattle.refusals.specs.Refusals.{refusalOf}
-use Rattle.settings.specs.Typed.{Typed}
-use Rattle.sheet.specs.Steps.{stepsOf}
+use Rattle.sheet_steps.specs.Steps.{stepsOf}
 
 -- a plan's sheet at a reading: the bytes of the steps of its settings
 unfoldable pub sheetBytes : ClockConfig → ℕ → List ℕ

@@ -1,17 +1,14 @@
 // The clock sheet of a plan: the plan is refused, or its steps are gathered and written as bytes.
-mod clocks;
-mod oscillators;
-mod words;
 
-use crate::words::Words;
 use base::Length;
 use config::ClockConfig;
 use settings::Frequencies;
 use settings::Settings;
+use sheet_steps::Words;
 ghost use mathlib.Core.Path.{_≡_};
 ghost use Rattle.settings.specs.Frequencies.{frequenciesOf};
-ghost use Rattle.sheet.specs.Steps.{stepsOf};
-ghost use Rattle.sheet.specs.Gather.{held, pushes};
+ghost use Rattle.sheet_steps.specs.Steps.{stepsOf};
+ghost use Rattle.sheet_steps.specs.Gather.{held, pushes};
 ghost use Rattle.sheet.specs.Writer.{InitCall};
 
 // The steps of settings at a regulator reading, with their frequencies, from the first word on.
@@ -24,11 +21,11 @@ fn gather(words: &mut Words, s: Settings, f: Frequencies, reading: u8) -> usize
     let ring = s.rosc;
     let crystal = s.xosc;
     let settling = s.settling;
-    let at = oscillators::put_start(words, chip);
-    let at = oscillators::put_ring(words, at, k.pass, ring);
-    let at = oscillators::put_voltage(words, at, reading, b, settling);
-    let at = oscillators::put_crystal(words, at, crystal);
-    clocks::put_clocks(words, at, s, f)
+    let at = source_parts::put_start(words, chip);
+    let at = source_parts::put_ring(words, at, k.pass, ring);
+    let at = source_parts::put_voltage(words, at, reading, b, settling);
+    let at = source_parts::put_crystal(words, at, crystal);
+    clock_parts::put_clocks(words, at, s, f)
 }
 
 // Writes the sheet of a plan at a regulator reading to the start of the caller's bytes. A refusal changes nothing.

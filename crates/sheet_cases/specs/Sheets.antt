@@ -1,18 +1,16 @@
 -- What the cases answer that write a sheet, from the numbers n of the case: its reading, its room, then the plan's.
--- Assumes nothing.
-use mathlib.Core.List.{List}
-use mathlib.Core.Option.{Option, none, some}
+use mathlib.Core.{List.List, Option.Option, Option.none, Option.some}
 use Prim.Native.Nat.{ℕ}
 use lib.ListN.{take, drop, replicate}
 use Rattle.base.specs.Answer.{Answer, value, refusal}
 use Rattle.chip.specs.declared.Chip.{Chip}
-use Rattle.chip.specs.declared.Chip.the-variants.{Rp2040, Rp235x}
 use Rattle.voltage.specs.declared.CoreVoltage.{CoreVoltage}
 use Rattle.voltage.specs.Voltage.{coreVoltageOf}
 use Rattle.config.specs.declared.ClockConfig.{ClockConfig}
 use Rattle.config.specs.Presets.{defaultPlan, crystalPlan, roscPlan, systemPlan, systemPlanFrom, manualPlan}
 use Rattle.sheet.specs.Writer.{initAnswer, initBuffer}
-use Rattle.plan_numbers.specs.Plan.{planOf}
+use Rattle.plan_numbers.specs.Plan.{planNumbered}
+use Rattle.kinds.specs.Kinds.{planCount}
 use Rattle.fields.specs.Row.{nth, byteAt, roomAt, pllAt}
 use Rattle.replies.specs.Reply.{badCase, answerText, writtenText}
 
@@ -53,15 +51,10 @@ manualWith n (refusal m) = badCase
 abbrev pub manualText : List ℕ → List ℕ
 manualText n = manualWith n (coreVoltageOf (byteAt n 7))
 
-abbrev pub planText : List ℕ → Option ClockConfig → List ℕ
-planText n (some plan) = sheetText n plan
-planText n none = badCase
-
--- how many numbers a plan has
-abbrev pub planCount : Chip → ℕ
-planCount Rp2040 = 48
-planCount Rp235x = 43
+abbrev pub givenPlanText : List ℕ → Option ClockConfig → List ℕ
+givenPlanText n (some plan) = sheetText n plan
+givenPlanText n none = badCase
 
 -- PLAN
 abbrev pub planSheetText : Chip → List ℕ → List ℕ
-planSheetText chip n = planText n (planOf chip (take (planCount chip) (drop 2 n)))
+planSheetText chip n = givenPlanText n (planNumbered chip (take (planCount chip) (drop 2 n)))

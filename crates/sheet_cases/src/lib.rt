@@ -10,11 +10,12 @@ ghost use lib.ListN.{take, drop};
 ghost use Rattle.base.specs.Answer.{lengthIs};
 ghost use Rattle.base.specs.Placed.{Placed};
 ghost use Rattle.config.specs.Presets.{plannedIs};
-ghost use Rattle.plan_numbers.specs.Plan.{planReadIs, planOf};
+ghost use Rattle.plan_numbers.specs.Plan.{planReadIs, planNumbered};
 ghost use Rattle.replies.specs.Reply.{answerText, writtenText};
 ghost use Rattle.sheet_cases.specs.Sheets.{writeText, sheetText, plannedText};
 ghost use Rattle.sheet_cases.specs.Sheets.{crystalText, roscText, defaultText, systemText, systemFromText};
-ghost use Rattle.sheet_cases.specs.Sheets.{manualText, planCount, planSheetText};
+ghost use Rattle.kinds.specs.Kinds.{planCount};
+ghost use Rattle.sheet_cases.specs.Sheets.{manualText, planSheetText};
 
 fn put_written(out: &mut [u8], buf: &[u8], written: Length) -> usize
     ensures { λ r. ⌜ Placed (now (out .entry)) 0 (answerText (writtenText (now (buf .entry))) (lengthIs written)) r (now (out .exit)) ⌝ }
@@ -98,7 +99,7 @@ pub fn put_manual(n: &[u32; 64], out: &mut [u8]) -> usize
 }
 
 fn plan_of(chip: Chip, n: &[u32; 64]) -> PlanRead
-    ensures { λ r. ⌜ planReadIs r ≡ planOf chip (take (planCount chip) (drop 2 (now (n .entry)))) ⌝ }
+    ensures { λ r. ⌜ planReadIs r ≡ planNumbered chip (take (planCount chip) (drop 2 (now (n .entry)))) ⌝ }
 {
     let all = &n[..];
     match chip {

@@ -1,19 +1,14 @@
 -- The writes of an answer lead from the words handed in to the words answered, in the order of docs/SLEEP.md.
--- Assumes nothing.
 use Prim.Native.Nat.{ℕ, suc}
 use native.Mathlib.Omega.{arith}
-use mathlib.Core.Path.{_≡_, refl, _∙_}
-use mathlib.Core.Bool.{Bool, true, false}
-use mathlib.Core.List.{List, [], _∷_, _++_}
-use lib.Dec.{ltb}
-use lib.ListN.{length, length-set}
+use mathlib.Core.{Path._≡_, Path.refl, Path._∙_, Bool.Bool, Bool.true, Bool.false, List.List, List.[], List._∷_, List._++_}
+use lib.{Dec.ltb, ListN.length, ListN.length-set}
 use Rattle.sleep.specs.declared.steps.Step.{Step}
 use Rattle.sleep.specs.declared.steps.Step.the-variants.{Write, RingStable, CrystalStable, Locked}
 use Rattle.sleep.specs.declared.Slot.{Slot}
-use Rattle.sleep.specs.Bits.{pllRuns, crystalRuns}
-use Rattle.sleep.specs.Words.{word, asleep}
+use Rattle.sleep.specs.{Bits.pllRuns, Bits.crystalRuns, Words.wordIn, Words.asleep}
 use Rattle.sleep.specs.Sleep.{waitIf, sleepSteps, wakeStepsBy, wakeSteps, slotAt, sleepOf, wakeOf}
-use Rattle.sleep.specs.History.{stepsIn, written, replayed, order, waits}
+use Rattle.sleep.specs.History.{answerSteps, written, replayed, order, waitSteps}
 
 -- a test, either way
 pub either-way : {C : Type 0} (t : Bool) → (t ≡ true → C) → (t ≡ false → C) → C
@@ -60,8 +55,8 @@ apart P w0 n0 p =
 
 abbrev eleven : List ℕ → List ℕ
 eleven ws =
-    word ws 0 ∷ word ws 1 ∷ word ws 2 ∷ word ws 3 ∷ word ws 4 ∷ word ws 5
-    ∷ word ws 6 ∷ word ws 7 ∷ word ws 8 ∷ word ws 9 ∷ word ws 10 ∷ []
+    wordIn ws 0 ∷ wordIn ws 1 ∷ wordIn ws 2 ∷ wordIn ws 3 ∷ wordIn ws 4 ∷ wordIn ws 5
+    ∷ wordIn ws 6 ∷ wordIn ws 7 ∷ wordIn ws 8 ∷ wordIn ws 9 ∷ wordIn ws 10 ∷ []
 
 all-eleven : (ws : List ℕ) → length ws ≡ 11 → eleven ws ≡ ws
 all-eleven ws n = apart (λ w. eleven w ≡ w) ws n (λ a b c d e f g h i j k. refl)
@@ -102,13 +97,13 @@ wake-restores ws registers n m = wake-writes ws registers _ _ _ m ∙ all-eleven
 -- ---- the calls
 
 module _ (slots : List Slot) (slot : ℕ) (ws : List ℕ) (n : length ws ≡ 11) where
-  pub sleep-replays : replayed (stepsIn (sleepOf slots slot ws .answer)) ws ≡ sleepOf slots slot ws .words
+  pub sleep-replays : replayed (answerSteps (sleepOf slots slot ws .answer)) ws ≡ sleepOf slots slot ws .words
   unfolding sleepOf asleep
   sleep-replays = either-way (ltb 3 slot) (λ t. rw t) (λ t. rw t (sleep-writes (asleep ws) ws n))
 
   -- what is saved are eleven words
   pub wake-replays : length (slotAt slots slot .words) ≡ 11
-      → replayed (stepsIn (wakeOf slots slot ws .answer)) ws ≡ wakeOf slots slot ws .words
+      → replayed (answerSteps (wakeOf slots slot ws .answer)) ws ≡ wakeOf slots slot ws .words
   unfolding wakeOf
   wake-replays m =
       either-way (ltb 3 slot) (λ t. rw t)
@@ -126,20 +121,20 @@ module _ (ws : List ℕ) where
   unfolding wakeStepsBy
   wake-order =
       waits-apart (λ x y z. order (wakeStepsBy ws x y z) ≡ 10 ∷ 9 ∷ 8 ∷ 7 ∷ 6 ∷ 5 ∷ 3 ∷ 4 ∷ 2 ∷ 1 ∷ 0 ∷ [])
-      (crystalRuns (word ws 9)) (pllRuns (word ws 8)) (pllRuns (word ws 7)) refl refl refl refl refl refl refl refl
+      (crystalRuns (wordIn ws 9)) (pllRuns (wordIn ws 8)) (pllRuns (wordIn ws 7)) refl refl refl refl refl refl refl refl
 
   -- a sleep waits for the ring alone
-  pub sleep-waits : waits (sleepSteps ws) ≡ RingStable ∷ []
+  pub sleep-waits : waitSteps (sleepSteps ws) ≡ RingStable ∷ []
   unfolding sleepSteps
   sleep-waits = refl
 
   -- a wake only for what was running
   pub wake-waits :
-      waits (wakeSteps ws)
-      ≡ waitIf (crystalRuns (word ws 9)) CrystalStable
-      ++ (waitIf (pllRuns (word ws 8)) (Locked 1) ++ waitIf (pllRuns (word ws 7)) (Locked 0))
+      waitSteps (wakeSteps ws)
+      ≡ waitIf (crystalRuns (wordIn ws 9)) CrystalStable
+      ++ (waitIf (pllRuns (wordIn ws 8)) (Locked 1) ++ waitIf (pllRuns (wordIn ws 7)) (Locked 0))
   unfolding wakeStepsBy
   wake-waits =
       waits-apart
-      (λ x y z. waits (wakeStepsBy ws x y z) ≡ waitIf x CrystalStable ++ (waitIf y (Locked 1) ++ waitIf z (Locked 0)))
-      (crystalRuns (word ws 9)) (pllRuns (word ws 8)) (pllRuns (word ws 7)) refl refl refl refl refl refl refl refl
+      (λ x y z. waitSteps (wakeStepsBy ws x y z) ≡ waitIf x CrystalStable ++ (waitIf y (Locked 1) ++ waitIf z (Locked 0)))
+      (crystalRuns (wordIn ws 9)) (pllRuns (wordIn ws 8)) (pllRuns (wordIn ws 7)) refl refl refl refl refl refl refl refl

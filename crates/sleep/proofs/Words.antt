@@ -1,12 +1,8 @@
 -- Shifts and masks of a 32-bit word as `*`, `/`, `%` and `+`.
--- Assumes nothing.
 use mathlib.Core.Path.{_≡_, ap, _∙_}
 use Prim.Native.Nat.{ℕ, _+_, _-_, _*_, _/_, _%_, _^_, _<_}
-use native.Mathlib.Nat.{one-mul, mod-lt}
-use native.Mathlib.Omega.{arith}
-use lib.Arith.{digits-lt}
-use lib.Bits.{bitAnd, and-mask}
-use lib.Pow.{pow-pos, pow-add, shr-lt, shl-exact}
+use native.Mathlib.{Nat.one-mul, Nat.mod-lt, Omega.arith}
+use lib.{Arith.digits-lt, Bits.bitAnd, Bits.and-mask, Pow.pow-pos, Pow.pow-add, Pow.shr-lt, Pow.shl-exact}
 use Rattle.sleep.specs.Bits.{withField}
 
 -- `1 << w`

@@ -1,5 +1,4 @@
 -- The bits of a register: a field, and those that say what was running (docs/SLEEP.md).
--- Assumes nothing.
 use Prim.Native.Nat.{ℕ, _+_, _*_, _/_, _%_, _^_}
 use mathlib.Core.Bool.{Bool, _&&_, not}
 use lib.Dec.{eqb}

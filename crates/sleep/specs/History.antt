@@ -1,24 +1,19 @@
 -- What stands in the registers and the slots after any history of sleeps, wakes and other writes.
--- Assumes nothing.
 use Prim.Native.Nat.{ℕ, _<_}
-use mathlib.Core.Path.{_≡_}
-use mathlib.Core.List.{List, [], _∷_}
-use mathlib.Core.Option.{Option, none, some}
-use lib.Dec.{ltb, eqb}
-use lib.ListN.{length, set}
-use Rattle.base.specs.Answer.{Answer, value, refusal}
-use Rattle.base.specs.Choice.{pick}
+use mathlib.Core.{Path._≡_, List.List, List.[], List._∷_, Option.Option, Option.none, Option.some}
+use lib.{Dec.ltb, Dec.eqb, ListN.length, ListN.set}
+use Rattle.base.specs.{Answer.Answer, Answer.value, Answer.refusal, Choice.pick}
 use Rattle.sleep.specs.declared.steps.Step.{Step}
 use Rattle.sleep.specs.declared.steps.Step.the-variants.{Write, RingStable, CrystalStable, Locked}
 use Rattle.sleep.specs.declared.Slot.{Slot}
-use Rattle.sleep.specs.Sleep.{Outcome, fresh, refused, woken, sleepOf, wakeOf}
+use Rattle.sleep.specs.Sleep.{SleepOutcome, freshSlots, refusedCall, woken, sleepOf, wakeOf}
 
 -- ---- the steps of an answer
 
 -- a refusal has none
-abbrev pub stepsIn : Answer (List Step) → List Step
-stepsIn (value steps) = steps
-stepsIn (refusal n) = []
+abbrev pub answerSteps : Answer (List Step) → List Step
+answerSteps (value steps) = steps
+answerSteps (refusal n) = []
 
 -- the registers after a step: a write sets one, a wait none
 abbrev pub written : Step → List ℕ → List ℕ
@@ -40,12 +35,12 @@ order (CrystalStable ∷ steps) = order steps
 order (Locked pll ∷ steps) = order steps
 
 -- the waits, in order
-abbrev pub waits : List Step → List Step
-waits [] = []
-waits (Write i v ∷ steps) = waits steps
-waits (RingStable ∷ steps) = RingStable ∷ waits steps
-waits (CrystalStable ∷ steps) = CrystalStable ∷ waits steps
-waits (Locked pll ∷ steps) = Locked pll ∷ waits steps
+abbrev pub waitSteps : List Step → List Step
+waitSteps [] = []
+waitSteps (Write i v ∷ steps) = waitSteps steps
+waitSteps (RingStable ∷ steps) = RingStable ∷ waitSteps steps
+waitSteps (CrystalStable ∷ steps) = CrystalStable ∷ waitSteps steps
+waitSteps (Locked pll ∷ steps) = Locked pll ∷ waitSteps steps
 
 -- ---- a history
 
@@ -55,43 +50,43 @@ pub record Board : Type 0 where
   pub registers : List ℕ
 
 -- a sleep or a wake, with the slot and the words handed in; or another write of a register
-pub data Event : Type 0 where
-  sleeps : ℕ → List ℕ → Event
-  wakes : ℕ → List ℕ → Event
-  writes : ℕ → ℕ → Event
+pub data SleepEvent : Type 0 where
+  sleeps : ℕ → List ℕ → SleepEvent
+  wakes : ℕ → List ℕ → SleepEvent
+  writes : ℕ → ℕ → SleepEvent
 
 -- a call leaves its slots, and its steps are carried out
-abbrev pub moved : Board → Outcome → Board
-moved b o = record { slots = o .slots; registers = replayed (stepsIn (o .answer)) (b .registers) }
+abbrev pub moved : Board → SleepOutcome → Board
+moved b o = record { slots = o .slots; registers = replayed (answerSteps (o .answer)) (b .registers) }
 
-unfoldable pub happens : Event → Board → Board
+unfoldable pub happens : SleepEvent → Board → Board
 happens (sleeps slot ws) b = moved b (sleepOf (b .slots) slot ws)
 happens (wakes slot ws) b = moved b (wakeOf (b .slots) slot ws)
 happens (writes i v) b = record { slots = b .slots; registers = set (b .registers) i v }
 
 -- a history from fresh slots and any registers, the latest event first
-unfoldable pub after : List ℕ → List Event → Board
-after registers [] = record { slots = fresh; registers = registers }
-after registers (e ∷ h) = happens e (after registers h)
+unfoldable pub boardAfter : List ℕ → List SleepEvent → Board
+boardAfter registers [] = record { slots = freshSlots; registers = registers }
+boardAfter registers (e ∷ h) = happens e (boardAfter registers h)
 
 -- the words handed to the last sleep in a slot
-unfoldable pub lastSleep : List Event → ℕ → Option (List ℕ)
+unfoldable pub lastSleep : List SleepEvent → ℕ → Option (List ℕ)
 lastSleep [] slot = none
 lastSleep (sleeps at ws ∷ h) slot = pick (eqb at slot) (some ws) (lastSleep h slot)
 lastSleep (wakes at ws ∷ h) slot = lastSleep h slot
 lastSleep (writes i v ∷ h) slot = lastSleep h slot
 
 -- a wake after it
-abbrev pub wakeFrom : Option (List ℕ) → List Slot → List ℕ → Outcome
+abbrev pub wakeFrom : Option (List ℕ) → List Slot → List ℕ → SleepOutcome
 wakeFrom (some ws) slots handed = woken slots ws
-wakeFrom none slots handed = refused slots handed 30
+wakeFrom none slots handed = refusedCall slots handed 30
 
 -- Whatever was written, slept or woken before, also in this slot, and whatever words a wake is handed: it answers the
 -- words of the last sleep in its slot, and they stand in the registers after it. It is refused where there was none.
-pub record Restores (registers : List ℕ) (h : List Event) (slot : ℕ) (handed : List ℕ) : Type 0 where
+pub record Restores (registers : List ℕ) (h : List SleepEvent) (slot : ℕ) (handed : List ℕ) : Type 0 where
   pub answers :
-      wakeOf (after registers h .slots) slot handed
-      ≡ pick (ltb 3 slot) (refused (after registers h .slots) handed 29)
-      (wakeFrom (lastSleep h slot) (after registers h .slots) handed)
+      wakeOf (boardAfter registers h .slots) slot handed
+      ≡ pick (ltb 3 slot) (refusedCall (boardAfter registers h .slots) handed 29)
+      (wakeFrom (lastSleep h slot) (boardAfter registers h .slots) handed)
   pub restores : (ws : List ℕ) → slot < 4 → lastSleep h slot ≡ some ws → length ws ≡ 11
-      → after registers (wakes slot handed ∷ h) .registers ≡ ws
+      → boardAfter registers (wakes slot handed ∷ h) .registers ≡ ws

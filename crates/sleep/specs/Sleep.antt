@@ -1,25 +1,16 @@
 -- What sleep and wake answer, and the words and slots after them.
--- Assumes nothing.
 use Prim.Native.Nat.{ℕ, zero, suc, min}
-use mathlib.Core.Bool.{Bool, true, false}
-use mathlib.Core.List.{List, [], _∷_, _++_}
-use lib.Dec.{ltb}
-use lib.ListN.{getD, set, replicate}
-use Rattle.base.specs.Answer.{Answer, value, refusal}
-use Rattle.base.specs.Choice.{pick}
+use mathlib.Core.{Bool.Bool, Bool.true, Bool.false, List.List, List.[], List._∷_, List._++_}
+use lib.{Dec.ltb, ListN.getD, ListN.set, ListN.replicate}
+use Rattle.base.specs.{Answer.Answer, Answer.value, Answer.refusal, Choice.pick}
 use Rattle.sleep.specs.declared.steps.Step.{Step}
 use Rattle.sleep.specs.declared.steps.Step.the-variants.{Write, RingStable, CrystalStable, Locked}
-use Rattle.sleep.specs.declared.steps.Item.{Item}
-use Rattle.sleep.specs.declared.steps.Steps.{Steps}
-use Rattle.sleep.specs.declared.Slot.{Slot}
-use Rattle.sleep.specs.declared.Answer.{Answer as Answered}
-use Rattle.sleep.specs.declared.Answer.the-variants.{Done, Refused}
-use Rattle.sleep.specs.declared.Change.{Change}
-use Rattle.sleep.specs.Bits.{pllRuns, crystalRuns}
-use Rattle.sleep.specs.Words.{word, asleep}
+use Rattle.sleep.specs.declared.{steps.Item.Item, steps.Steps.Steps, Slot.Slot, Answer.Answer as Answered}
+use Rattle.sleep.specs.declared.{Answer.the-variants.Done, Answer.the-variants.Refused, Change.Change}
+use Rattle.sleep.specs.{Bits.pllRuns, Bits.crystalRuns, Words.wordIn, Words.asleep}
 
 -- a call: its steps or a refusal, and the words and slots after it
-pub record Outcome : Type 0 where
+pub record SleepOutcome : Type 0 where
   pub answer : Answer (List Step)
   pub words : List ℕ
   pub slots : List Slot
@@ -32,20 +23,20 @@ firstSteps items zero = []
 firstSteps items (suc n) = firstSteps items n ++ (getD items n (record { step = Write 0 0 }) .step ∷ [])
 
 -- there are fourteen
-abbrev pub stepsOf : Steps → List Step
-stepsOf s = firstSteps (s .items) (min (s .len) 14)
+abbrev pub stepList : Steps → List Step
+stepList s = firstSteps (s .items) (min (s .len) 14)
 
 abbrev pub answerIs : Answered → List Step → Answer (List Step)
 answerIs Done steps = value steps
 answerIs (Refused n) steps = refusal n
 
-abbrev pub changeIs : Change → Outcome
-changeIs c = record { answer = answerIs (c .answer) (stepsOf (c .steps)); words = c .words; slots = c .slots }
+abbrev pub changeIs : Change → SleepOutcome
+changeIs c = record { answer = answerIs (c .answer) (stepList (c .steps)); words = c .words; slots = c .slots }
 
 -- ---- the steps, to the words ws
 
 abbrev pub write : List ℕ → ℕ → Step
-write ws i = Write i (word ws i)
+write ws i = Write i (wordIn ws i)
 
 -- to sleep: from the first register to the last; the ring is stable before anything runs from it
 unfoldable pub sleepSteps : List ℕ → List Step
@@ -68,7 +59,7 @@ wakeStepsBy ws crystal usb sys =
 
 -- what was running is waited for, and nothing else
 abbrev pub wakeSteps : List ℕ → List Step
-wakeSteps ws = wakeStepsBy ws (crystalRuns (word ws 9)) (pllRuns (word ws 8)) (pllRuns (word ws 7))
+wakeSteps ws = wakeStepsBy ws (crystalRuns (wordIn ws 9)) (pllRuns (wordIn ws 8)) (pllRuns (wordIn ws 7))
 
 -- ---- the calls, with the four slots, a slot's number and the words handed in
 
@@ -78,30 +69,30 @@ unsaved = record { saved = false; words = replicate 11 0 }
 abbrev pub saved : List ℕ → Slot
 saved ws = record { saved = true; words = ws }
 
-abbrev pub fresh : List Slot
-fresh = replicate 4 unsaved
+abbrev pub freshSlots : List Slot
+freshSlots = replicate 4 unsaved
 
 -- past the last slot there is nothing
 abbrev pub slotAt : List Slot → ℕ → Slot
 slotAt slots i = getD slots i (record { saved = false; words = [] })
 
 -- a refusal changes nothing
-abbrev pub refused : List Slot → List ℕ → ℕ → Outcome
-refused slots ws n = record { answer = refusal n; words = ws; slots = slots }
+abbrev pub refusedCall : List Slot → List ℕ → ℕ → SleepOutcome
+refusedCall slots ws n = record { answer = refusal n; words = ws; slots = slots }
 
-abbrev pub slept : List Slot → ℕ → List ℕ → Outcome
+abbrev pub slept : List Slot → ℕ → List ℕ → SleepOutcome
 slept slots slot ws =
     record { answer = value (sleepSteps (asleep ws)); words = asleep ws; slots = set slots slot (saved ws) }
 
-unfoldable pub sleepOf : List Slot → ℕ → List ℕ → Outcome
-sleepOf slots slot ws = pick (ltb 3 slot) (refused slots ws 29) (slept slots slot ws)
+unfoldable pub sleepOf : List Slot → ℕ → List ℕ → SleepOutcome
+sleepOf slots slot ws = pick (ltb 3 slot) (refusedCall slots ws 29) (slept slots slot ws)
 
 -- the words saved come back, and stay saved
-abbrev pub woken : List Slot → List ℕ → Outcome
+abbrev pub woken : List Slot → List ℕ → SleepOutcome
 woken slots ws = record { answer = value (wakeSteps ws); words = ws; slots = slots }
 
-abbrev pub wokenFrom : List Slot → Slot → List ℕ → Outcome
-wokenFrom slots held ws = pick (held .saved) (woken slots (held .words)) (refused slots ws 30)
+abbrev pub wokenFrom : List Slot → Slot → List ℕ → SleepOutcome
+wokenFrom slots held ws = pick (held .saved) (woken slots (held .words)) (refusedCall slots ws 30)
 
-unfoldable pub wakeOf : List Slot → ℕ → List ℕ → Outcome
-wakeOf slots slot ws = pick (ltb 3 slot) (refused slots ws 29) (wokenFrom slots (slotAt slots slot) ws)
+unfoldable pub wakeOf : List Slot → ℕ → List ℕ → SleepOutcome
+wakeOf slots slot ws = pick (ltb 3 slot) (refusedCall slots ws 29) (wokenFrom slots (slotAt slots slot) ws)

@@ -7,7 +7,7 @@ use bits::with_field;
 use steps::Steps;
 ghost use mathlib.Core.Path.{_≡_};
 ghost use Rattle.sleep.specs.Words.{asleep};
-ghost use Rattle.sleep.specs.Sleep.{changeIs, fresh, refused, sleepOf, wakeOf};
+ghost use Rattle.sleep.specs.Sleep.{changeIs, freshSlots, refusedCall, sleepOf, wakeOf};
 
 // Whether a sleep was saved here, and the words handed to the last one.
 pub struct Slot {
@@ -30,7 +30,7 @@ pub struct Change {
 
 // Four slots with nothing saved.
 pub fn fresh_slots() -> [Slot; 4]
-    ensures { λ r. ⌜ r ≡ fresh ⌝ }
+    ensures { λ r. ⌜ r ≡ freshSlots ⌝ }
 {
     let none = Slot {
         saved: false,
@@ -40,7 +40,7 @@ pub fn fresh_slots() -> [Slot; 4]
 }
 
 fn refused(slots: [Slot; 4], words: [u32; 11], number: u8) -> Change
-    ensures { λ r. ⌜ changeIs r ≡ refused slots words number ⌝ }
+    ensures { λ r. ⌜ changeIs r ≡ refusedCall slots words number ⌝ }
 {
     Change {
         answer: Answer::Refused(number),

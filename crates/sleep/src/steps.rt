@@ -2,8 +2,8 @@
 use crate::bits;
 ghost use mathlib.Core.Path.{_≡_};
 ghost use Prim.Native.Nat.{_<_};
-ghost use Rattle.sleep.specs.Sleep.{stepsOf, write, sleepSteps, wakeSteps};
-ghost use Rattle.sleep.specs.Inside.{empty, pushed, pushedIf};
+ghost use Rattle.sleep.specs.Sleep.{stepList, write, sleepSteps, wakeSteps};
+ghost use Rattle.sleep.specs.Inside.{empty, stepPushed, pushedIf};
 ghost use Rattle.sleep.specs.declared.steps.Step.the-variants.{Write};
 
 pub enum Step {
@@ -43,7 +43,7 @@ pub(crate) fn none() -> Steps
 impl Steps {
     // One step more; a full list stays as it is.
     fn push(self, step: Step) -> Steps
-        ensures { λ r. ⌜ r ≡ pushed self step ⌝ }
+        ensures { λ r. ⌜ r ≡ stepPushed self step ⌝ }
     {
         let at = self.len;
         if at < 14 {
@@ -56,7 +56,7 @@ impl Steps {
     }
 
     fn write(self, register: u8, value: u32) -> Steps
-        ensures { λ r. ⌜ r ≡ pushed self (Write register value) ⌝ }
+        ensures { λ r. ⌜ r ≡ stepPushed self (Write register value) ⌝ }
     {
         self.push(Step::Write { register, value })
     }
@@ -64,7 +64,7 @@ impl Steps {
     // Three of the words, to their registers.
     fn write3(self, words: [u32; 11], i: u8, j: u8, k: u8) -> Steps
         requires { ⌜ (i < 11) × (j < 11) × (k < 11) ⌝ }
-        ensures { λ r. ⌜ r ≡ pushed (pushed (pushed self (write words i)) (write words j)) (write words k) ⌝ }
+        ensures { λ r. ⌜ r ≡ stepPushed (stepPushed (stepPushed self (write words i)) (write words j)) (write words k) ⌝ }
     {
         self.write(i, words[i as usize])
             .write(j, words[j as usize])
@@ -73,7 +73,7 @@ impl Steps {
 
     // A word back, with a wait where it says that what it controls was running.
     fn restore(self, register: u8, word: u32, running: bool, wait: Step) -> Steps
-        ensures { λ r. ⌜ r ≡ pushedIf running (pushed self (Write register word)) wait ⌝ }
+        ensures { λ r. ⌜ r ≡ pushedIf running (stepPushed self (Write register word)) wait ⌝ }
     {
         let written = self.write(register, word);
         if running {
@@ -85,7 +85,7 @@ impl Steps {
 
 // The steps to the words of a sleeping chip.
 pub(crate) fn to_sleep(words: [u32; 11]) -> Steps
-    ensures { λ r. ⌜ stepsOf r ≡ sleepSteps words ⌝ }
+    ensures { λ r. ⌜ stepList r ≡ sleepSteps words ⌝ }
 {
     none().write3(words, 0, 1, 2)
         .write(3, words[3])
@@ -97,7 +97,7 @@ pub(crate) fn to_sleep(words: [u32; 11]) -> Steps
 
 // The steps back to the words of a chip that was awake.
 pub(crate) fn to_wake(words: [u32; 11]) -> Steps
-    ensures { λ r. ⌜ stepsOf r ≡ wakeSteps words ⌝ }
+    ensures { λ r. ⌜ stepList r ≡ wakeSteps words ⌝ }
 {
     let crystal = bits::crystal_runs(words[9]);
     let usb = bits::pll_runs(words[8]);

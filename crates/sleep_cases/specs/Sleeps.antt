@@ -1,29 +1,22 @@
 -- What a `sleep` and a `wake` case answer, from its numbers n: SLOT, eleven words, four slots.
--- Assumes nothing.
 use mathlib.Core.List.{List, [], _∷_, _++_}
 use Prim.Native.Nat.{ℕ}
-use Rattle.base.specs.Choice.{bit}
-use Rattle.text.specs.Decimal.{decimalOf}
-use Rattle.text.specs.Ascii.{ascii}
+use Rattle.text.specs.{Decimal.decimalOf, Ascii.ascii}
 use Rattle.fields.specs.Row.{nth, byteAt}
-use Rattle.replies.specs.Reply.{answerText, rowText}
-use Rattle.sleep.specs.declared.Slot.{Slot}
-use Rattle.sleep.specs.declared.steps.Step.{Step}
+use Rattle.replies.specs.Reply.{answerText, rowText, spaced}
+use Rattle.sleep.specs.declared.{Slot.Slot, steps.Step.Step}
 use Rattle.sleep.specs.declared.steps.Step.the-variants.{Write, RingStable, CrystalStable, Locked}
-use Rattle.sleep.specs.Sleep.{Outcome, slotAt, sleepOf, wakeOf}
-use Rattle.sleep_numbers.specs.Numbers.{wordsAt, slotsIn, eachStep}
+use Rattle.sleep.specs.Sleep.{SleepOutcome, sleepOf, wakeOf}
+use Rattle.sleep_numbers.specs.Numbers.{wordsAt, slotsIn, slotsNumbers, eachStep}
 
 abbrev pub wordsText : List ℕ → List ℕ
 wordsText ws =
     rowText (nth ws 0)
     (nth ws 1 ∷ nth ws 2 ∷ nth ws 3 ∷ nth ws 4 ∷ nth ws 5 ∷ nth ws 6 ∷ nth ws 7 ∷ nth ws 8 ∷ nth ws 9 ∷ nth ws 10 ∷ [])
 
--- the same order, each number behind a space
-abbrev pub slotText : Slot → List ℕ
-slotText s = 32 ∷ (decimalOf (bit (s .saved)) ++ (32 ∷ wordsText (s .words)))
-
+-- each number of the slots behind a space
 abbrev pub slotsText : List Slot → List ℕ
-slotsText s = slotText (slotAt s 0) ++ (slotText (slotAt s 1) ++ (slotText (slotAt s 2) ++ slotText (slotAt s 3)))
+slotsText s = spaced (slotsNumbers s)
 
 -- each step behind a space: `wI=V`, or what is waited for
 abbrev pub stepText : Step → List ℕ
@@ -36,15 +29,15 @@ abbrev pub stepsText : List Step → List ℕ
 stepsText steps = eachStep stepText steps
 
 -- W0 .. W10 / STEPS / S
-unfoldable pub outcomeText : Outcome → List ℕ
-outcomeText o =
+unfoldable pub sleepOutcomeText : SleepOutcome → List ℕ
+sleepOutcomeText o =
     answerText
     (λ (steps : List Step).
     wordsText (o .words) ++ (ascii " /" ++ (stepsText steps ++ (ascii " /" ++ slotsText (o .slots)))))
     (o .answer)
 
 abbrev pub sleepText : List ℕ → List ℕ
-sleepText n = outcomeText (sleepOf (slotsIn n 12) (byteAt n 0) (wordsAt n 1))
+sleepText n = sleepOutcomeText (sleepOf (slotsIn n 12) (byteAt n 0) (wordsAt n 1))
 
 abbrev pub wakeText : List ℕ → List ℕ
-wakeText n = outcomeText (wakeOf (slotsIn n 12) (byteAt n 0) (wordsAt n 1))
+wakeText n = sleepOutcomeText (wakeOf (slotsIn n 12) (byteAt n 0) (wordsAt n 1))

@@ -7,14 +7,15 @@ use sleep::steps::Steps;
 ghost use mathlib.Core.List.{_++_};
 ghost use Rattle.base.specs.Placed.{Placed};
 ghost use Rattle.text.specs.Decimal.{decimalOf};
-ghost use Rattle.sleep.specs.Sleep.{stepsOf, changeIs};
+ghost use Rattle.replies.specs.Reply.{spaced};
+ghost use Rattle.sleep.specs.Sleep.{stepList, changeIs};
+ghost use Rattle.sleep_numbers.specs.Numbers.{slotNumbers};
 ghost use Rattle.sleep_cases.specs.Sleeps.{
   wordsText,
-  slotText,
   slotsText,
   stepText,
   stepsText,
-  outcomeText,
+  sleepOutcomeText,
   sleepText,
   wakeText,
 };
@@ -37,15 +38,13 @@ fn put_words(out: &mut [u8], at: usize, words: [u32; 11]) -> usize
     replies::put_row(out, at, words[0] as u64, &more)
 }
 
-// A space, a slot's flag and its words.
+// A slot's flag and its words, each behind a space.
 fn put_slot(out: &mut [u8], at: usize, slot: Slot) -> usize
-    ensures { λ r. ⌜ Placed (now (out .entry)) at (slotText slot) r (now (out .exit)) ⌝ }
+    ensures { λ r. ⌜ Placed (now (out .entry)) at (spaced (slotNumbers slot)) r (now (out .exit)) ⌝ }
 {
     let words = slot.words;
-    let space = text::put_byte(out, at, b' ');
-    let flag = text::put_decimal(out, space, base::wide(base::bit(slot.saved)));
-    let next = text::put_byte(out, flag, b' ');
-    put_words(out, next, words)
+    let end = replies::put_words(out, at, &[base::bit(slot.saved)]);
+    replies::put_words(out, end, &words)
 }
 
 fn put_slots(out: &mut [u8], at: usize, slots: [Slot; 4]) -> usize
@@ -81,7 +80,7 @@ fn put_step(out: &mut [u8], at: usize, step: Step) -> usize
 }
 
 fn put_steps(out: &mut [u8], at: usize, steps: Steps) -> usize
-    ensures { λ r. ⌜ Placed (now (out .entry)) at (stepsText (stepsOf steps)) r (now (out .exit)) ⌝ }
+    ensures { λ r. ⌜ Placed (now (out .entry)) at (stepsText (stepList steps)) r (now (out .exit)) ⌝ }
 {
     let items = steps.items;
     let count = base::least(steps.len, 14);
@@ -98,7 +97,7 @@ fn put_steps(out: &mut [u8], at: usize, steps: Steps) -> usize
 
 // The answer to a call: the words, the steps and the slots, or the refusal.
 fn put_change(out: &mut [u8], change: Change) -> usize
-    ensures { λ r. ⌜ Placed (now (out .entry)) 0 (outcomeText (changeIs change)) r (now (out .exit)) ⌝ }
+    ensures { λ r. ⌜ Placed (now (out .entry)) 0 (sleepOutcomeText (changeIs change)) r (now (out .exit)) ⌝ }
 {
     let answer = change.answer;
     let words = change.words;

@@ -1,13 +1,9 @@
 -- One step more behind the first ones.
--- Assumes nothing.
-use mathlib.Core.Path.{_≡_}
-use mathlib.Core.List.{List, [], _∷_, _++_, append-nil, append-assoc}
+use mathlib.Core.{Path._≡_, List.List, List.[], List._∷_, List._++_, List.append-nil, List.append-assoc}
 use Prim.Native.Nat.{ℕ, _+_, _<_}
 use native.Mathlib.Numerals.{add-one}
 use lib.ListN.{getD}
-use Rattle.sleep.specs.declared.steps.Step.{Step}
-use Rattle.sleep.specs.declared.steps.Step.the-variants.{Write}
-use Rattle.sleep.specs.declared.steps.Item.{Item}
+use Rattle.sleep.specs.declared.{steps.Step.Step, steps.Step.the-variants.Write, steps.Item.Item}
 use Rattle.sleep.specs.Sleep.{firstSteps}
 use Rattle.base.specs.Placed.{Placed}
 use Rattle.base.proofs.Parts.{Parts, parts-next}

@@ -1,12 +1,10 @@
 -- Slots and steps as numbers.
--- Assumes nothing.
 use mathlib.Core.List.{List, [], _∷_, _++_}
 use Prim.Native.Nat.{ℕ, _+_}
 use lib.Dec.{eqb}
 use Rattle.base.specs.Choice.{bit}
 use Rattle.fields.specs.Row.{nth}
-use Rattle.sleep.specs.declared.Slot.{Slot}
-use Rattle.sleep.specs.declared.steps.Step.{Step}
+use Rattle.sleep.specs.declared.{Slot.Slot, steps.Step.Step}
 use Rattle.sleep.specs.declared.steps.Step.the-variants.{Write, RingStable, CrystalStable, Locked}
 use Rattle.sleep.specs.Sleep.{slotAt}
 

@@ -5,7 +5,7 @@ use sleep::steps::Step;
 use sleep::steps::Steps;
 ghost use mathlib.Core.List.{[], _∷_};
 ghost use Rattle.base.specs.Placed.{Placed};
-ghost use Rattle.sleep.specs.Sleep.{stepsOf};
+ghost use Rattle.sleep.specs.Sleep.{stepList};
 ghost use Rattle.sleep_numbers.specs.Numbers.{slotNumbers, slotsNumbers, stepNumbers, stepsNumbers};
 
 fn put_slot(buf: &mut [u32], at: usize, slot: Slot) -> usize
@@ -44,7 +44,7 @@ fn put_step(buf: &mut [u32], at: usize, step: Step) -> usize
 }
 
 pub fn put_steps(buf: &mut [u32], at: usize, steps: Steps) -> usize
-    ensures { λ r. ⌜ Placed (now (buf .entry)) at (stepsNumbers (stepsOf steps)) r (now (buf .exit)) ⌝ }
+    ensures { λ r. ⌜ Placed (now (buf .entry)) at (stepsNumbers (stepList steps)) r (now (buf .exit)) ⌝ }
 {
     let items = steps.items;
     let count = base::least(steps.len, 14);

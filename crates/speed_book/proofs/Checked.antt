@@ -1,9 +1,6 @@
 -- The test over the whole book, which antt computes.
--- Assumes nothing.
-use mathlib.Core.Path.{sym, subst}
-use mathlib.Core.List.{List}
+use mathlib.Core.{Path.sym, Path.subst, List.List, List.flatMap}
 use lib.Dec.{T}
-use mathlib.Core.List.{flatMap}
 use Rattle.pll.specs.Search.{falling, keep}
 use Rattle.pll.specs.declared.PllConfig.{PllConfig}
 use Rattle.speed_book.specs.Book.{hertz, insert, byOutput, book}

@@ -1,15 +1,11 @@
 -- The lookup's answer is the search's: below the target stands one output, from it on another, and the nearer is taken.
--- Assumes nothing.
 use mathlib.Core.Path.{_≡_}
 use Prim.Native.Nat.{ℕ, _+_, _-_, _≤_, _<_}
-use native.Mathlib.Omega.{arith}
-use native.Mathlib.Decide.{decLe}
+use native.Mathlib.{Omega.arith, Decide.decLe}
 use Rattle.base.specs.Answer.{value}
-use Rattle.pll.specs.Search.{apart, searchOf}
-use Rattle.pll.specs.Walk.{key}
+use Rattle.pll.specs.{Search.apart, Search.searchOf, Walk.key}
 use Rattle.speed_book.specs.Book.{crystal, hertz}
-use Rattle.speed_book.proofs.Places.{FirstFrom}
-use Rattle.speed_book.proofs.Entries.{entryOf, entry-order, nearest-entry}
+use Rattle.speed_book.proofs.{Places.FirstFrom, Entries.entryOf, Entries.entry-order, Entries.nearest-entry}
 
 low-least : (x y t : ℕ) → y ≤ x → x ≤ t → apart x t ≤ apart y t
 low-least x y t h k = omega arith

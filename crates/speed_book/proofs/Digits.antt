@@ -1,26 +1,23 @@
 -- The digits of an entry of the table.
--- Assumes nothing.
 use mathlib.Core.Path.{_≡_}
 use Prim.Native.Nat.{ℕ, _/_, _%_, _≤_, _<_}
-use native.Mathlib.Omega.{arith}
-use native.Mathlib.Nat.{div-le-self}
+use native.Mathlib.{Omega.arith, Nat.div-le-self}
 use lib.ListN.{getD, List·getD-map}
-use Rattle.pll.specs.Setting.{vcoOf, postsOf}
-use Rattle.pll.specs.Search.{setting}
-use Rattle.speed_book.specs.Book.{crystal, hertz, packed, book, table, outputIn, settingIn}
+use Rattle.pll.specs.{Setting.vcoOf, Setting.postsOf, Search.setting}
+use Rattle.speed_book.specs.Book.{crystal, hertz, tableNumber, book, table, outputIn, settingIn}
 use Rattle.speed_book.proofs.Entries.{entryOf, entry-permitted, entry-candidate}
 
 -- the entry at a place of the table
-pub table-at : (k : ℕ) → getD table k 0 ≡ packed (entryOf k)
-unfolding table packed hertz
-table-at k = List·getD-map packed book k (setting 0 0 0)
+pub table-at : (k : ℕ) → getD table k 0 ≡ tableNumber (entryOf k)
+unfolding table tableNumber hertz
+table-at k = List·getD-map tableNumber book k (setting 0 0 0)
 
-pub output-digits : (k : ℕ) → k < 1988 → (n : ℕ) → n ≡ packed (entryOf k) → outputIn n ≡ hertz (entryOf k)
-unfolding packed
+pub output-digits : (k : ℕ) → k < 1988 → (n : ℕ) → n ≡ tableNumber (entryOf k) → outputIn n ≡ hertz (entryOf k)
+unfolding tableNumber
 output-digits k h n e = let p = entry-permitted k h in omega (arith, p .fb-high, p .p1-high, p .p2-high)
 
-pub setting-digits : (k : ℕ) → k < 1988 → (n : ℕ) → n ≡ packed (entryOf k) → settingIn n ≡ entryOf k
-unfolding packed
+pub setting-digits : (k : ℕ) → k < 1988 → (n : ℕ) → n ≡ tableNumber (entryOf k) → settingIn n ≡ entryOf k
+unfolding tableNumber
 setting-digits k h n e =
     let p = entry-permitted k h in
     let one : 1 ≡ entryOf k .refdiv = omega (arith, p .one) in

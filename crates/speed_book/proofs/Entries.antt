@@ -1,19 +1,12 @@
 -- What holds of the book's entries: each is a candidate, they are in order, none is missing; and an entry that is the
 -- nearest is the search's answer.
--- Assumes nothing.
-use mathlib.Core.Path.{_≡_, ap, subst}
-use mathlib.Core.Logic.{inl, inr, ⊎-elim}
-use mathlib.Core.List.{List, [], _∷_}
+use mathlib.Core.{Path._≡_, Path.ap, Path.subst, Logic.inl, Logic.inr, Logic.⊎-elim, List.List, List.[], List._∷_}
 use mathlib.Core.Bool.{Bool, true, false}
 use Prim.Native.Nat.{ℕ, _≤_, _<_}
-use native.Mathlib.Omega.{arith}
-use native.Mathlib.Nat.{eq-or-lt-of-le}
-use lib.Dec.{leb}
-use lib.ListN.{length, getD}
-use Rattle.base.specs.Choice.{pick}
-use Rattle.base.specs.Answer.{value}
-use Rattle.pll.specs.Search.{setting, candidates, apart, distance, searchOf}
-use Rattle.pll.specs.Law.{Candidate}
+use native.Mathlib.{Omega.arith, Nat.eq-or-lt-of-le}
+use lib.{Dec.leb, ListN.length, ListN.getD}
+use Rattle.base.specs.{Choice.pick, Answer.value}
+use Rattle.pll.specs.{Search.setting, Search.candidates, Search.apart, Search.distance, Search.searchOf, Law.Candidate}
 use Rattle.pll.specs.Walk.{key}
 use Rattle.pll.specs.declared.PllConfig.{PllConfig}
 use Rattle.pll.proofs.Candidates.{vco-is, lists-candidates}

@@ -1,7 +1,5 @@
 -- What one halving does.
--- Assumes nothing.
-use mathlib.Core.Path.{_≡_, refl}
-use mathlib.Core.List.{List}
+use mathlib.Core.{Path._≡_, Path.refl, List.List}
 use Prim.Native.Nat.{ℕ, zero, suc, _+_, _-_, _≤_, _<_}
 use native.Mathlib.Omega.{arith}
 use lib.ListN.{getD}

@@ -1,5 +1,3 @@
--- What belongs to no one function.
--- Assumes nothing.
 pub mod Checked
 pub mod Choice
 pub mod Digits

@@ -1,25 +1,20 @@
 -- Looking up in the book is searching at 12 MHz.
--- Assumes nothing.
-use mathlib.Core.Path.{_≡_, refl, sym, ap, subst, _∙_}
-use mathlib.Core.Bool.{Bool, true, false}
+use mathlib.Core.{Path._≡_, Path.refl, Path.sym, Path.ap, Path.subst, Path._∙_, Bool.Bool, Bool.true, Bool.false}
 use Prim.Native.Nat.{ℕ, _+_, _-_, _*_, _≤_, _<_}
-use native.Mathlib.Omega.{arith}
-use native.Mathlib.Decide.{decLe}
+use native.Mathlib.{Omega.arith, Decide.decLe}
 use borrow.Author.Tests.{lt-ltb, le-ltb, eq-eqb, ne-eqb}
-use Rattle.base.specs.Answer.{value}
-use Rattle.base.specs.Choice.{pick}
-use Rattle.pll.specs.Search.{searchOf}
-use Rattle.pll.specs.Walk.{key}
+use Rattle.base.specs.{Answer.value, Choice.pick}
+use Rattle.pll.specs.{Search.searchOf, Walk.key}
 use Rattle.pll.specs.declared.PllConfig.{PllConfig}
-use Rattle.speed_book.specs.Book.{crystal, hertz, packed, table, outputIn, settingIn}
-use Rattle.speed_book.specs.Lookup.{far, entryAt, dividersIn, lowerIs, nearer, aboveIn, belowIn, lookupIn}
+use Rattle.speed_book.specs.Book.{crystal, hertz, tableNumber, table, outputIn, settingIn}
+use Rattle.speed_book.specs.Lookup.{far, entryAt, dividersIn, lowerIs, nearerEntry, aboveIn, belowIn, lookupIn}
 use Rattle.speed_book.proofs.Entries.{entryOf, entry-permitted}
 use Rattle.speed_book.proofs.Digits.{table-at, output-digits, setting-digits}
 use Rattle.speed_book.proofs.Places.{FirstFrom, first-place}
 use Rattle.speed_book.proofs.Choice.{below-within, at-start, at-end, lower-nearer, upper-nearer, lower-first, upper-first}
 
 -- what stands at a place
-entry-is : (k : ℕ) → k < 1988 → entryAt table k ≡ packed (entryOf k)
+entry-is : (k : ℕ) → k < 1988 → entryAt table k ≡ tableNumber (entryOf k)
 entry-is k h = rw (lt-ltb k 1988 h) (table-at k)
 
 output-is : (k : ℕ) → k < 1988 → outputIn (entryAt table k) ≡ hertz (entryOf k)
@@ -34,7 +29,7 @@ digits k = dividersIn (entryAt table k)
 
 digits-are : (k : ℕ) → k < 1988
     → digits k ≡ entryOf k .fbdiv * 100 + entryOf k .«post_div1» * 10 + entryOf k .«post_div2»
-unfolding packed
+unfolding tableNumber
 digits-are k h =
     let p = entry-permitted k h in
     let e = entry-is k h in
@@ -73,26 +68,26 @@ module _ (t lower upper : ℕ) where
   abbrev sum : ℕ
   sum = outputIn lower + outputIn upper
 
-  pub lower-near : 2 * t < sum → nearer t lower upper ≡ lower
-  unfolding nearer
+  pub lower-near : 2 * t < sum → nearerEntry t lower upper ≡ lower
+  unfolding nearerEntry
   lower-near h = rw (lt-ltb (2 * t) sum h)
 
-  pub upper-near : sum < 2 * t → nearer t lower upper ≡ upper
-  unfolding nearer
+  pub upper-near : sum < 2 * t → nearerEntry t lower upper ≡ upper
+  unfolding nearerEntry
   upper-near h = rw (le-ltb (2 * t) sum (omega arith), ne-eqb (2 * t) sum (omega arith))
 
-  pub lower-tie : 2 * t ≡ sum → dividersIn upper < dividersIn lower → nearer t lower upper ≡ lower
-  unfolding nearer
+  pub lower-tie : 2 * t ≡ sum → dividersIn upper < dividersIn lower → nearerEntry t lower upper ≡ lower
+  unfolding nearerEntry
   lower-tie h d =
       rw (le-ltb (2 * t) sum (omega arith), eq-eqb (2 * t) sum h, lt-ltb (dividersIn upper) (dividersIn lower) d)
 
-  pub upper-tie : 2 * t ≡ sum → dividersIn lower ≤ dividersIn upper → nearer t lower upper ≡ upper
-  unfolding nearer
+  pub upper-tie : 2 * t ≡ sum → dividersIn lower ≤ dividersIn upper → nearerEntry t lower upper ≡ upper
+  unfolding nearerEntry
   upper-tie h d =
       rw (le-ltb (2 * t) sum (omega arith), eq-eqb (2 * t) sum h, le-ltb (dividersIn upper) (dividersIn lower) d)
 
-pub nearer-same : (t n : ℕ) → nearer t n n ≡ n
-unfolding nearer
+pub nearer-same : (t n : ℕ) → nearerEntry t n n ≡ n
+unfolding nearerEntry
 nearer-same t n = go (lowerIs t n n)
   where
     go : (b : Bool) → pick b n n ≡ n
@@ -109,7 +104,7 @@ module _ (t : ℕ) (fits : t < 4294967296) where
 
   module _ (a j : ℕ) (above : FirstFrom t a) (below : FirstFrom (hertz (entryOf (a - 1))) j) where
     abbrev Taken : Type 0
-    Taken = Right (nearer t (entryAt table j) (entryAt table a))
+    Taken = Right (nearerEntry t (entryAt table j) (entryAt table a))
 
     start : a ≡ 0 → Taken
     start e = go (decLe j 0)
@@ -121,7 +116,7 @@ module _ (t : ℕ) (fits : t < 4294967296) where
         go (yes l) =
             let z : j ≡ 0 = omega arith in
             right 0 _ (omega arith)
-            ((λ i. nearer t (entryAt table (z i)) (entryAt table (e i))) ∙ nearer-same t (entryAt table 0))
+            ((λ i. nearerEntry t (entryAt table (z i)) (entryAt table (e i))) ∙ nearer-same t (entryAt table 0))
             (at-start t a above e)
         go (no l) = absurd (omega (arith, at-0, below .below 0 (omega arith)))
 

@@ -1,8 +1,5 @@
 -- What stands in a list, and at which place.
--- Assumes nothing.
-use mathlib.Core.Path.{_≡_, sym}
-use mathlib.Core.Logic.{_⊎_, inl, inr, ⊎-elim}
-use mathlib.Core.List.{List, [], _∷_}
+use mathlib.Core.{Path._≡_, Path.sym, Logic._⊎_, Logic.inl, Logic.inr, Logic.⊎-elim, List.List, List.[], List._∷_}
 use Prim.Native.Nat.{ℕ, suc, _<_}
 use native.Mathlib.Omega.{arith}
 use lib.ListN.{length, getD}

@@ -1,7 +1,5 @@
 -- Sorting a list in two parts and merging them is sorting the list: by this the book is computed in short time.
--- Assumes nothing.
-use mathlib.Core.Path.{_≡_, refl, ap, _∙_}
-use mathlib.Core.List.{List, [], _∷_, _++_, map, flatMap}
+use mathlib.Core.{Path._≡_, Path.refl, Path.ap, Path._∙_, List.List, List.[], List._∷_, List._++_, List.map, List.flatMap}
 use mathlib.Core.Bool.{Bool, true, false}
 use Prim.Native.Nat.{ℕ, _≤_, _<_}
 use native.Mathlib.Omega.{arith}

@@ -1,15 +1,11 @@
 -- The place at which halving ends in the book: the first whose output is not below a frequency.
--- Assumes nothing.
 use mathlib.Core.Path.{_≡_, refl}
 use Prim.Native.Nat.{ℕ, zero, suc, _+_, _-_, _*_, _≤_, _<_}
-use native.Mathlib.Omega.{arith}
-use native.Mathlib.Decide.{decLe}
+use native.Mathlib.{Omega.arith, Decide.decLe}
 use lib.ListN.{getD}
-use Rattle.speed_book.specs.Book.{hertz, table}
-use Rattle.speed_book.specs.Lookup.{middle, halved, firstFrom}
+use Rattle.speed_book.specs.{Book.hertz, Book.table, Lookup.middle, Lookup.halved, Lookup.firstFrom}
 use Rattle.speed_book.proofs.Halving.{halved-none, halved-empty, halved-up, halved-down}
-use Rattle.speed_book.proofs.Entries.{entryOf, entry-order}
-use Rattle.speed_book.proofs.Digits.{table-at, output-digits}
+use Rattle.speed_book.proofs.{Entries.entryOf, Entries.entry-order, Digits.table-at, Digits.output-digits}
 
 -- r is the first place of the book whose output is not below hz, or past its end
 pub record FirstFrom (hz r : ℕ) : Type 0 where

@@ -1,25 +1,19 @@
 -- The table is right, as `specs/Law.antt` says it.
--- Assumes nothing.
-use mathlib.Core.Path.{_≡_, refl, sym, subst, _∙_}
-use mathlib.Core.Logic.{_⊎_, inl, inr, ⊎-elim}
+use mathlib.Core.{Path._≡_, Path.refl, Path.sym, Path.subst, Path._∙_, Logic._⊎_, Logic.inl, Logic.inr, Logic.⊎-elim}
 use mathlib.Core.Bool.{Bool, true, false}
 use Prim.Native.Nat.{ℕ, _≤_, _<_}
-use native.Mathlib.Omega.{arith}
-use native.Mathlib.Decide.{decLe}
-use native.Mathlib.Nat.{eq-or-lt-of-le}
+use native.Mathlib.{Omega.arith, Decide.decLe, Nat.eq-or-lt-of-le}
 use borrow.Author.Tests.{le-leb}
-use lib.Dec.{T}
-use lib.ListN.{length, getD, length-map}
+use lib.{Dec.T, ListN.length, ListN.getD, ListN.length-map}
 use Rattle.base.specs.Answer.{value}
-use Rattle.pll.specs.Setting.{vcoOf, postsOf, validOf, outputOf}
-use Rattle.pll.specs.Law.{Candidate, Before}
+use Rattle.pll.specs.{Setting.vcoOf, Setting.postsOf, Setting.validOf, Setting.outputOf, Law.Candidate, Law.Before}
 use Rattle.pll.specs.Walk.{key}
 use Rattle.pll.specs.declared.PllConfig.{PllConfig}
 use Rattle.pll.proofs.Sizes.{posts-most, posts-some}
-use Rattle.speed_book.specs.Book.{crystal, hertz, packed, book, table, outputAt, settingAt}
+use Rattle.speed_book.specs.Book.{crystal, hertz, tableNumber, book, table, outputAt, settingAt}
 use Rattle.speed_book.specs.Law.{RightBook}
-use Rattle.speed_book.proofs.Entries.{entryOf, book-length, entry-permitted, entry-candidate}
-use Rattle.speed_book.proofs.Entries.{entry-ahead, entry-order, entry-complete}
+use Rattle.speed_book.proofs.Entries.{entryOf, book-length, entry-permitted, entry-candidate, entry-ahead}
+use Rattle.speed_book.proofs.Entries.{entry-order, entry-complete}
 use Rattle.speed_book.proofs.Digits.{table-at, output-digits, setting-digits}
 
 -- the greater key stands before
@@ -77,7 +71,7 @@ output-is k h = output-digits k h (getD table k 0) (table-at k)
 
 table-length : length table ≡ 1988
 unfolding table
-table-length = length-map book packed ∙ book-length
+table-length = length-map book tableNumber ∙ book-length
 
 -- what holds of the entry and its output holds of what the table says
 at-place : (P : PllConfig → ℕ → Type 0) (k : ℕ) → k < 1988 → P (entryOf k) (hertz (entryOf k))

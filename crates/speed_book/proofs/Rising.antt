@@ -1,16 +1,10 @@
 -- A test over a list of settings, entry by entry, and the law that turns it into the rule at each entry and each two.
--- Assumes nothing.
-use mathlib.Core.Path.{_≡_}
-use mathlib.Core.List.{List, [], _∷_}
-use mathlib.Core.Bool.{Bool, true, false}
+use mathlib.Core.{Path._≡_, List.List, List.[], List._∷_, Bool.Bool, Bool.true, Bool.false}
 use Prim.Native.Nat.{ℕ, zero, suc, _+_, _*_, _≤_, _<_}
 use native.Mathlib.Omega.{arith}
-use lib.Dec.{T, leb, ltb, eqb, leb→le, eqb→eq}
-use lib.ListN.{length, getD}
-use Rattle.pll.specs.Setting.{validOf}
-use Rattle.pll.specs.Search.{setting}
+use lib.{Dec.T, Dec.leb, Dec.ltb, Dec.eqb, Dec.leb→le, Dec.eqb→eq, ListN.length, ListN.getD}
+use Rattle.pll.specs.{Setting.validOf, Search.setting, Walk.key}
 use Rattle.pll.specs.declared.PllConfig.{PllConfig}
-use Rattle.pll.specs.Walk.{key}
 use Rattle.speed_book.specs.Book.{crystal, hertz}
 
 abbrev pub both : Bool → Bool → Bool

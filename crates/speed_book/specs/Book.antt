@@ -1,15 +1,11 @@
 -- The book: every setting of a 12 MHz crystal, ordered by output.
--- Assumes nothing.
 use mathlib.Core.List.{List, [], _∷_, map}
 use Prim.Native.Nat.{ℕ, _+_, _*_, _/_, _%_}
-use lib.Dec.{leb, ltb}
-use lib.ListN.{getD}
+use lib.{Dec.leb, Dec.ltb, ListN.getD}
 use Rattle.base.specs.Choice.{pick}
-use Rattle.pll.specs.Setting.{outputHz}
-use Rattle.pll.specs.Search.{setting, candidates}
+use Rattle.pll.specs.{Setting.outputHz, Search.setting, Search.candidates}
 use Rattle.pll.specs.declared.PllConfig.{PllConfig}
-use Rattle.speed_book.specs.declared.Line.{Line}
-use Rattle.speed_book.specs.declared.Line.the-variants.{Entry, Nothing}
+use Rattle.speed_book.specs.declared.{Line.Line, Line.the-variants.Entry, Line.the-variants.Nothing}
 
 -- 12 MHz
 abbrev pub crystal : ℕ
@@ -34,12 +30,12 @@ unfoldable pub book : List PllConfig
 book = byOutput (candidates crystal)
 
 -- an output and a setting as one number, in decimal digits: the output, three of the feedback divider, post 1, post 2
-unfoldable pub packed : PllConfig → ℕ
-packed c = hertz c * 100000 + c .fbdiv * 100 + c .«post_div1» * 10 + c .«post_div2»
+unfoldable pub tableNumber : PllConfig → ℕ
+tableNumber c = hertz c * 100000 + c .fbdiv * 100 + c .«post_div1» * 10 + c .«post_div2»
 
 -- the table of these numbers
 unfoldable pub table : List ℕ
-table = map packed book
+table = map tableNumber book
 
 -- what the digits of such a number say
 abbrev pub outputIn : ℕ → ℕ

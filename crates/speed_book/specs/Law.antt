@@ -1,14 +1,9 @@
 -- What holds of the table, said without how it is made; proved of `table` in `proofs/Right.antt`.
--- Assumes nothing.
-use mathlib.Core.Path.{_≡_}
-use mathlib.Core.Logic.{_⊎_}
-use mathlib.Core.List.{List}
-use mathlib.Core.Bool.{true}
+use mathlib.Core.{Path._≡_, Logic._⊎_, List.List, Bool.true}
 use Prim.Native.Nat.{ℕ, _<_}
 use lib.ListN.{length}
 use Rattle.base.specs.Answer.{value}
-use Rattle.pll.specs.Setting.{validOf, outputOf}
-use Rattle.pll.specs.Law.{Candidate, Before}
+use Rattle.pll.specs.{Setting.validOf, Setting.outputOf, Law.Candidate, Law.Before}
 use Rattle.pll.specs.declared.PllConfig.{PllConfig}
 use Rattle.speed_book.specs.Book.{crystal, outputAt, settingAt}
 

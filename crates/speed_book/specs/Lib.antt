@@ -1,5 +1,3 @@
--- The definitions that the contracts cite.
--- Assumes nothing.
 pub mod Book
 pub mod Law
 pub mod Lookup

@@ -1,12 +1,8 @@
 -- How a target is looked up in a table: by halving. In the book this is the search (`lookup-searches`, proofs/Choice).
--- Assumes nothing.
-use mathlib.Core.List.{List}
-use mathlib.Core.Bool.{Bool, _&&_, _||_}
+use mathlib.Core.{List.List, Bool.Bool, Bool._&&_, Bool._||_}
 use Prim.Native.Nat.{ℕ, zero, suc, _+_, _-_, _*_, _/_, _%_}
-use lib.Dec.{ltb, eqb}
-use lib.ListN.{getD}
-use Rattle.base.specs.Answer.{Answer, value}
-use Rattle.base.specs.Choice.{pick}
+use lib.{Dec.ltb, Dec.eqb, ListN.getD}
+use Rattle.base.specs.{Answer.Answer, Answer.value, Choice.pick}
 use Rattle.pll.specs.declared.PllConfig.{PllConfig}
 use Rattle.speed_book.specs.Book.{outputIn, settingIn}
 
@@ -43,8 +39,8 @@ lowerIs target lower upper =
     ltb (2 * target) (outputIn lower + outputIn upper)
     || (eqb (2 * target) (outputIn lower + outputIn upper) && ltb (dividersIn upper) (dividersIn lower))
 
-unfoldable pub nearer : ℕ → ℕ → ℕ → ℕ
-nearer target lower upper = pick (lowerIs target lower upper) lower upper
+unfoldable pub nearerEntry : ℕ → ℕ → ℕ → ℕ
+nearerEntry target lower upper = pick (lowerIs target lower upper) lower upper
 
 -- the first entry whose output is not below the target, and of those with the output before it the first
 abbrev pub aboveIn : List ℕ → ℕ → ℕ
@@ -56,4 +52,4 @@ belowIn l above = firstFrom l (outputIn (entryAt l (above - 1)) * 100000)
 unfoldable pub lookupIn : List ℕ → ℕ → Answer PllConfig
 lookupIn l target =
     let above = aboveIn l target in
-    value (settingIn (nearer target (entryAt l (belowIn l above)) (entryAt l above)))
+    value (settingIn (nearerEntry target (entryAt l (belowIn l above)) (entryAt l above)))

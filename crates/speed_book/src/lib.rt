@@ -6,7 +6,7 @@ use pll::PllConfig;
 ghost use mathlib.Core.Path.{_≡_};
 ghost use Rattle.pll.specs.Search.{searchOf, foundIs};
 ghost use Rattle.speed_book.specs.Book.{crystal, table, settingIn, lineIn};
-ghost use Rattle.speed_book.specs.Lookup.{entryAt, firstFrom, nearer, lookupIn};
+ghost use Rattle.speed_book.specs.Lookup.{entryAt, firstFrom, nearerEntry, lookupIn};
 
 // An output in whole hertz and its setting, or nothing past the end.
 pub enum Line {
@@ -89,7 +89,7 @@ fn entry_at(book: &[u64; 1988], k: usize) -> u64
 
 // Of an entry below the target and one that is not, the nearer; of two as near the first in the order of the search.
 fn nearer(target_hz: u32, lower: u64, upper: u64) -> u64
-    ensures { λ r. ⌜ r ≡ nearer «target_hz» lower upper ⌝ }
+    ensures { λ r. ⌜ r ≡ nearerEntry «target_hz» lower upper ⌝ }
 {
     let twice = 2 * target_hz as u64;
     let both = lower / 100000 + upper / 100000;

@@ -1,17 +1,12 @@
 -- Copying words to the start of a buffer: what a turn of the copy leaves, and the two ends of it.
--- Assumes nothing.
-use mathlib.Core.Bool.{true, false}
-use mathlib.Core.Path.{_≡_, refl, ap, _∙_}
-use Prim.Native.Nat.{ℕ, _+_, _*_, _≤_, _<_}
+use mathlib.Core.{Bool.true, Bool.false, Path._≡_, Path.refl, Path.ap, Path._∙_}
 use mathlib.Core.List.{List, [], _∷_, _++_, map, map-append, append-nil}
+use Prim.Native.Nat.{ℕ, _+_, _*_, _≤_, _<_}
 use lib.ListN.{length, take, drop, getD, length-map}
 use lib.Seq.{length-take-le, take-at, drop-append-add, drop-drop, take-suc}
 use borrow.Author.Tests.{le-leb, lt-leb}
-use native.Mathlib.Numerals.{add-one}
-use native.Mathlib.Omega.{arith}
-use Rattle.step.specs.Bytes.{bytes8, turnedOf, bytesOf}
-use Rattle.step.specs.Access.{roomFor, copied}
-use Rattle.step.specs.Inside.{splice}
+use native.Mathlib.{Numerals.add-one, Omega.arith}
+use Rattle.step.specs.{Bytes.bytes8, Bytes.turnedOf, Bytes.bytesOf, Access.roomFor, Access.copied, Inside.splice}
 use Rattle.step.proofs.Sheets.{length-bytes8, length-bytesOf, bytesOf-append}
 
 -- the word after the first i

@@ -1,22 +1,13 @@
 -- Printed numbers: digit by digit, and read back. Read numbers: when some bytes spell one.
--- Assumes nothing.
-use mathlib.Core.Path.{_≡_, refl, ap, _∙_}
-use mathlib.Core.Bool.{Bool, true, false, _&&_}
+use mathlib.Core.{Path._≡_, Path.refl, Path.ap, Path._∙_, Bool.Bool, Bool.true, Bool.false, Bool._&&_}
 use mathlib.Core.List.{List, [], _∷_, _++_}
 use Prim.Native.Nat.{ℕ, zero, suc, _+_, _-_, _*_, _/_, _%_, _^_, _≤_, _<_}
-use native.Mathlib.Decide.{decLt}
-use native.Mathlib.Nat.{pow-suc}
-use native.Mathlib.Numerals.{add-one}
-use native.Mathlib.Omega.{arith}
+use native.Mathlib.{Decide.decLt, Nat.pow-suc, Numerals.add-one, Omega.arith}
 use borrow.Author.Tests.{lt-ltb, le-ltb, le-leb, lt-leb}
-use lib.Dec.{leb, ltb}
-use lib.ListN.{length, drop, getD, length-append}
-use lib.Seq.{drop-cons}
-use Rattle.base.specs.Answer.{value, refusal}
-use Rattle.base.specs.Choice.{pick, inRange}
+use lib.{Dec.leb, Dec.ltb, ListN.length, ListN.drop, ListN.getD, ListN.length-append, Seq.drop-cons}
+use Rattle.base.specs.{Answer.value, Answer.refusal, Choice.pick, Choice.inRange}
 use Rattle.base.proofs.Bools.{both-true}
-use Rattle.text.specs.Decimal.{lastDigit, digitsOf, decimalOf, isDigit, allDigits, valueAfter, valueOf}
-use Rattle.text.specs.Decimal.{isNumber, numberOf}
+use Rattle.text.specs.Decimal.{lastDigit, digitsOf, decimalOf, isDigit, allDigits, valueAfter, valueOf, isNumber, numberOf}
 
 digits-small : (k n : ℕ) → n < 10 → digitsOf (suc k) n ≡ lastDigit n ∷ []
 digits-small k n small = rw (lt-ltb n 10)

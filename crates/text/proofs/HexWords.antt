@@ -1,18 +1,13 @@
 -- What reading a word of hex into a buffer says.
--- Assumes nothing.
-use mathlib.Core.Path.{_≡_, refl, sym, ap, _∙_}
-use mathlib.Core.Bool.{Bool, true, false}
-use mathlib.Core.List.{List}
+use mathlib.Core.{Path._≡_, Path.refl, Path.sym, Path.ap, Path._∙_, Bool.Bool, Bool.true, Bool.false, List.List}
 use mathlib.Core.Option.{none, some}
 use Prim.Native.Nat.{ℕ, _+_, _≤_}
 use native.Mathlib.Omega.{arith}
 use borrow.Author.Tests.{leb-true}
-use lib.ListN.{length, take, drop}
-use lib.Seq.{take-append-seam, length-sets, sets-eq}
+use lib.{ListN.length, ListN.take, ListN.drop, Seq.take-append-seam, Seq.length-sets, Seq.sets-eq}
 use Rattle.base.proofs.Bools.{both-true}
 use Rattle.text.specs.Hex.{isHexWord, pairValues, isReadable, HexReading}
-use Rattle.text.specs.declared.HexRead.{HexRead}
-use Rattle.text.specs.declared.HexRead.the-variants.{Bytes, Bad}
+use Rattle.text.specs.declared.{HexRead.HexRead, HexRead.the-variants.Bytes, HexRead.the-variants.Bad}
 
 -- a word that was read
 pub record WordRead (w xs : List ℕ) (k : ℕ) (ys : List ℕ) : Type 0 where

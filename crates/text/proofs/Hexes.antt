@@ -1,24 +1,16 @@
 -- Hex digits: printed byte by byte, read pair by pair, and read back as printed.
--- Assumes nothing.
-use mathlib.Core.Path.{_≡_, refl, ap, _∙_}
-use mathlib.Core.Bool.{Bool, true, false}
-use mathlib.Core.List.{List, [], _∷_, _++_}
-use mathlib.Core.Option.{some}
+use mathlib.Core.{Path._≡_, Path.refl, Path.ap, Path._∙_, Bool.Bool, Bool.true, Bool.false}
+use mathlib.Core.{List.List, List.[], List._∷_, List._++_, Option.some}
 use Prim.Native.Nat.{ℕ, suc, _+_, _-_, _/_, _%_, _≤_, _<_}
-use native.Mathlib.Decide.{decLt}
-use native.Mathlib.Numerals.{add-one}
-use native.Mathlib.Omega.{arith}
+use native.Mathlib.{Decide.decLt, Numerals.add-one, Omega.arith}
 use borrow.Author.Tests.{lt-ltb, le-ltb, le-leb, lt-leb, ltb-true}
-use lib.Dec.{ltb, eqb}
-use lib.ListN.{length, take, drop, getD, drop-of-length-le}
-use lib.Pow.{areBytes}
+use lib.{Dec.ltb, Dec.eqb, ListN.length, ListN.take, ListN.drop, ListN.getD, ListN.drop-of-length-le, Pow.areBytes}
 use lib.Seq.{drop-cons, take-suc}
-use Rattle.base.specs.Choice.{pick, inRange}
-use Rattle.base.specs.Placed.{Placed}
+use Rattle.base.specs.{Choice.pick, Choice.inRange, Placed.Placed}
 use Rattle.base.proofs.Bools.{both-true, in-range}
 use Rattle.text.specs.Decimal.{isDigit}
-use Rattle.text.specs.Hex.{hexDigit, hexPair, hexDigits, hexOf, hexValue, isHex}
-use Rattle.text.specs.Hex.{arePairs, pairValues, isHexWord, isReadable, HexReading}
+use Rattle.text.specs.Hex.{hexDigit, hexPair, hexDigits, hexOf, hexValue, isHex, arePairs, pairValues, isHexWord}
+use Rattle.text.specs.Hex.{isReadable, HexReading}
 use Rattle.text.specs.declared.HexRead.the-variants.{Bytes, Bad}
 
 -- a byte's two digits

@@ -1,22 +1,13 @@
 -- The first of a byte from an index on, and the bytes before it.
--- Assumes nothing.
-use mathlib.Core.Path.{_≡_, refl, sym, ap, _∙_}
-use mathlib.Core.Bool.{Bool, true, false}
-use mathlib.Core.List.{List, [], _∷_}
-use mathlib.Core.Logic.{_⊎_, inl, inr}
+use mathlib.Core.{Path._≡_, Path.refl, Path.sym, Path.ap, Path._∙_, Bool.Bool, Bool.true, Bool.false}
+use mathlib.Core.{List.List, List.[], List._∷_, Logic._⊎_, Logic.inl, Logic.inr}
 use Prim.Native.Nat.{ℕ, zero, suc, _+_, _-_, _≤_, _<_}
-use native.Mathlib.Decide.{decLe}
-use native.Mathlib.Nat.{add-zero}
-use native.Mathlib.Numerals.{add-one}
-use native.Mathlib.Omega.{arith}
+use native.Mathlib.{Decide.decLe, Nat.add-zero, Numerals.add-one, Omega.arith}
 use borrow.Author.Tests.{eq-eqb, ne-eqb, le-leb, lt-leb}
-use lib.Dec.{eqb}
-use lib.ListN.{length, take, drop, getD, length-take, drop-of-length-le}
+use lib.{Dec.eqb, ListN.length, ListN.take, ListN.drop, ListN.getD, ListN.length-take, ListN.drop-of-length-le}
 use lib.Seq.{drop-cons, take-all}
-use Rattle.base.specs.Answer.{refusal}
-use Rattle.base.specs.Choice.{pick}
-use Rattle.text.specs.Decimal.{numberOf}
-use Rattle.text.specs.Words.{upTo, indexFrom, lineNumberOf}
+use Rattle.base.specs.{Answer.refusal, Choice.pick}
+use Rattle.text.specs.{Decimal.numberOf, Words.upTo, Words.indexFrom, Words.lineNumberOf}
 use Rattle.text.proofs.Decimals.{bad-length}
 
 module _ (s : List ℕ) (b i : ℕ) where

@@ -1,12 +1,8 @@
 -- What finds room is written whole, and where the first bytes of an input decide they are enough to read.
--- Assumes nothing.
-use mathlib.Core.List.{List}
-use mathlib.Core.Path.{_≡_, ap, _∙_}
+use mathlib.Core.{List.List, Path._≡_, Path.ap, Path._∙_}
 use Prim.Native.Nat.{ℕ, _≤_}
-use native.Mathlib.Nat.{zero-add}
-use native.Mathlib.Omega.{arith}
-use lib.ListN.{length, take}
-use lib.Seq.{length-sets, sets-eq}
+use native.Mathlib.{Nat.zero-add, Omega.arith}
+use lib.{ListN.length, ListN.take, Seq.length-sets, Seq.sets-eq}
 use Rattle.base.specs.Placed.{Placed}
 use Rattle.text.specs.Output.{Whole, Printed}
 

@@ -1,10 +1,6 @@
 -- Quoted text as bytes: the code of each character.
--- Assumes nothing.
-use mathlib.Core.Bool.{Bool, true, false, _&&_}
-use mathlib.Core.List.{List, [], _∷_}
-use Prim.Native.Nat.{ℕ}
-use Prim.Native.Char.{code}
-use Prim.Native.String.{String, [] as ended, _∷_ as _before_}
+use mathlib.Core.{Bool.Bool, Bool.true, Bool.false, Bool._&&_, List.List, List.[], List._∷_}
+use Prim.Native.{Nat.ℕ, Char.code, String.String, String.[] as ended, String._∷_ as _before_}
 use lib.Dec.{eqb}
 
 abbrev pub ascii : String → List ℕ

@@ -1,12 +1,8 @@
 -- Decimal numbers as ASCII digits, the most significant first: what is printed for a number, and what is read.
--- Assumes nothing.
-use mathlib.Core.Bool.{Bool, true, _&&_}
-use mathlib.Core.List.{List, [], _∷_, _++_}
+use mathlib.Core.{Bool.Bool, Bool.true, Bool._&&_, List.List, List.[], List._∷_, List._++_}
 use Prim.Native.Nat.{ℕ, zero, suc, _+_, _-_, _*_, _/_, _%_}
-use lib.Dec.{leb, ltb}
-use lib.ListN.{length}
-use Rattle.base.specs.Answer.{Answer, value, refusal}
-use Rattle.base.specs.Choice.{pick, inRange}
+use lib.{Dec.leb, Dec.ltb, ListN.length}
+use Rattle.base.specs.{Answer.Answer, Answer.value, Answer.refusal, Choice.pick, Choice.inRange}
 
 -- the last of n's digits
 abbrev pub lastDigit : ℕ → ℕ

@@ -1,17 +1,11 @@
 -- Bytes as hexadecimal digits, two a byte, the more significant first: what is printed, and what is read.
--- Assumes nothing.
-use mathlib.Core.Path.{_≡_}
-use mathlib.Core.Bool.{Bool, true, false, _&&_, _||_}
-use mathlib.Core.List.{List, [], _∷_, _++_}
+use mathlib.Core.{Path._≡_, Bool.Bool, Bool.true, Bool.false, Bool._&&_, Bool._||_, List.List, List.[], List._∷_, List._++_}
 use mathlib.Core.Option.{Option, none, some}
 use Prim.Native.Nat.{ℕ, _+_, _-_, _*_, _/_, _%_}
-use lib.Dec.{leb, ltb, eqb}
-use lib.ListN.{length}
+use lib.{Dec.leb, Dec.ltb, Dec.eqb, ListN.length, Seq.sets}
 use Rattle.base.specs.Choice.{pick, inRange}
-use lib.Seq.{sets}
 use Rattle.text.specs.Decimal.{isDigit}
-use Rattle.text.specs.declared.HexRead.{HexRead}
-use Rattle.text.specs.declared.HexRead.the-variants.{Bytes, Bad}
+use Rattle.text.specs.declared.{HexRead.HexRead, HexRead.the-variants.Bytes, HexRead.the-variants.Bad}
 
 -- the digit of a number below 16: `0` to `9`, then `a` to `f`
 abbrev pub hexDigit : ℕ → ℕ

@@ -1,7 +1,5 @@
 -- What a program prints for its input, and what a call promises that writes it.
--- Assumes nothing.
-use mathlib.Core.List.{List, _++_}
-use mathlib.Core.Path.{_≡_}
+use mathlib.Core.{List.List, List._++_, Path._≡_}
 use Prim.Native.Nat.{ℕ, _≤_}
 use lib.ListN.{length, take, drop}
 

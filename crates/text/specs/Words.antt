@@ -1,11 +1,8 @@
 -- Lines and words: a line is closed by a newline or the end, a word by a space or the end.
--- Assumes nothing.
 use mathlib.Core.List.{List, [], _∷_}
 use Prim.Native.Nat.{ℕ, _+_}
-use lib.Dec.{eqb}
-use lib.ListN.{length, drop}
-use Rattle.base.specs.Answer.{Answer}
-use Rattle.base.specs.Choice.{pick}
+use lib.{Dec.eqb, ListN.length, ListN.drop}
+use Rattle.base.specs.{Answer.Answer, Choice.pick}
 use Rattle.text.specs.Decimal.{numberOf}
 
 -- the bytes up to the first b, or all of them

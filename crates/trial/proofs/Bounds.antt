@@ -1,31 +1,22 @@
 -- 80012 bytes are enough for every output: 8 for each target, 12 for the runner.
--- Assumes nothing.
-use mathlib.Core.Bool.{Bool, true, false}
-use mathlib.Core.List.{List}
-use mathlib.Core.Path.{_≡_, refl}
+use mathlib.Core.{Bool.Bool, Bool.true, Bool.false, List.List, Path._≡_, Path.refl}
 use Prim.Native.Nat.{ℕ, zero, suc, _+_, _*_, _≤_}
 use native.Mathlib.Omega.{arith}
 use borrow.Author.Tests.{ltb-false}
-use lib.Dec.{ltb}
-use lib.ListN.{length, drop, length-append}
-use Rattle.base.specs.Answer.{Answer, value, refusal}
-use Rattle.base.specs.Choice.{pick}
-use Rattle.text.specs.Decimal.{isNumber, numberOf}
-use Rattle.text.specs.Words.{upTo}
+use lib.{Dec.ltb, ListN.length, ListN.drop, ListN.length-append}
+use Rattle.base.specs.{Answer.Answer, Answer.value, Answer.refusal, Choice.pick}
+use Rattle.text.specs.{Decimal.isNumber, Decimal.numberOf, Words.upTo}
 use Rattle.text.proofs.Decimals.{length-decimal}
 use Rattle.replies.specs.Reply.{refusedLine}
 use Rattle.replies.proofs.Refused.{refused-most}
 use Rattle.pll.specs.declared.PllConfig.{PllConfig}
-use Rattle.pll.proofs.Inputs.{search-finds, found-valid}
-use Rattle.pll.proofs.Valid.{valid}
-use Rattle.runner.specs.declared.State.{State}
-use Rattle.runner.specs.declared.Runner.{Runner}
+use Rattle.pll.proofs.{Inputs.search-finds, Inputs.found-valid, Valid.valid}
+use Rattle.runner.specs.declared.{State.State, Runner.Runner}
 use Rattle.runner.specs.Run.{Outcome, oneMore, turnOf, stepperOf, advanceOf}
 use Rattle.runner.proofs.Calls.{both, every-turn}
 use Rattle.up.specs.Wait.{runnerAfter}
-use Rattle.trial.specs.Draws.{drawn}
-use Rattle.trial.specs.Load.{targetLine, targetLines, trialSheet, flags, trialRunner, runnerLine}
-use Rattle.trial.specs.Load.{trials, mostCount, loadWith, loadOf}
+use Rattle.draws.specs.{Draws.drawn, Targets.targetLine, Targets.targetLines}
+use Rattle.trial.specs.Load.{trialSheet, flags, trialRunner, runnerLine, trials, mostCount, loadWith, loadOf}
 
 -- ---- a line
 

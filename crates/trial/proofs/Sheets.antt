@@ -1,11 +1,8 @@
 -- The sheet of the runner trial: the preset is accepted, so the writer answers its length.
--- Assumes nothing.
-use mathlib.Core.List.{List}
-use mathlib.Core.Path.{_≡_}
+use mathlib.Core.{List.List, Path._≡_}
 use Prim.Native.Nat.{ℕ, _≤_}
 use native.Mathlib.Omega.{arith}
-use lib.ListN.{length, take, length-append}
-use lib.Seq.{take-append-seam}
+use lib.{ListN.length, ListN.take, ListN.length-append, Seq.take-append-seam}
 use Rattle.base.specs.Answer.{value, refusal, lengthIs}
 use Rattle.base.specs.declared.Length.{Length}
 use Rattle.step.specs.Sheet.{maxBytes}
@@ -13,9 +10,7 @@ use Rattle.chip.specs.declared.Chip.the-variants.{Rp2040}
 use Rattle.config.specs.declared.ClockConfig.{ClockConfig}
 use Rattle.config.specs.Presets.{crystalPlan}
 use Rattle.sheet.specs.Writer.{InitCall}
-use Rattle.sheet.proofs.Ends.{sheet-most}
-use Rattle.sheet.proofs.Demand3.{answers, answered}
-use Rattle.sheet.proofs.Examples.{crystal-steps}
+use Rattle.sheet.proofs.{Ends.sheet-most, Demand3.answers, Demand3.answered, Examples.crystal-steps}
 use Rattle.trial.specs.Load.{trialSheet}
 
 module _ (p : ClockConfig) (is : p ≡ crystalPlan Rp2040 12000000) (b b′ : List ℕ) (r : Length) (o : InitCall p 11 b r b′) (n : ℕ) where

@@ -1,8 +1,5 @@
 -- 22 bytes of the input are enough to read.
--- Assumes nothing.
-use mathlib.Core.List.{List}
-use mathlib.Core.Logic.{inl, inr}
-use mathlib.Core.Path.{_≡_}
+use mathlib.Core.{List.List, Logic.inl, Logic.inr, Path._≡_}
 use Prim.Native.Nat.{ℕ, _+_, _-_, _≤_}
 use native.Mathlib.Omega.{arith}
 use lib.ListN.{length, take, drop}

@@ -1,39 +1,16 @@
 -- The whole output of program `load`, for its input (docs/PROGRAMS.md, Program load).
--- Assumes nothing.
-use mathlib.Core.Bool.{Bool}
-use mathlib.Core.List.{List, [], _∷_, _++_}
-use Prim.Native.Nat.{ℕ, zero, suc, _+_}
-use lib.Dec.{ltb}
-use lib.ListN.{length, drop}
-use Rattle.base.specs.Answer.{Answer, value, refusal}
-use Rattle.base.specs.Choice.{pick}
-use Rattle.text.specs.Decimal.{numberOf}
-use Rattle.text.specs.Words.{upTo}
-use Rattle.replies.specs.Reply.{refusedLine, answerText, rowText}
-use Rattle.pll.specs.declared.PllConfig.{PllConfig}
-use Rattle.pll.specs.Search.{searchOf}
+use mathlib.Core.{Bool.Bool, List.List, List.[], List._∷_, List._++_}
+use Prim.Native.Nat.{ℕ, suc, _+_}
+use lib.{Dec.ltb, ListN.length, ListN.drop}
+use Rattle.base.specs.{Answer.Answer, Answer.value, Answer.refusal, Choice.pick}
+use Rattle.text.specs.{Decimal.numberOf, Words.upTo}
+use Rattle.replies.specs.Reply.{refusedLine, rowText}
 use Rattle.chip.specs.declared.Chip.the-variants.{Rp2040}
 use Rattle.config.specs.Presets.{crystalPlan}
 use Rattle.sheet.specs.Writer.{sheetBytes}
 use Rattle.runner.specs.declared.Runner.{Runner}
 use Rattle.up.specs.Wait.{runnerAfter}
-use Rattle.trial.specs.Draws.{drawn, topBit}
-
--- a text closed by a newline
-abbrev pub line : List ℕ → List ℕ
-line text = text ++ (10 ∷ [])
-
--- feedback divider, post 1, post 2
-abbrev pub dividers : PllConfig → List ℕ
-dividers p = rowText (p .fbdiv) (p .«post_div1» ∷ p .«post_div2» ∷ [])
-
--- target trial: a draw is a target at 12 MHz
-unfoldable pub targetLine : ℕ → List ℕ
-targetLine x = line (answerText dividers (searchOf 12000000 x))
-
-unfoldable pub targetLines : ℕ → ℕ → List ℕ
-targetLines seed zero = []
-targetLines seed (suc n) = targetLines seed n ++ targetLine (drawn seed (suc n))
+use Rattle.draws.specs.{Draws.drawn, Draws.topBit, Targets.line, Targets.targetLines}
 
 -- runner trial: over the crystal preset's 12 MHz sheet at reading 11 each call hears the top bit of a draw
 abbrev pub trialSheet : List ℕ

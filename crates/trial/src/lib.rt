@@ -3,23 +3,21 @@ use base::Length;
 use base::Number;
 use chip::Chip;
 use config::ClockConfig;
-use pll::Found;
 use runner::Runner;
 use step::MAX_BYTES;
 ghost use mathlib.Core.Bool.{false};
 ghost use mathlib.Core.Path.{_≡_};
-ghost use Prim.Native.Nat.{_*_, _%_, _^_, _≤_};
+ghost use Prim.Native.Nat.{_≤_};
 ghost use lib.ListN.{length};
 ghost use Rattle.base.specs.Answer.{value, numberIs};
 ghost use Rattle.base.specs.Placed.{Placed};
 ghost use Rattle.text.specs.Output.{Printed};
-ghost use Rattle.runner.specs.Run.{badSize};
+ghost use Rattle.kept.specs.Kept.{badSize};
 ghost use Rattle.up.specs.Wait.{runnerAfter};
-ghost use Rattle.trial.specs.Draws.{drawOf, topBit};
-ghost use Rattle.trial.specs.Load.{targetLine, targetLines, flags, trialRunner, runnerLine};
+ghost use Rattle.trial.specs.Load.{flags, trialRunner, runnerLine};
 ghost use Rattle.trial.specs.Load.{trials, loadWith, loadOf};
 
-// The crystal of both trials.
+// The crystal of the runner trial.
 const CRYSTAL_HZ: u32 = 12000000;
 
 // The regulator's reading: 1.10 V.
@@ -27,51 +25,6 @@ const READING: u8 = 11;
 
 // The largest count that is served.
 const MOST_COUNT: u32 = 10000;
-
-// The product modulo 32 bits.
-fn times(a: u32, b: u32) -> u32
-    ensures { λ r. ⌜ r ≡ (a * b) % 2 ^ 32 ⌝ }
-{
-    ((a as u64 * b as u64) % 4294967296) as u32
-}
-
-pub fn draw(x: u32) -> u32
-    ensures { λ r. ⌜ r ≡ drawOf x ⌝ }
-{
-    std::num::wrapping_add_u32(times(1664525, x), 1013904223)
-}
-
-fn top_bit(x: u32) -> bool
-    ensures { λ r. ⌜ r ≡ topBit x ⌝ }
-{
-    2147483648 <= x
-}
-
-// The setting for a target, on a line. At 12 MHz every target has one.
-fn put_target(out: &mut [u8], at: usize, x: u32) -> usize
-    ensures { λ r. ⌜ Placed (now (out .entry)) at (targetLine x) r (now (out .exit)) ⌝ }
-{
-    let Found::Params(p) = pll::find_pll_params(CRYSTAL_HZ, x) else {
-        return at;
-    };
-    let more = [p.post_div1 as u64, p.post_div2 as u64];
-    let at = replies::put_row(out, at, p.fbdiv as u64, &more);
-    text::put_byte(out, at, b'\n')
-}
-
-fn put_targets(out: &mut [u8], seed: u32, count: u32) -> usize
-    ensures { λ r. ⌜ Placed (now (out .entry)) 0 (targetLines seed count) r (now (out .exit)) ⌝ }
-{
-    let mut at = 0;
-    let mut x = seed;
-    let mut i = 0;
-    while i < count {
-        x = draw(x);
-        at = put_target(out, at, x);
-        i += 1;
-    }
-    at
-}
 
 // A runner that is started with a sheet: each call hears the top bit of a draw.
 fn run(sheet: &[u8], seed: u32, count: u32) -> Runner
@@ -83,8 +36,8 @@ fn run(sheet: &[u8], seed: u32, count: u32) -> Runner
     let mut x = seed;
     let mut i = 0;
     while i < count {
-        x = draw(x);
-        let stepped = runner::advance(runner, sheet, top_bit(x));
+        x = draws::draw(x);
+        let stepped = runner::advance(runner, sheet, draws::top_bit(x));
         runner = stepped.runner;
         i += 1;
     }
@@ -117,7 +70,7 @@ fn put_runner(out: &mut [u8], at: usize, r: Runner) -> usize
 fn put_trials(out: &mut [u8], seed: u32, count: u32) -> usize
     ensures { λ r. ⌜ Placed (now (out .entry)) 0 (trials seed count) r (now (out .exit)) ⌝ }
 {
-    let at = put_targets(out, seed, count);
+    let at = draws::put_targets(out, seed, count);
     put_runner(out, at, trial_runner(seed, count))
 }
 

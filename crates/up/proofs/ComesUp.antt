@@ -1,37 +1,25 @@
 -- Will it come up? The sheet of an accepted plan, at its reading, under a runner that was started with it.
--- Assumes nothing.
 use Prim.Native.Nat.{ℕ, _+_, _*_, _≤_, _<_}
-use native.Mathlib.Omega.{arith}
-use native.Mathlib.Nat.{mul-le-mul-left, lt-of-not-le}
-use native.Mathlib.Decide.{decLe}
-use mathlib.Core.Bool.{Bool}
-use mathlib.Core.List.{List}
-use mathlib.Core.Path.{_≡_, refl}
+use native.Mathlib.{Omega.arith, Nat.mul-le-mul-left, Nat.lt-of-not-le, Decide.decLe}
+use mathlib.Core.{Bool.Bool, List.List, Path._≡_, Path.refl}
 use lib.ListN.{length}
 use Rattle.step.specs.Sheet.{encoded}
-use Rattle.chip.specs.declared.Chip.{Chip}
-use Rattle.chip.specs.declared.Chip.the-variants.{Rp2040, Rp235x}
-use Rattle.divider.specs.Delay.{cyclesPerUs, settlingCycles}
-use Rattle.divider.specs.Clock.{dividedHz}
+use Rattle.chip.specs.declared.{Chip.Chip, Chip.the-variants.Rp2040, Chip.the-variants.Rp235x}
+use Rattle.divider.specs.{Delay.cyclesPerUs, Delay.settlingCycles, Clock.dividedHz}
 use Rattle.config.specs.declared.ClockConfig.{ClockConfig}
 use Rattle.settings.specs.Settings.{settlingStep, settingsOf}
 use Rattle.settings.specs.Frequencies.{pllHz, sourcesOf, refHz, sysHz, tenOf}
 use Rattle.settings.specs.Typed.{Typed}
 use Rattle.refusals.specs.Refusals.{Accepted}
-use Rattle.sheet.specs.Steps.{headPart, ringPart, voltagePart, crystalPart, switchSteps, sysPart, periPart, auxPart}
-use Rattle.sheet.specs.Steps.{rtcPart, clocksPart, stepsOf, mostSteps}
+use Rattle.sheet_steps.specs.Steps.{headPart, ringPart, voltagePart, crystalPart, switchSteps, sysPart, periPart, auxPart}
+use Rattle.sheet_steps.specs.Steps.{rtcPart, clocksPart, stepsOf, mostSteps}
 use Rattle.sheet.specs.Writer.{sheetBytes}
-use Rattle.sheet.proofs.Counts.{chip-few, steps-few}
-use Rattle.sheet.proofs.Sheets.{steps-formed}
+use Rattle.sheet.proofs.{Counts.chip-few, Counts.steps-few, Sheets.steps-formed}
 use Rattle.sheet.proofs.Examples.{Gives, longestPlan, longest-steps, longest235, longest-steps-235}
-use Rattle.up.specs.Up.{planSteps}
-use Rattle.up.specs.Wait.{HearsAtMost, waitsIn, UpAfter, UpWithin}
-use Rattle.up.specs.Slow.{slowest}
+use Rattle.up.specs.{Up.planSteps, Wait.HearsAtMost, Wait.waitsIn, Wait.UpAfter, Wait.UpWithin, Slow.slowest}
 use Rattle.up.specs.ComesUp.{maxWaits, mostCalls, ComesUp, ComesUpReady}
-use Rattle.up.proofs.Stored.{steps-store}
-use Rattle.up.proofs.Wait.{steps-come-up, steps-come-up-ready}
-use Rattle.up.proofs.Slow.{slow-few, steps-come-up-slowest}
-use Rattle.up.proofs.Waits.{waits-ten}
+use Rattle.up.proofs.{Stored.steps-store, Wait.steps-come-up, Wait.steps-come-up-ready}
+use Rattle.up.proofs.{Slow.slow-few, Slow.steps-come-up-slowest, Waits.waits-ten}
 
 module _ (p : ClockConfig) (reading : ℕ) (ok : Accepted p reading) (t : Typed (settingsOf p reading)) where
   pub comes-up : ComesUp p reading

@@ -1,23 +1,17 @@
 -- A plan's sheet starts any runner; that of an accepted plan, at any reading, runs to its end and leaves its stored values.
--- Assumes nothing.
-use mathlib.Core.Bool.{false}
-use mathlib.Core.Path.{_≡_, sym, _∙_, ap}
+use mathlib.Core.{Bool.false, Path._≡_, Path.sym, Path._∙_, Path.ap}
 use Prim.Native.Nat.{ℕ}
 use lib.ListN.{length}
 use Rattle.config.specs.declared.ClockConfig.{ClockConfig}
-use Rattle.settings.specs.Settings.{settingsOf}
-use Rattle.settings.specs.Typed.{Typed}
+use Rattle.settings.specs.{Settings.settingsOf, Typed.Typed}
 use Rattle.refusals.specs.Refusals.{Accepted}
 use Rattle.sheet.specs.Writer.{sheetBytes}
-use Rattle.sheet.proofs.Counts.{steps-few}
-use Rattle.sheet.proofs.Sheets.{steps-formed}
-use Rattle.runner.specs.Run.{badSize}
+use Rattle.sheet.proofs.{Counts.steps-few, Sheets.steps-formed}
+use Rattle.kept.specs.Kept.{badSize}
 use Rattle.runner.specs.Calls.{readyAt}
 use Rattle.step.specs.Sheet.{encoded}
 use Rattle.step.proofs.Sheets.{length-encoded}
-use Rattle.runner.proofs.Starts.{start-kept}
-use Rattle.runner.proofs.Going.{good-size}
-use Rattle.runner.proofs.Ready.{ready-answers, ready-stores}
+use Rattle.runner.proofs.{Starts.start-kept, Going.good-size, Ready.ready-answers, Ready.ready-stores}
 use Rattle.up.specs.Up.{planSteps, Starts, AnswersAll, LeavesStored}
 use Rattle.up.proofs.Stored.{steps-store}
 

@@ -1,20 +1,15 @@
 -- The stream that keeps a runner waiting longest: k unready polls at each wait, no fewer and no more.
--- Assumes nothing.
 use Prim.Native.Nat.{ℕ, zero, suc, _+_, _*_, _≤_, _<_}
 use native.Mathlib.Omega.{arith}
-use mathlib.Core.Bool.{Bool, true, false, _&&_, not}
-use mathlib.Core.List.{List}
+use mathlib.Core.{Bool.Bool, Bool.true, Bool.false, Bool._&&_, Bool.not, List.List}
 use mathlib.Core.Path.{_≡_, refl, sym, ap, ap₂, _∙_}
 use borrow.Author.Tests.{eqb-true, leb-false, lt-leb}
-use lib.Dec.{eqb, leb}
-use lib.ListN.{length, replicate}
+use lib.{Dec.eqb, Dec.leb, ListN.length, ListN.replicate}
 use Rattle.base.specs.Choice.{bit}
 use Rattle.step.specs.declared.Step.{Step}
-use Rattle.step.specs.Access.{readAt}
-use Rattle.step.specs.Sheet.{maxSteps, encoded, AllFormed}
+use Rattle.step.specs.{Access.readAt, Sheet.maxSteps, Sheet.encoded, Sheet.AllFormed}
 use Rattle.runner.specs.declared.Runner.{Runner}
-use Rattle.runner.specs.Run.{advanceOf}
-use Rattle.runner.specs.Calls.{storesOf}
+use Rattle.runner.specs.{Run.advanceOf, Calls.storesOf}
 use Rattle.up.specs.Wait.{runnerAfter, holdsWait, unreadyPoll, heard, HearsAtMost, waitsIn, UpAfter}
 use Rattle.up.specs.Slow.{HearsAll, slowReady, slowAfter, slowest}
 use Rattle.up.proofs.Wait.{steps-come-up-after}

@@ -1,11 +1,7 @@
 -- The frequencies after a sheet's steps are its stored values: only stores set them, and a sheet's stores are known.
--- Assumes nothing.
-use mathlib.Core.Bool.{Bool, true, false}
-use mathlib.Core.List.{List, [], _∷_}
-use mathlib.Core.Path.{_≡_, refl, ap, _∙_}
+use mathlib.Core.{Bool.Bool, Bool.true, Bool.false, List.List, List.[], List._∷_, Path._≡_, Path.refl, Path.ap, Path._∙_}
 use Prim.Native.Nat.{ℕ}
-use lib.Dec.{eqb}
-use lib.ListN.{replicate}
+use lib.{Dec.eqb, ListN.replicate}
 use Rattle.base.specs.Choice.{pick}
 use Rattle.step.specs.declared.Step.{Step}
 use Rattle.step.specs.Kinds as kind
@@ -16,11 +12,10 @@ use Rattle.config.specs.Board.{boardOf}
 use Rattle.settings.specs.declared.Sources.{Sources}
 use Rattle.settings.specs.Settings.{settingsOf}
 use Rattle.settings.specs.Frequencies.{rtcHz, tenthOf, storedOf, tenOf}
-use Rattle.sheet.specs.Steps.{stepsOf}
+use Rattle.sheet_steps.specs.Steps.{stepsOf}
 use Rattle.sheet.specs.Stores.{storesIn, storesFrom}
 use Rattle.sheet.proofs.Stores.{sheet-stores}
-use Rattle.runner.specs.Run.{storedBy}
-use Rattle.runner.specs.Calls.{storesOf}
+use Rattle.runner.specs.{Run.storedBy, Calls.storesOf}
 
 no-store : (x : Step) (freqs : List ℕ) → eqb (x .kind) kind.store ≡ false → storedBy x freqs ≡ freqs
 unfolding storedBy

@@ -1,21 +1,16 @@
 -- Calls of a runner over the sheet that it was started with, one for each ready flag of a stream.
--- Assumes nothing.
 use Prim.Native.Nat.{ℕ, zero, suc, _+_, _*_, _≤_, _<_}
-use native.Mathlib.Omega.{arith}
-use native.Mathlib.Nat.{zero-add}
-use mathlib.Core.Bool.{Bool, true, false}
-use mathlib.Core.List.{List}
-use mathlib.Core.Path.{_≡_, refl, ap, _∙_}
+use native.Mathlib.{Omega.arith, Nat.zero-add}
+use mathlib.Core.{Bool.Bool, Bool.true, Bool.false, List.List, Path._≡_, Path.refl, Path.ap, Path._∙_}
 use borrow.Author.Tests.{eq-eqb, ne-eqb}
 use lib.ListN.{length}
 use Rattle.base.specs.Answer.{value}
 use Rattle.step.specs.declared.Step.{Step}
-use Rattle.step.specs.Access.{readAt}
-use Rattle.step.specs.Sheet.{maxSteps}
+use Rattle.step.specs.{Access.readAt, Sheet.maxSteps}
 use Rattle.runner.specs.declared.Runner.{Runner}
 use Rattle.runner.specs.Run.{Outcome, isWait, advanceOf}
 use Rattle.runner.proofs.Going.{standing, done-at}
-use Rattle.up.specs.Wait.{runnerAfter, answerTo, unreadyPoll, heard}
+use Rattle.up.specs.Wait.{runnerAfter, callAnswer, unreadyPoll, heard}
 
 module _ (sheet : List ℕ) (ready : ℕ → Bool) where
   abbrev pub at : ℕ → Runner
@@ -29,7 +24,7 @@ module _ (sheet : List ℕ) (ready : ℕ → Bool) where
       ap (λ (y : Runner). advanceOf y sheet (ready i) .next) e ∙ ap (λ (o : Outcome Runner). o .next) c
 
   pub answered : (i : ℕ) (r : Runner) (x : Outcome Runner) → at i ≡ r → advanceOf r sheet (ready i) ≡ x
-      → answerTo sheet ready i ≡ x .answer
+      → callAnswer sheet ready i ≡ x .answer
   answered i r x e c =
       ap (λ (y : Runner). advanceOf y sheet (ready i) .answer) e ∙ ap (λ (o : Outcome Runner). o .answer) c
 

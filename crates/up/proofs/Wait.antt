@@ -1,23 +1,19 @@
 -- A sheet of well-formed steps under a runner that hears at most k unready polls at each wait, k under 1000000.
--- Assumes nothing.
 use Prim.Native.Nat.{ℕ, zero, suc, _+_, _-_, _*_, _≤_, _<_}
 use native.Mathlib.Omega.{arith}
 use native.Mathlib.Nat.{add-zero, zero-add, mul-add, mul-one, mul-zero, zero-mul, eq-or-lt-of-le}
-use mathlib.Core.Bool.{Bool, true, false}
-use mathlib.Core.Logic.{_⊎_, inl, inr}
-use mathlib.Core.List.{List, [], _∷_}
+use mathlib.Core.{Bool.Bool, Bool.true, Bool.false, Logic._⊎_, Logic.inl, Logic.inr, List.List, List.[], List._∷_}
 use mathlib.Core.Path.{_≡_, refl, sym, ap, _∙_}
 use lib.ListN.{length, getD, replicate}
 use Rattle.base.specs.Answer.{value}
 use Rattle.step.specs.declared.Step.{Step}
-use Rattle.step.specs.Access.{readAt}
-use Rattle.step.specs.Sheet.{maxSteps, encoded, AllFormed}
+use Rattle.step.specs.{Access.readAt, Sheet.maxSteps, Sheet.encoded, Sheet.AllFormed}
 use Rattle.step.proofs.Sheets.{length-encoded, read-encoded}
 use Rattle.runner.specs.declared.Runner.{Runner}
 use Rattle.runner.specs.Run.{passed, waiting, outcome, isWait, oneMore, takeStep, storedBy}
 use Rattle.runner.specs.Calls.{storesOf}
 use Rattle.runner.proofs.Going.{going, standing, wait-stores, hands, passes, polls-on, done-at, step-at}
-use Rattle.up.specs.Wait.{runnerAfter, answerTo, heard, HearsAtMost, waitsIn, OnTheWay, UpAfter, UpWithin}
+use Rattle.up.specs.Wait.{runnerAfter, callAnswer, heard, HearsAtMost, waitsIn, OnTheWay, UpAfter, UpWithin}
 use Rattle.up.specs.Slow.{HearsAll}
 use Rattle.up.proofs.Stream.{at, next, answered, stays-done, elsewhere, polled-here}
 
@@ -50,7 +46,7 @@ module _ (sheet : List ℕ) (n : ℕ) (few : n ≤ maxSteps) (size : length shee
     from : a ≤ calls
     within-most : calls ≤ most
     all : HearsAll k sheet ready → most ≤ calls
-    before : (i : ℕ) → a ≤ i → i < calls → OnTheWay (answerTo sheet ready i)
+    before : (i : ℕ) → a ≤ i → i < calls → OnTheWay (callAnswer sheet ready i)
     left : now calls ≡ standing sheet n 0 total freqs
 
   position : (i p c polls total : ℕ) (freqs : List ℕ) → At i p c polls total freqs → now i .stepper .state .position ≡ p
@@ -64,7 +60,7 @@ module _ (sheet : List ℕ) (n : ℕ) (few : n ≤ maxSteps) (size : length shee
       λ q h. elsewhere sheet ready i p q (position i p c polls total freqs a) h (a .ahead q h) in
       record { is = e; here = past (p + 1) (omega arith); ahead = λ q h. past q (omega arith) }
 
-  one-more : (i most : ℕ) (freqs : List ℕ) → OnTheWay (answerTo sheet ready i) → Goes (suc i) most freqs
+  one-more : (i most : ℕ) (freqs : List ℕ) → OnTheWay (callAnswer sheet ready i) → Goes (suc i) most freqs
       → Goes i most freqs
   one-more i most freqs w g =
       record {
@@ -77,7 +73,7 @@ module _ (sheet : List ℕ) (n : ℕ) (few : n ≤ maxSteps) (size : length shee
         left = g .left;
       }
     where
-      first : (j : ℕ) → i ≤ j → j < g .calls → (i ≡ j) ⊎ (i < j) → OnTheWay (answerTo sheet ready j)
+      first : (j : ℕ) → i ≤ j → j < g .calls → (i ≡ j) ⊎ (i < j) → OnTheWay (callAnswer sheet ready j)
       first j h l (inl e) = rw e at w
       first j h l (inr m) = g .before j (omega arith) l
 
@@ -93,7 +89,7 @@ module _ (sheet : List ℕ) (n : ℕ) (few : n ≤ maxSteps) (size : length shee
         rw u (passes (going p polls total) step w) in
         let call = step-at sheet n few size step p polls total freqs (ready i) _ below (omega arith) read taken in
         let g = onward (suc i) total (moved i p c polls total total freqs freqs a (next sheet ready i _ _ (a .is) call)) in
-        let way : OnTheWay (answerTo sheet ready i) = rw (answered sheet ready i _ _ (a .is) call) tt in
+        let way : OnTheWay (callAnswer sheet ready i) = rw (answered sheet ready i _ _ (a .is) call) tt in
         let waited : HearsAll k sheet ready → c < k → ready i ≡ false =
         λ s l. s i (rw (position i p c polls total freqs a) (omega (arith, a .here))) in
         one-more i (i + d + suc rest) ends way
@@ -124,7 +120,7 @@ module _ (sheet : List ℕ) (n : ℕ) (few : n ≤ maxSteps) (size : length shee
         ≡ outcome (value waiting) (going p (poll .now) (oneMore total)) = rw u (poll .is) in
         let call = step-at sheet n few size step p polls total freqs (ready i) _ below (omega arith) read taken in
         let place = position i p c polls total freqs a in
-        let way : OnTheWay (answerTo sheet ready i) = rw (answered sheet ready i _ _ (a .is) call) tt in
+        let way : OnTheWay (callAnswer sheet ready i) = rw (answered sheet ready i _ _ (a .is) call) tt in
         let most : suc i + d + suc rest ≡ i + suc d + suc rest = omega arith in
         one-more i (i + suc d + suc rest) ends way
         (rw most at
@@ -168,7 +164,7 @@ module _ (sheet : List ℕ) (n : ℕ) (few : n ≤ maxSteps) (size : length shee
     no-wait w =
         let hand = hands (going p 0 total) step (ready i) w in
         let call = step-at sheet n few size step p 0 total freqs (ready i) _ below (omega arith) read hand in
-        let way : OnTheWay (answerTo sheet ready i) = rw (answered sheet ready i _ _ (a .is) call) tt in
+        let way : OnTheWay (callAnswer sheet ready i) = rw (answered sheet ready i _ _ (a .is) call) tt in
         let most : suc i + after ts ≡ i + after (step ∷ ts) = rw (other-counts step ts w) (omega arith) in
         let g : Goes (suc i) (suc i + after ts) (storesOf ts (storedBy step freqs)) =
         onward (storedBy step freqs) (suc i) total

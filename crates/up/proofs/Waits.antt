@@ -1,19 +1,15 @@
 -- A sheet has at most 10 waits.
--- Assumes nothing.
 use Prim.Native.Nat.{ℕ, _≤_}
 use native.Mathlib.Omega.{arith}
-use mathlib.Core.List.{List, [], _∷_}
-use mathlib.Core.Path.{_≡_, refl}
+use mathlib.Core.{List.List, List.[], List._∷_, Path._≡_, Path.refl}
 use Rattle.base.specs.Choice.{bit}
 use Rattle.step.specs.declared.Step.{Step}
-use Rattle.chip.specs.declared.Chip.{Chip}
-use Rattle.chip.specs.declared.Chip.the-variants.{Rp2040, Rp235x}
+use Rattle.chip.specs.declared.{Chip.Chip, Chip.the-variants.Rp2040, Chip.the-variants.Rp235x}
 use Rattle.settings.specs.declared.Settings.{Settings}
-use Rattle.sheet.specs.Steps.{stepsOf}
+use Rattle.sheet_steps.specs.Steps.{stepsOf}
 use Rattle.sheet.proofs.Counts.{weight, weigh, clocksKinds, sheetKinds, steps-most}
 use Rattle.runner.specs.Run.{isWait}
-use Rattle.up.specs.Wait.{waitsIn}
-use Rattle.up.specs.ComesUp.{maxWaits}
+use Rattle.up.specs.{Wait.waitsIn, ComesUp.maxWaits}
 
 weighed : (xs : List Step) → weigh (λ k. bit (isWait k)) xs ≡ waitsIn xs
 weighed [] = omega arith

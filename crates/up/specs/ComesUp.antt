@@ -1,19 +1,15 @@
 -- Will it come up? How many calls a sheet of ours may take (docs/FORMAT.md, How long a run takes).
--- Assumes nothing.
 use Prim.Native.Nat.{ℕ, _+_, _*_, _<_}
 use mathlib.Core.Bool.{Bool}
-use lib.Dec.{ltb}
-use lib.ListN.{length}
+use lib.{Dec.ltb, ListN.length}
 use Rattle.base.specs.Choice.{pick}
 use Rattle.step.specs.Sheet.{maxSteps}
 use Rattle.chip.specs.declared.Chip.{Chip}
 use Rattle.config.specs.declared.ClockConfig.{ClockConfig}
-use Rattle.settings.specs.Settings.{settingsOf}
-use Rattle.settings.specs.Frequencies.{tenOf}
-use Rattle.sheet.specs.Steps.{mostSteps}
+use Rattle.settings.specs.{Settings.settingsOf, Frequencies.tenOf}
+use Rattle.sheet_steps.specs.Steps.{mostSteps}
 use Rattle.sheet.specs.Writer.{sheetBytes}
-use Rattle.up.specs.Up.{planSteps}
-use Rattle.up.specs.Wait.{HearsAtMost, UpAfter, UpWithin}
+use Rattle.up.specs.{Up.planSteps, Wait.HearsAtMost, Wait.UpAfter, Wait.UpWithin}
 
 -- of a sheet's steps at most 10 are waits
 abbrev pub maxWaits : ℕ

@@ -1,9 +1,6 @@
 -- Inside: the stream that keeps a runner waiting longest.
--- Assumes nothing.
 use Prim.Native.Nat.{ℕ, zero, suc, _+_, _<_}
-use mathlib.Core.Bool.{Bool, false}
-use mathlib.Core.Path.{_≡_}
-use mathlib.Core.List.{List}
+use mathlib.Core.{Bool.Bool, Bool.false, Path._≡_, List.List}
 use lib.Dec.{leb}
 use Rattle.runner.specs.declared.Runner.{Runner}
 use Rattle.runner.specs.Run.{startedWith, advanceOf}

@@ -1,16 +1,12 @@
 -- Inside: a plan's sheet under a runner that was started with it and hears ready at each call.
--- Assumes nothing.
-use mathlib.Core.Bool.{true}
-use mathlib.Core.List.{List, [], _∷_, _++_, map}
-use mathlib.Core.Path.{_≡_}
+use mathlib.Core.{Bool.true, List.List, List.[], List._∷_, List._++_, List.map, Path._≡_}
 use Prim.Native.Nat.{ℕ, _+_}
 use lib.ListN.{length, replicate}
 use Rattle.base.specs.Answer.{value}
 use Rattle.step.specs.declared.Step.{Step}
 use Rattle.config.specs.declared.ClockConfig.{ClockConfig}
-use Rattle.settings.specs.Settings.{settingsOf}
-use Rattle.settings.specs.Frequencies.{tenOf}
-use Rattle.sheet.specs.Steps.{stepsOf}
+use Rattle.settings.specs.{Settings.settingsOf, Frequencies.tenOf}
+use Rattle.sheet_steps.specs.Steps.{stepsOf}
 use Rattle.sheet.specs.Writer.{sheetBytes}
 use Rattle.runner.specs.declared.Runner.{Runner}
 use Rattle.runner.specs.Run.{done, begun, started, startedWith, startOf}

@@ -1,12 +1,8 @@
 -- A runner that was started with a sheet, over it with any stream of ready flags: how many calls come before done, and what it holds then.
--- Assumes nothing.
 use Prim.Native.Nat.{ℕ, zero, suc, _+_, _*_, _≤_, _<_}
-use mathlib.Core.Bool.{Bool, false, _&&_, not}
-use mathlib.Core.Path.{_≡_}
-use mathlib.Core.List.{List, [], _∷_}
+use mathlib.Core.{Bool.Bool, Bool.false, Bool._&&_, Bool.not, Path._≡_, List.List, List.[], List._∷_}
 use lib.Dec.{eqb}
-use Rattle.base.specs.Answer.{Answer, value, refusal}
-use Rattle.base.specs.Choice.{bit}
+use Rattle.base.specs.{Answer.Answer, Answer.value, Answer.refusal, Choice.bit}
 use Rattle.step.specs.declared.Step.{Step}
 use Rattle.step.specs.Access.{readAt}
 use Rattle.runner.specs.declared.Runner.{Runner}
@@ -17,8 +13,8 @@ unfoldable pub runnerAfter : List ℕ → (ℕ → Bool) → ℕ → Runner
 runnerAfter sheet ready zero = startedWith sheet
 runnerAfter sheet ready (suc i) = advanceOf (runnerAfter sheet ready i) sheet (ready i) .next
 
-abbrev pub answerTo : List ℕ → (ℕ → Bool) → ℕ → Answer Progress
-answerTo sheet ready i = advanceOf (runnerAfter sheet ready i) sheet (ready i) .answer
+abbrev pub callAnswer : List ℕ → (ℕ → Bool) → ℕ → Answer Progress
+callAnswer sheet ready i = advanceOf (runnerAfter sheet ready i) sheet (ready i) .answer
 
 abbrev pub holdsWait : Answer Step → Bool
 holdsWait (value step) = isWait (step .kind)
@@ -47,8 +43,8 @@ OnTheWay (refusal n) = ⊥
 
 -- this many calls come before the first that answers done; from then on nothing changes, and these are the frequencies
 pub record UpAfter (calls : ℕ) (sheet : List ℕ) (ready : ℕ → Bool) (freqs : List ℕ) : Type 0 where
-  pub before : (i : ℕ) → i < calls → OnTheWay (answerTo sheet ready i)
-  pub ends : (i : ℕ) → calls ≤ i → answerTo sheet ready i ≡ value done
+  pub before : (i : ℕ) → i < calls → OnTheWay (callAnswer sheet ready i)
+  pub ends : (i : ℕ) → calls ≤ i → callAnswer sheet ready i ≡ value done
   pub stays : (i : ℕ) → calls ≤ i → runnerAfter sheet ready i ≡ runnerAfter sheet ready calls
   pub holds : runnerAfter sheet ready calls .stepper .freqs ≡ freqs
 

@@ -1,14 +1,12 @@
 -- A code read back gives its voltage; codes and brownout levels fit 4 bits, and greater numbers are no codes.
--- Assumes nothing.
-use mathlib.Core.Path.{_≡_, refl}
-use mathlib.Core.List.{List, [], _∷_}
+use mathlib.Core.{Path._≡_, Path.refl, List.List, List.[], List._∷_}
 use Prim.Native.Nat.{ℕ, _<_}
 use native.Mathlib.Omega.{arith}
 use borrow.Author.Tests.{ne-eqb}
 use Rattle.base.specs.Answer.{value, refusal}
 use Rattle.voltage.specs.declared.CoreVoltage.{CoreVoltage}
-use Rattle.voltage.specs.declared.CoreVoltage.the-variants.{V0_80, V0_85, V0_90, V0_95, V1_00, V1_05}
-use Rattle.voltage.specs.declared.CoreVoltage.the-variants.{V1_10, V1_15, V1_20, V1_25, V1_30}
+use Rattle.voltage.specs.declared.CoreVoltage.the-variants.{V0_80, V0_85, V0_90, V0_95, V1_00, V1_05, V1_10, V1_15}
+use Rattle.voltage.specs.declared.CoreVoltage.the-variants.{V1_20, V1_25, V1_30}
 use Rattle.voltage.specs.declared.CoreVoltage235.{CoreVoltage235}
 use Rattle.voltage.specs.declared.CoreVoltage235.the-variants as new
 use Rattle.voltage.specs.Voltage235.{code235Of, bod235Of, coreVoltage235Of}

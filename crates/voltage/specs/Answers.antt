@@ -1,9 +1,6 @@
 -- What each case of the enum of answers stands for.
--- Assumes nothing.
 use Rattle.base.specs.Answer.{Answer, value, refusal}
-use Rattle.voltage.specs.declared.CoreVoltage.{CoreVoltage}
-use Rattle.voltage.specs.declared.CoreVoltage235.{CoreVoltage235}
-use Rattle.voltage.specs.declared.VoltageRead.{VoltageRead}
+use Rattle.voltage.specs.declared.{CoreVoltage.CoreVoltage, CoreVoltage235.CoreVoltage235, VoltageRead.VoltageRead}
 use Rattle.voltage.specs.declared.VoltageRead.the-variants.{Voltage, Refused}
 use Rattle.voltage.specs.declared.VoltageRead235.{VoltageRead235}
 use Rattle.voltage.specs.declared.VoltageRead235.the-variants.{Voltage as Voltage235, Refused as Refused235}

@@ -1,29 +1,27 @@
 -- The core voltages of the RP2040: register codes, brownout levels, default settling times, and what a reading stands for.
--- Assumes nothing.
 use Prim.Native.Nat.{ℕ}
 use mathlib.Core.List.{List, [], _∷_}
 use lib.Dec.{eqb}
-use Rattle.base.specs.Choice.{pick}
-use Rattle.base.specs.Answer.{Answer, value, refusal}
-use Rattle.voltage.specs.declared.Volts.{Volts}
-use Rattle.voltage.specs.declared.CoreVoltage.{CoreVoltage}
+use Rattle.base.specs.{Choice.pick, Answer.Answer, Answer.value, Answer.refusal}
+use Rattle.voltage.specs.declared.{Volts.Volts, CoreVoltage.CoreVoltage}
 
-abbrev pub row : ℕ → ℕ → ℕ → Volts
-row a b c = record { 0 = a; 1 = b; 2 = c }
+-- a voltage's code, brownout level and microseconds
+abbrev pub voltsRow : ℕ → ℕ → ℕ → Volts
+voltsRow a b c = record { 0 = a; 1 = b; 2 = c }
 
 -- the voltage code, the brownout level by the Rust's `recommended_bod`, and microseconds where a plan gives no settling time
 abbrev pub voltsOf : CoreVoltage → Volts
-voltsOf CoreVoltage.V0_80 = row 0 4 0
-voltsOf CoreVoltage.V0_85 = row 6 5 0
-voltsOf CoreVoltage.V0_90 = row 7 6 0
-voltsOf CoreVoltage.V0_95 = row 8 7 0
-voltsOf CoreVoltage.V1_00 = row 9 8 0
-voltsOf CoreVoltage.V1_05 = row 10 8 0
-voltsOf CoreVoltage.V1_10 = row 11 9 0
-voltsOf CoreVoltage.V1_15 = row 12 10 1000
-voltsOf CoreVoltage.V1_20 = row 13 11 2000
-voltsOf CoreVoltage.V1_25 = row 14 12 2000
-voltsOf CoreVoltage.V1_30 = row 15 13 2000
+voltsOf CoreVoltage.V0_80 = voltsRow 0 4 0
+voltsOf CoreVoltage.V0_85 = voltsRow 6 5 0
+voltsOf CoreVoltage.V0_90 = voltsRow 7 6 0
+voltsOf CoreVoltage.V0_95 = voltsRow 8 7 0
+voltsOf CoreVoltage.V1_00 = voltsRow 9 8 0
+voltsOf CoreVoltage.V1_05 = voltsRow 10 8 0
+voltsOf CoreVoltage.V1_10 = voltsRow 11 9 0
+voltsOf CoreVoltage.V1_15 = voltsRow 12 10 1000
+voltsOf CoreVoltage.V1_20 = voltsRow 13 11 2000
+voltsOf CoreVoltage.V1_25 = voltsRow 14 12 2000
+voltsOf CoreVoltage.V1_30 = voltsRow 15 13 2000
 
 abbrev pub codeOf : CoreVoltage → ℕ
 codeOf v = voltsOf v .0

@@ -1,4 +1,1 @@
-pub mod Commas
-pub mod Forms
 pub mod Starts
-pub mod Named

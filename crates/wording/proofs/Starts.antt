@@ -1,25 +1,14 @@
 -- 4109 bytes of the input are enough to read.
--- Assumes nothing.
-use mathlib.Core.Bool.{Bool, true, false, _&&_}
-use mathlib.Core.List.{List, [], _∷_}
-use mathlib.Core.Logic.{inl, inr}
-use mathlib.Core.Option.{none, some}
-use mathlib.Core.Path.{_≡_, refl, sym, ap, _∙_}
+use mathlib.Core.{Bool.Bool, Bool.true, Bool.false, Bool._&&_, List.List, List.[], List._∷_, Logic.inl, Logic.inr}
+use mathlib.Core.{Option.none, Option.some, Path._≡_, Path.refl, Path.sym, Path.ap, Path._∙_}
 use Prim.Native.Nat.{ℕ, _+_, _-_, _*_, _≤_, _<_}
-use native.Mathlib.Decide.{decLe}
-use native.Mathlib.Omega.{arith}
+use native.Mathlib.{Decide.decLe, Omega.arith}
 use borrow.Author.Tests.{lt-leb}
-use lib.Dec.{leb}
-use lib.ListN.{length, take, drop, length-take, drop-of-length-le}
-use lib.Seq.{take-all}
-use Rattle.base.specs.Answer.{Answer, value, refusal}
-use Rattle.base.specs.Choice.{pick}
-use Rattle.text.specs.Decimal.{numberOf}
-use Rattle.text.specs.Hex.{isHexWord, pairValues, isReadable}
-use Rattle.text.specs.Words.{upTo, indexFrom, lineNumberOf}
-use Rattle.text.specs.Output.{Printed}
-use Rattle.text.proofs.Lines.{between, up-take, word-known, drop-take}
-use Rattle.text.proofs.Outputs.{whole}
+use lib.{Dec.leb, ListN.length, ListN.take, ListN.drop, ListN.length-take, ListN.drop-of-length-le, Seq.take-all}
+use Rattle.base.specs.{Answer.Answer, Answer.value, Answer.refusal, Choice.pick}
+use Rattle.text.specs.{Decimal.numberOf, Hex.isHexWord, Hex.pairValues, Hex.isReadable}
+use Rattle.text.specs.{Words.upTo, Words.indexFrom, Words.lineNumberOf, Output.Printed}
+use Rattle.text.proofs.{Lines.between, Lines.up-take, Lines.word-known, Lines.drop-take, Outputs.whole}
 use Rattle.plan_text.specs.Put.{Put}
 use Rattle.readback.specs.Read.{readOf}
 use Rattle.read_cases.specs.Reads.{sheetIn}

@@ -1,12 +1,8 @@
 -- The whole output of program `explain`, for its input (docs/PROGRAMS.md, Program explain).
--- Assumes nothing.
-use mathlib.Core.List.{List}
-use mathlib.Core.Option.{Option, none, some}
+use mathlib.Core.{List.List, Option.Option, Option.none, Option.some}
 use Prim.Native.Nat.{ℕ, _+_}
-use lib.Dec.{ltb}
-use lib.ListN.{length, drop}
-use Rattle.base.specs.Answer.{Answer, value, refusal}
-use Rattle.base.specs.Choice.{pick}
+use lib.{Dec.ltb, ListN.length, ListN.drop}
+use Rattle.base.specs.{Answer.Answer, Answer.value, Answer.refusal, Choice.pick}
 use Rattle.text.specs.Words.{upTo, lineNumberOf}
 use Rattle.replies.specs.Reply.{refusedLine}
 use Rattle.config.specs.declared.ClockConfig.{ClockConfig}

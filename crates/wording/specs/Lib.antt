@@ -1,5 +1,2 @@
-pub mod Form
-pub mod Names
-pub mod Lines
 pub mod Words
 pub mod Explain

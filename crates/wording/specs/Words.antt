@@ -1,18 +1,15 @@
 -- A plan at a reading in words: its chip, a line for each setting, what stays in reset, and its numbers.
--- Assumes nothing.
 use mathlib.Core.List.{List, _++_}
 use Prim.Native.Nat.{ℕ}
 use Rattle.text.specs.Ascii.{ascii}
 use Rattle.chip.specs.Chips.{factsOf}
 use Rattle.config.specs.declared.ClockConfig.{ClockConfig}
-use Rattle.settings.specs.declared.Settings.{Settings}
-use Rattle.settings.specs.declared.Frequencies.{Frequencies}
-use Rattle.settings.specs.Settings.{settingsOf}
-use Rattle.settings.specs.Frequencies.{frequenciesOf}
+use Rattle.settings.specs.declared.{Settings.Settings, Frequencies.Frequencies}
+use Rattle.settings.specs.{Settings.settingsOf, Frequencies.frequenciesOf}
 use Rattle.replies.specs.Reply.{spaced}
 use Rattle.plan_row.specs.Row.{sysPllIn, usbPllIn, planRow}
-use Rattle.wording.specs.Lines.{chipLine, ringLine, crystalLine, pllLine, voltageLine, settlingLine, refLine, sysLine}
-use Rattle.wording.specs.Lines.{periLine, auxLine, rtcLine, isRp2040, noPeri, noAux, noRtc, resetLine}
+use Rattle.phrases.specs.Lines.{chipLine, ringLine, crystalLine, pllLine, voltageLine, settlingLine, refLine, sysLine}
+use Rattle.phrases.specs.Lines.{periLine, auxLine, rtcLine, isRp2040, noPeri, noAux, noRtc, resetLine}
 
 -- chip, ring, crystal and PLLs
 unfoldable pub sourceLines : ClockConfig → Settings → Frequencies → List ℕ

@@ -1,12 +1,8 @@
 // The whole output of the program `explain` for its input.
-mod clocks;
-mod form;
-mod names;
-mod sources;
 
 use base::Number;
 use config::ClockConfig;
-use form::put_bytes;
+use phrases::form::put_bytes;
 use read_cases::Asked;
 use settings::Frequencies;
 use settings::Settings;
@@ -30,11 +26,11 @@ fn put_sources(out: &mut [u8], plan: ClockConfig, s: Settings, f: Frequencies) -
     let crystal = s.xosc;
     let xosc = plan.xosc;
     let hz = f.sources;
-    let at = sources::put_chip(out, 0, chip);
-    let at = sources::put_ring(out, at, ring);
-    let at = sources::put_crystal(out, at, crystal);
-    let at = sources::put_pll(out, at, b"pll_sys", hz.pll_sys, plan_row::sys_pll(xosc));
-    sources::put_pll(out, at, b"pll_usb", hz.pll_usb, plan_row::usb_pll(xosc))
+    let at = phrases::sources::put_chip(out, 0, chip);
+    let at = phrases::sources::put_ring(out, at, ring);
+    let at = phrases::sources::put_crystal(out, at, crystal);
+    let at = phrases::sources::put_pll(out, at, b"pll_sys", hz.pll_sys, plan_row::sys_pll(xosc));
+    phrases::sources::put_pll(out, at, b"pll_usb", hz.pll_usb, plan_row::usb_pll(xosc))
 }
 
 // Voltage, settling, reference and system clock.
@@ -47,10 +43,10 @@ fn put_core(out: &mut [u8], at: usize, s: Settings, f: Frequencies) -> usize
     let settling = s.settling;
     let reference = s.reference;
     let src = s.sys;
-    let at = sources::put_voltage(out, at, chip, board.code);
-    let at = sources::put_settling(out, at, settling);
-    let at = clocks::put_ref(out, at, f.reference, reference);
-    clocks::put_sys(
+    let at = phrases::sources::put_voltage(out, at, chip, board.code);
+    let at = phrases::sources::put_settling(out, at, settling);
+    let at = phrases::clocks::put_ref(out, at, f.reference, reference);
+    phrases::clocks::put_sys(
         out,
         at,
         f.sys,
@@ -71,16 +67,16 @@ fn put_clocks(out: &mut [u8], at: usize, s: Settings, f: Frequencies) -> usize
     let peri = s.peri;
     let usb = s.usb;
     let adc = s.adc;
-    let at = clocks::put_peri(out, at, f.peri, peri);
-    let at = clocks::put_aux(out, at, b"usb", f.usb, usb);
-    let at = clocks::put_aux(out, at, b"adc", f.adc, adc);
-    let at = clocks::put_rtc(out, at, f.rtc, rtc);
-    let old = clocks::is_rp2040(chip);
-    let no_peri = clocks::no_peri(peri);
-    let no_usb = clocks::no_aux(usb);
-    let no_adc = clocks::no_aux(adc);
-    let no_rtc = clocks::no_rtc(rtc);
-    clocks::put_reset(out, at, old, no_peri, no_usb, no_adc, no_rtc)
+    let at = phrases::clocks::put_peri(out, at, f.peri, peri);
+    let at = phrases::clocks::put_aux(out, at, b"usb", f.usb, usb);
+    let at = phrases::clocks::put_aux(out, at, b"adc", f.adc, adc);
+    let at = phrases::clocks::put_rtc(out, at, f.rtc, rtc);
+    let old = phrases::clocks::is_rp2040(chip);
+    let no_peri = phrases::clocks::no_peri(peri);
+    let no_usb = phrases::clocks::no_aux(usb);
+    let no_adc = phrases::clocks::no_aux(adc);
+    let no_rtc = phrases::clocks::no_rtc(rtc);
+    phrases::clocks::put_reset(out, at, old, no_peri, no_usb, no_adc, no_rtc)
 }
 
 // The plan's numbers.

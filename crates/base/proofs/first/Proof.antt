@@ -1,4 +1,4 @@
--- `base::first` meets its contract. Assumes nothing.
+-- `base::first` meets its contract.
 use mathlib.Core.Path.{sym}
 use borrow.Author.Needs.{needs}
 use lib.Seq.{take-all, length-take-le}

@@ -1,7 +1,6 @@
--- `base::put_number` meets its contract. Assumes nothing.
+-- `base::put_number` meets its contract.
 use borrow.Author.Needs.{needs}
-use Rattle.base.proofs.Placing.{placed-none}
-use Rattle.base.proofs.put_number.Statement.{statement}
+use Rattle.base.proofs.{Placing.placed-none, put_number.Statement.statement}
 use Rattle.base.proofs.put_number.Tie as tie
 
 pub put-number-spec : {M : Type 1} → statement M

@@ -1,4 +1,4 @@
--- `base::put_numbers` meets its contract. Measure: the numbers left. Assumes nothing.
+-- `base::put_numbers` meets its contract. Measure: the numbers left.
 use mathlib.Core.Path.{refl}
 use Prim.Native.Nat.{_-_}
 use native.Mathlib.Omega.{arith}

@@ -1,4 +1,4 @@
--- `base::quotient` meets its contract. Assumes nothing.
+-- `base::quotient` meets its contract.
 use borrow.Author.Needs.{needs}
 use native.Mathlib.Nat.{div-zero}
 use Rattle.base.proofs.quotient.Statement.{statement}

@@ -1,18 +1,16 @@
 -- `bench_cases::play` meets its contract. Invariant: the first i calls are made, and their letters placed. Measure:
--- the calls left. Assumes nothing.
+-- the calls left.
 use borrow.Author.Needs.{needs}
 use mathlib.Core.Path.{_≡_, refl, sym, ap, _∙_}
 use Prim.Native.Nat.{_-_, _≤_}
 use native.Mathlib.Omega.{arith}
-use lib.ListN.{length, take}
-use lib.Seq.{take-all}
+use lib.{ListN.length, ListN.take, Seq.take-all}
 use Rattle.base.specs.Placed.{Placed}
 use Rattle.base.proofs.Placing.{placed-append}
 use Rattle.runner.specs.Run.{Outcome}
 use Rattle.boards.specs.declared.Bench.{Bench}
 use Rattle.bench_cases.specs.Benches.{playedBy, lettersOf}
-use Rattle.bench_cases.proofs.Calls.{played-step, letters-step}
-use Rattle.bench_cases.proofs.play.Statement.{statement}
+use Rattle.bench_cases.proofs.{Calls.played-step, Calls.letters-step, play.Statement.statement}
 use Rattle.bench_cases.proofs.play.Tie as tie
 
 abbrev Inv-loop : tie.InvT-loop

@@ -1,6 +1,5 @@
--- `bench_cases::put_behind` meets its contract. Assumes nothing.
-use borrow.Author.Needs.{needs}
-use borrow.Author.Tests.{lt-ltb, le-ltb}
+-- `bench_cases::put_behind` meets its contract.
+use borrow.{Author.Needs.needs, Author.Tests.lt-ltb, Author.Tests.le-ltb}
 use native.Mathlib.Numerals.{add-one}
 use Prim.Native.Nat.{_+_}
 use Rattle.fields.specs.Fields.{tailAt}

@@ -1,4 +1,4 @@
--- `bench_cases::put_bench` meets its contract. Assumes nothing.
+-- `bench_cases::put_bench` meets its contract.
 use borrow.Author.Needs.{needs}
 use lib.ListN.{length-take}
 use native.Mathlib.Omega.{arith}

@@ -1,4 +1,4 @@
--- `bench_cases::put_board` meets its contract. Assumes nothing.
+-- `bench_cases::put_board` meets its contract.
 use borrow.Author.Needs.{needs}
 use Rattle.base.proofs.Placing.{placed-append}
 use Rattle.bench_cases.proofs.put_board.Statement.{statement}

@@ -1,10 +1,8 @@
 -- `bench_cases::put_boards` meets its contract. Invariant: the first i boards are placed. Measure: the boards left.
--- Assumes nothing.
 use borrow.Author.Needs.{needs}
 use mathlib.Core.Path.{_≡_, refl, _∙_}
 use Prim.Native.Nat.{_-_, _≤_}
-use native.Mathlib.Numerals.{add-one}
-use native.Mathlib.Omega.{arith}
+use native.Mathlib.{Numerals.add-one, Omega.arith}
 use lib.ListN.{length}
 use Rattle.base.specs.Placed.{Placed}
 use Rattle.base.proofs.Placing.{placed-append}

@@ -1,4 +1,4 @@
--- `bench_cases::put_calls` meets its contract. Assumes nothing.
+-- `bench_cases::put_calls` meets its contract.
 use borrow.Author.Needs.{needs}
 use Rattle.text.proofs.HexWords.{word-read, no-word}
 use Rattle.bench_cases.specs.Benches.{callsText}

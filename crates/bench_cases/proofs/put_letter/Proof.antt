@@ -1,22 +1,18 @@
--- `bench_cases::put_letter` meets its contract. Assumes nothing.
+-- `bench_cases::put_letter` meets its contract.
 use borrow.Author.Needs.{needs}
 use Rattle.bench_cases.proofs.put_letter.Statement.{statement}
 use Rattle.bench_cases.proofs.put_letter.Tie as tie
 
 pub put-letter-spec : {M : Type 1} → statement M
-put-letter-spec = tie.close (tie.spec (λ c. search needs) (λ c. search needs) (λ c κs. search needs)
-    (λ c. search needs) (λ c. search needs) (λ c κs. search needs) (λ c. search needs) (λ c. search needs)
-    (λ c κs. search needs) (λ c. search needs) (λ c. search needs) (λ c κs. search needs) (λ c. search needs)
-    (λ c κs. search needs) (λ c. search needs)
-    (λ c. let put-bytes = c .before .before in
-    rw (put-bytes .before .before .before .enum-told .given .1) (put-bytes .put-bytes .ensures)) (λ c. search needs)
-    (λ c. let put-bytes2 = c .before .before in
-    rw (put-bytes2 .before .before .before .enum-told2 .given .1) (put-bytes2 .put-bytes2 .ensures))
+put-letter-spec = tie.close (tie.spec (λ c. search needs) (λ c κs. search needs) (λ c. search needs)
+    (λ c κs. search needs) (λ c. search needs) (λ c κs. search needs) (λ c. search needs) (λ c κs. search needs)
+    (λ c. search needs) (λ c κs. search needs) (λ c. search needs)
+    (λ c. rw (c .before .before .before .before .enum-told .given .1) (c .before .before .put-byte .ensures))
     (λ c. search needs)
-    (λ c. let put-bytes3 = c .before .before in
-    rw (put-bytes3 .before .before .before .enum-told3 .given .1) (put-bytes3 .put-bytes3 .ensures))
+    (λ c. rw (c .before .before .before .before .enum-told2 .given .1) (c .before .before .put-byte2 .ensures))
     (λ c. search needs)
-    (λ c. let put-bytes4 = c .before .before in
-    rw (put-bytes4 .before .before .before .enum-told4 .given .1) (put-bytes4 .put-bytes4 .ensures))
+    (λ c. rw (c .before .before .before .before .enum-told3 .given .1) (c .before .before .put-byte3 .ensures))
+    (λ c. search needs)
+    (λ c. rw (c .before .before .before .before .enum-told4 .given .1) (c .before .before .put-byte4 .ensures))
     (λ c. search needs)
     (λ c. rw (c .before .before .before .before .before .reply .given .1) (c .before .before .put-refusal .ensures)))

@@ -1,4 +1,4 @@
--- `bench_cases::put_played` meets its contract. Assumes nothing.
+-- `bench_cases::put_played` meets its contract.
 use borrow.Author.Needs.{needs}
 use mathlib.Core.Path.{ap}
 use Rattle.base.proofs.Placing.{placed-append}

@@ -1,9 +1,7 @@
 -- `boards::advance` meets its contract.
--- Assumes nothing.
 use borrow.Author.Needs.{needs}
 use native.Mathlib.Omega.{arith}
-use Rattle.boards.proofs.Benches.{over-seven, of-moved}
-use Rattle.boards.proofs.advance.Statement.{statement}
+use Rattle.boards.proofs.{Benches.over-seven, Benches.of-moved, advance.Statement.statement}
 use Rattle.boards.proofs.advance.Tie as tie
 
 pub advance-spec : {M : Type 1} → statement M

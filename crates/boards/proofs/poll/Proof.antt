@@ -1,17 +1,11 @@
 -- `boards::poll` meets its contract: it changes a bench in place, by `advance`.
--- Assumes nothing.
-use mathlib.Core.Path.{_≡_}
-use mathlib.Core.List.{[], _∷_}
-use Rattle.base.proofs.HandedOn.{bytes, byte, flag}
-use Rattle.base.proofs.InPlace.{in-place}
-use Rattle.base.proofs.Solid.{whole}
+use mathlib.Core.{Path._≡_, List.[], List._∷_}
+use Rattle.base.proofs.{HandedOn.bytes, HandedOn.byte, HandedOn.flag, InPlace.in-place, Solid.whole}
 use Rattle.runner.specs.Run.{outcome, replyIs}
 use Rattle.runner.proofs.Changed.{reply}
 use Rattle.boards.specs.Bench.{benchedIs, benchOf}
-use Rattle.boards.proofs.Changed.{bench, benched}
+use Rattle.boards.proofs.{Changed.bench, Changed.benched, advance.Met.met, poll.Key.name as #poll}
 use Rattle.boards.proofs.advance.Symbol as advance
-use Rattle.boards.proofs.advance.Met.{met}
-use Rattle.boards.proofs.poll.Key.{name as #poll}
 use Rattle.boards.proofs.poll.Statement as stated
 use Rattle.boards.proofs.poll.Code as code
 

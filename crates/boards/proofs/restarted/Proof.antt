@@ -1,11 +1,9 @@
 -- `boards::restarted` meets its contract.
--- Assumes nothing.
 use borrow.Author.Needs.{needs}
 use mathlib.Core.Path.{ap}
 use Rattle.runner.proofs.Starts.{start-taken, start-turned}
 use Rattle.boards.specs.declared.Bench.{Bench}
-use Rattle.boards.proofs.Benches.{all-refused, all-built}
-use Rattle.boards.proofs.restarted.Statement.{statement}
+use Rattle.boards.proofs.{Benches.all-refused, Benches.all-built, restarted.Statement.statement}
 use Rattle.boards.proofs.restarted.Tie as tie
 
 returns : tie.Need-returns

@@ -1,17 +1,11 @@
 -- `boards::start` meets its contract: it changes a bench in place, by `restarted`.
--- Assumes nothing.
-use mathlib.Core.Path.{_≡_}
-use mathlib.Core.List.{[], _∷_}
-use Rattle.base.proofs.HandedOn.{bytes}
-use Rattle.base.proofs.InPlace.{in-place}
-use Rattle.base.proofs.Solid.{whole}
+use mathlib.Core.{Path._≡_, List.[], List._∷_}
+use Rattle.base.proofs.{HandedOn.bytes, InPlace.in-place, Solid.whole}
 use Rattle.runner.specs.Run.{begun, openingIs}
 use Rattle.runner.proofs.Changed.{opening}
 use Rattle.boards.specs.Bench.{allOpenedIs, startAllOf}
-use Rattle.boards.proofs.Changed.{bench, opened}
+use Rattle.boards.proofs.{Changed.bench, Changed.opened, restarted.Met.met, start.Key.name as #start}
 use Rattle.boards.proofs.restarted.Symbol as restarted
-use Rattle.boards.proofs.restarted.Met.{met}
-use Rattle.boards.proofs.start.Key.{name as #start}
 use Rattle.boards.proofs.start.Statement as stated
 use Rattle.boards.proofs.start.Code as code
 

@@ -1,5 +1,4 @@
 -- `book::main` meets its contract: the loop ends, and a line fits its buffer.
--- Assumes nothing.
 use mathlib.Core.Path.{sym}
 use Prim.Native.Nat.{_-_, _≤_}
 use borrow.Author.Needs.{needs}

@@ -1,4 +1,4 @@
--- `cases::answer` meets its contract. Assumes nothing.
+-- `cases::answer` meets its contract.
 use native.Mathlib.Omega.{arith}
 use borrow.Author.Needs.{needs}
 use lib.ListN.{length-take}

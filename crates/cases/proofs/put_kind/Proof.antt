@@ -1,4 +1,4 @@
--- `cases::put_kind` meets its contract. Assumes nothing.
+-- `cases::put_kind` meets its contract.
 use Rattle.fields.specs.Fields.{restIs}
 use mathlib.Core.Path.{sym, ap, _∙_}
 use borrow.Author.Needs.{needs}

@@ -1,10 +1,9 @@
--- `cases::put_tail` meets its contract. Assumes nothing.
-use Rattle.sheet_cases.proofs.Buffers.{take-rest}
+-- `cases::put_tail` meets its contract.
+use Rattle.kinds.proofs.Rest.{take-rest}
 use Rattle.fields.specs.Fields.{tailAt}
-use borrow.Author.Tests.{lt-ltb, le-ltb}
+use borrow.{Author.Tests.lt-ltb, Author.Tests.le-ltb, Author.Needs.needs}
 use native.Mathlib.Numerals.{add-one}
 use Prim.Native.Nat.{_+_}
-use borrow.Author.Needs.{needs}
 use Rattle.cases.proofs.put_tail.Statement.{statement}
 use Rattle.cases.proofs.put_tail.Tie as tie
 

@@ -1,13 +1,10 @@
--- `divider::calculate_pio_clock_divider_value` meets its contract. Assumes nothing.
+-- `divider::calculate_pio_clock_divider_value` meets its contract.
 use borrow.Author.Needs.{needs}
 use native.Mathlib.Omega.{arith}
-use mathlib.Core.Path.{_≡_, ap}
-use mathlib.Core.Bool.{true}
-use Rattle.base.specs.Choice.{inRange}
-use Rattle.base.specs.Answer.{value}
+use mathlib.Core.{Path._≡_, Path.ap, Bool.true}
+use Rattle.base.specs.{Choice.inRange, Answer.value}
 use Rattle.base.proofs.Bools.{in-range}
-use Rattle.divider.proofs.Pio.{pio-tested}
-use Rattle.divider.proofs.calculate_pio_clock_divider_value.Statement.{statement}
+use Rattle.divider.proofs.{Pio.pio-tested, calculate_pio_clock_divider_value.Statement.statement}
 use Rattle.divider.proofs.calculate_pio_clock_divider_value.Tie as tie
 
 pub calculate-pio-clock-divider-value-spec : {M : Type 1} → statement M

@@ -1,7 +1,6 @@
--- `divider::cycles_per_us` meets its contract. Assumes nothing.
-use borrow.Author.Needs.{needs}
+-- `divider::cycles_per_us` meets its contract.
+use borrow.{Author.Needs.needs, Author.Tests.eq-eqb, Author.Tests.ne-eqb}
 use native.Mathlib.Omega.{arith}
-use borrow.Author.Tests.{eq-eqb, ne-eqb}
 use Rattle.divider.specs.Delay.{cyclesPerUs}
 use Rattle.divider.proofs.cycles_per_us.Statement.{statement}
 use Rattle.divider.proofs.cycles_per_us.Tie as tie

@@ -1,4 +1,4 @@
--- `divider::divided_hz` meets its contract. Assumes nothing.
+-- `divider::divided_hz` meets its contract.
 use borrow.Author.Needs.{needs}
 use native.Mathlib.Omega.{arith}
 use Rattle.divider.specs.Clock.{dividedHz}

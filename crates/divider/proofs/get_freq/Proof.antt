@@ -1,4 +1,4 @@
--- `divider::get_freq` meets its contract. Assumes nothing.
+-- `divider::get_freq` meets its contract.
 use borrow.Author.Needs.{needs}
 use Rattle.divider.proofs.get_freq.Statement.{statement}
 use Rattle.divider.proofs.get_freq.Tie as tie

@@ -1,12 +1,10 @@
--- `divider::gpout_clock` meets its contract. Assumes nothing.
-use mathlib.Core.Path.{_≡_, refl, sym}
-use mathlib.Core.List.{List, [], _∷_}
+-- `divider::gpout_clock` meets its contract.
+use mathlib.Core.{Path._≡_, Path.refl, Path.sym, List.List, List.[], List._∷_}
 use Prim.Native.Nat.{ℕ, zero, suc, _<_, _≤_}
 use native.Mathlib.Omega.{arith}
 use lib.ListN.{length, getD, List·getD-eq-default}
 use borrow.Author.Needs.{needs}
-use Rattle.chip.specs.declared.Chip.{Chip}
-use Rattle.chip.specs.declared.Chip.the-variants.{Rp2040, Rp235x}
+use Rattle.chip.specs.declared.{Chip.Chip, Chip.the-variants.Rp2040, Chip.the-variants.Rp235x}
 use Rattle.chip.specs.Chips.{factsOf}
 use Rattle.divider.specs.Gpout.{gpoutClock}
 use Rattle.divider.proofs.gpout_clock.Statement.{statement}

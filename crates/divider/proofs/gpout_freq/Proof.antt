@@ -1,7 +1,6 @@
--- `divider::gpout_freq` meets its contract. Assumes nothing.
-use borrow.Author.Needs.{needs}
+-- `divider::gpout_freq` meets its contract.
+use borrow.{Author.Needs.needs, Author.Tests.le-leb, Author.Tests.lt-leb, Author.Tests.lt-ltb, Author.Tests.le-ltb}
 use Rattle.divider.specs.Gpout.{gpoutOf}
-use borrow.Author.Tests.{le-leb, lt-leb, lt-ltb, le-ltb}
 use Rattle.divider.proofs.gpout_freq.Statement.{statement}
 use Rattle.divider.proofs.gpout_freq.Tie as tie
 

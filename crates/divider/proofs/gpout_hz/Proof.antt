@@ -1,8 +1,7 @@
--- `divider::gpout_hz` meets its contract. Assumes nothing.
+-- `divider::gpout_hz` meets its contract.
 use borrow.Author.Needs.{needs}
 use native.Mathlib.Omega.{arith}
-use Rattle.divider.proofs.Bounds.{divided-le}
-use Rattle.divider.proofs.gpout_hz.Statement.{statement}
+use Rattle.divider.proofs.{Bounds.divided-le, gpout_hz.Statement.statement}
 use Rattle.divider.proofs.gpout_hz.Tie as tie
 
 pub gpout-hz-spec : {M : Type 1} → statement M

@@ -1,4 +1,4 @@
--- `divider::gpout_whole` meets its contract. Assumes nothing.
+-- `divider::gpout_whole` meets its contract.
 use native.Mathlib.Omega.{arith}
 use borrow.Author.Tests.{eq-eqb, ne-eqb}
 use Rattle.divider.proofs.gpout_whole.Statement.{statement}

@@ -1,4 +1,4 @@
--- `divider::settling_cycles` meets its contract. Assumes nothing.
+-- `divider::settling_cycles` meets its contract.
 use borrow.Author.Needs.{needs}
 use native.Mathlib.Omega.{arith}
 use Rattle.divider.specs.Delay.{settlingCycles}

@@ -1,4 +1,4 @@
--- `divider::startup_sum` meets its contract. Assumes nothing.
+-- `divider::startup_sum` meets its contract.
 use Prim.Native.Nat.{_/_}
 use borrow.Author.Needs.{needs}
 use native.Mathlib.Omega.{arith}

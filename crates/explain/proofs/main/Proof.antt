@@ -1,4 +1,4 @@
--- `explain::main` meets its contract. Assumes nothing.
+-- `explain::main` meets its contract.
 use mathlib.Core.Path.{sym}
 use borrow.Author.Needs.{needs}
 use lib.Seq.{length-take-le}

@@ -1,4 +1,4 @@
--- `export::dizbaral_core_voltage` meets its contract. Assumes nothing.
+-- `export::dizbaral_core_voltage` meets its contract.
 use borrow.Author.Needs.{needs}
 use Rattle.export.proofs.dizbaral_core_voltage.Statement.{statement}
 use Rattle.export.proofs.dizbaral_core_voltage.Tie as tie

@@ -1,4 +1,4 @@
--- `export::dizbaral_gpout_frequency` meets its contract. Assumes nothing.
+-- `export::dizbaral_gpout_frequency` meets its contract.
 use borrow.Author.Needs.{needs}
 use Rattle.export.proofs.dizbaral_gpout_frequency.Statement.{statement}
 use Rattle.export.proofs.dizbaral_gpout_frequency.Tie as tie

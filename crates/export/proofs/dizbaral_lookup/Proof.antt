@@ -1,5 +1,4 @@
 -- `export::dizbaral_lookup` meets its contract.
--- Assumes nothing.
 use borrow.Author.Needs.{needs}
 use Rattle.export.proofs.dizbaral_lookup.Statement.{statement}
 use Rattle.export.proofs.dizbaral_lookup.Tie as tie

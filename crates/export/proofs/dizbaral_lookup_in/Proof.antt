@@ -1,5 +1,4 @@
 -- `export::dizbaral_lookup_in` meets its contract.
--- Assumes nothing.
 use borrow.Author.Needs.{needs}
 use Rattle.export.proofs.dizbaral_lookup_in.Statement.{statement}
 use Rattle.export.proofs.dizbaral_lookup_in.Tie as tie

@@ -1,5 +1,4 @@
 -- `export::dizbaral_output_frequency` meets its contract.
--- Assumes nothing.
 use borrow.Author.Needs.{needs}
 use Rattle.export.proofs.dizbaral_output_frequency.Statement.{statement}
 use Rattle.export.proofs.dizbaral_output_frequency.Tie as tie

@@ -1,5 +1,4 @@
 -- `export::dizbaral_pio_divider` meets its contract.
--- Assumes nothing.
 use borrow.Author.Needs.{needs}
 use Rattle.export.proofs.dizbaral_pio_divider.Statement.{statement}
 use Rattle.export.proofs.dizbaral_pio_divider.Tie as tie

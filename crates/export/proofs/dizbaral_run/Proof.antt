@@ -1,14 +1,12 @@
 -- `export::dizbaral_run` meets its contract.
--- Assumes nothing.
-use borrow.Author.Tests.{le-leb, lt-leb}
-use borrow.Author.Needs.{needs}
+use borrow.{Author.Tests.le-leb, Author.Tests.lt-leb, Author.Needs.needs}
 use mathlib.Core.Path.{ap, _∙_}
 use Rattle.runner.specs.declared.State.{State}
 use Rattle.runner.specs.Run.{Outcome, stepperOf, advanceOf}
 use Rattle.runner.proofs.Steps.{turn-formed}
-use Rattle.export.specs.Run.{runNumber, runLeaves}
-use Rattle.export.proofs.Runners.{position-fits, turn-word}
-use Rattle.export.proofs.dizbaral_run.Statement.{statement}
+use Rattle.as_numbers.specs.Run.{runNumber, runLeaves}
+use Rattle.as_numbers.proofs.Runners.{position-fits, turn-word}
+use Rattle.export.proofs.dizbaral_run.{Statement.statement}
 use Rattle.export.proofs.dizbaral_run.Tie as tie
 
 returns-2 : tie.Need-returns-2

@@ -1,5 +1,4 @@
 -- `export::dizbaral_search` meets its contract.
--- Assumes nothing.
 use borrow.Author.Needs.{needs}
 use Rattle.export.proofs.dizbaral_search.Statement.{statement}
 use Rattle.export.proofs.dizbaral_search.Tie as tie

@@ -1,19 +1,16 @@
 -- `export::dizbaral_start` meets its contract.
--- Assumes nothing.
 use borrow.Author.Needs.{needs}
-use mathlib.Core.Bool.{false}
-use mathlib.Core.List.{[], _++_, append-nil}
-use mathlib.Core.Path.{_≡_, refl, ap, ap₂, _∙_}
+use mathlib.Core.{Bool.false, List.[], List._++_, List.append-nil, Path._≡_, Path.refl, Path.ap, Path.ap₂, Path._∙_}
 use Prim.Native.Nat.{_≤_}
 use native.Mathlib.Omega.{arith}
-use lib.ListN.{length, drop, drop-of-length-le}
-use lib.Seq.{take-length}
+use lib.{ListN.length, ListN.drop, ListN.drop-of-length-le, Seq.take-length}
 use Rattle.step.specs.Sheet.{maxBytes}
 use Rattle.runner.specs.declared.Runner.{Runner}
-use Rattle.runner.specs.Run.{badSize, startedWith}
-use Rattle.runner.proofs.Calls.{size-fits}
+use Rattle.runner.specs.Run.{startedWith}
+use Rattle.kept.specs.Kept.{badSize}
+use Rattle.kept.proofs.Sizes.{size-fits}
 use Rattle.runner.proofs.Starts.{start-refused, start-kept, start-taken, start-turned, length-padded}
-use Rattle.export.specs.Run.{runnerIn, startedNumbers}
+use Rattle.as_numbers.specs.Run.{runnerIn, startedNumbers}
 use Rattle.export.proofs.dizbaral_start.Statement.{statement}
 use Rattle.export.proofs.dizbaral_start.Tie as tie
 

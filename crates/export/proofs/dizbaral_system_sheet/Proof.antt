@@ -1,4 +1,4 @@
--- `export::dizbaral_system_sheet` meets its contract. Assumes nothing.
+-- `export::dizbaral_system_sheet` meets its contract.
 use mathlib.Core.Path.{refl}
 use borrow.Author.Needs.{needs}
 use Rattle.export.proofs.dizbaral_system_sheet.Statement.{statement}

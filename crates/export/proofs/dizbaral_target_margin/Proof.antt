@@ -1,5 +1,4 @@
 -- `export::dizbaral_target_margin` meets its contract.
--- Assumes nothing.
 use mathlib.Core.Path.{refl, sym, ap, _∙_}
 use borrow.Author.Needs.{needs}
 use Rattle.margin.specs.Margin.{marginIs}

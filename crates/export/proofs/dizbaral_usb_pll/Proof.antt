@@ -1,5 +1,4 @@
 -- `export::dizbaral_usb_pll` meets its contract.
--- Assumes nothing.
 use borrow.Author.Needs.{needs}
 use Rattle.export.proofs.dizbaral_usb_pll.Statement.{statement}
 use Rattle.export.proofs.dizbaral_usb_pll.Tie as tie

@@ -1,4 +1,4 @@
--- `export::write_planned` meets its contract. Assumes nothing.
+-- `export::write_planned` meets its contract.
 use mathlib.Core.Path.{refl}
 use borrow.Author.Needs.{needs}
 use Rattle.export.proofs.write_planned.Statement.{statement}

@@ -1,4 +1,4 @@
--- `fields::number_at` meets its contract. Assumes nothing.
+-- `fields::number_at` meets its contract.
 use mathlib.Core.Path.{sym}
 use borrow.Author.Needs.{needs}
 use lib.ListN.{List·getD-eq-default}

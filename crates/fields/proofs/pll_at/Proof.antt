@@ -1,4 +1,4 @@
--- `fields::pll_at` meets its contract. Assumes nothing.
+-- `fields::pll_at` meets its contract.
 use borrow.Author.Needs.{needs}
 use Rattle.fields.proofs.pll_at.Statement.{statement}
 use Rattle.fields.proofs.pll_at.Tie as tie

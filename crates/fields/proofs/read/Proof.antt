@@ -1,5 +1,5 @@
 -- `fields::read` meets its contract. Invariant: what is left to read makes, behind what was read, the whole.
--- Measure: what is left of the limits. Assumes nothing.
+-- Measure: what is left of the limits.
 use mathlib.Core.Path.{_≡_, refl, sym, ap, _∙_}
 use Prim.Native.Nat.{_-_, _≤_}
 use native.Mathlib.Omega.{arith}

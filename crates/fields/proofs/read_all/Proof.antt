@@ -1,7 +1,6 @@
--- `fields::read_all` meets its contract. Assumes nothing.
-use Rattle.fields.proofs.Tails.{ends, goes-past, stays-bad}
+-- `fields::read_all` meets its contract.
+use Rattle.fields.proofs.{Tails.ends, Tails.goes-past, Tails.stays-bad, read_all.Statement.statement}
 use borrow.Author.Needs.{needs}
-use Rattle.fields.proofs.read_all.Statement.{statement}
 use Rattle.fields.proofs.read_all.Tie as tie
 
 pub read-all-spec : {M : Type 1} → statement M

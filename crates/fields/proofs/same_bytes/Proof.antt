@@ -1,7 +1,6 @@
--- `fields::same_bytes` meets its contract. Assumes nothing.
+-- `fields::same_bytes` meets its contract.
 use borrow.Author.Needs.{needs}
-use Rattle.fields.proofs.Same.{is-same}
-use Rattle.fields.proofs.same_bytes.Statement.{statement}
+use Rattle.fields.proofs.{Same.is-same, same_bytes.Statement.statement}
 use Rattle.fields.proofs.same_bytes.Tie as tie
 
 pub same-bytes-spec : {M : Type 1} → statement M

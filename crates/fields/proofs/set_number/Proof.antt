@@ -1,4 +1,4 @@
--- `fields::set_number` meets its contract. Assumes nothing.
+-- `fields::set_number` meets its contract.
 use mathlib.Core.Path.{sym}
 use borrow.Author.Needs.{needs}
 use lib.Seq.{set-out}

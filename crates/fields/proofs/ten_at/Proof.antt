@@ -1,4 +1,4 @@
--- `fields::ten_at` meets its contract. Assumes nothing.
+-- `fields::ten_at` meets its contract.
 use borrow.Author.Needs.{needs}
 use Rattle.fields.proofs.ten_at.Statement.{statement}
 use Rattle.fields.proofs.ten_at.Tie as tie

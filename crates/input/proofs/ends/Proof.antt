@@ -1,4 +1,4 @@
--- `input::ends` meets its contract. Assumes nothing.
+-- `input::ends` meets its contract.
 use native.Mathlib.Omega.{arith}
 use borrow.Author.Tests.{eq-eqb, ne-eqb}
 use Rattle.input.proofs.ends.Statement.{statement}

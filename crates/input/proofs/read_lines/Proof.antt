@@ -1,5 +1,5 @@
 -- `input::read_lines` meets its contract. Invariant: n is at most the buffer's length, which stays, as the byte's does.
--- Measure: what is left of the buffer. Assumes nothing.
+-- Measure: what is left of the buffer.
 use mathlib.Core.Path.{_≡_}
 use Prim.Native.Nat.{_-_, _≤_}
 use borrow.Author.Needs.{needs}

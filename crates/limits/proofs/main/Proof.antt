@@ -1,5 +1,4 @@
 -- Program `limits` is safe and ends. Invariant: the buffers keep their lengths. Measure: the turns that are left.
--- Assumes nothing.
 use mathlib.Core.Path.{_≡_}
 use native.Mathlib.Omega.{arith}
 use borrow.Author.Needs.{needs}

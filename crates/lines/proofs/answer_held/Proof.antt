@@ -1,12 +1,9 @@
--- `lines::answer_held` meets its contract. Assumes nothing.
+-- `lines::answer_held` meets its contract.
 use Prim.Native.Nat.{_≤_}
 use native.Mathlib.Omega.{arith}
-use borrow.Author.Tests.{ltb-false}
-use borrow.Author.Needs.{needs}
-use lib.ListN.{length, length-take}
-use lib.Dec.{ltb}
-use Rattle.base.proofs.Placing.{placed-append}
-use Rattle.base.proofs.Bools.{both-false}
+use borrow.{Author.Tests.ltb-false, Author.Needs.needs}
+use lib.{ListN.length, ListN.length-take, Dec.ltb}
+use Rattle.base.proofs.{Placing.placed-append, Bools.both-false}
 use Rattle.lines.proofs.answer_held.Statement.{statement}
 use Rattle.lines.proofs.answer_held.Tie as tie
 

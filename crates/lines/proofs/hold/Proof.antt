@@ -1,10 +1,9 @@
--- `lines::hold` meets its contract. Assumes nothing.
+-- `lines::hold` meets its contract.
 use mathlib.Core.Path.{_∙_}
 use native.Mathlib.Omega.{arith}
 use borrow.Author.Needs.{needs}
 use lib.ListN.{length-take}
-use Rattle.lines.proofs.Ends.{line-end, line-bytes}
-use Rattle.lines.proofs.hold.Statement.{statement}
+use Rattle.lines.proofs.{Ends.line-end, Ends.line-bytes, hold.Statement.statement}
 use Rattle.lines.proofs.hold.Tie as tie
 
 returns : tie.Need-returns

@@ -1,9 +1,8 @@
--- `lines::last` meets its contract. Assumes nothing.
+-- `lines::last` meets its contract.
 use mathlib.Core.Path.{refl}
 use native.Mathlib.Omega.{arith}
-use Rattle.lines.proofs.Gathered.{answer-line, begun-test}
+use Rattle.lines.proofs.{Gathered.answer-line, Gathered.begun-test, last.Statement.statement}
 use borrow.Author.Needs.{needs}
-use Rattle.lines.proofs.last.Statement.{statement}
 use Rattle.lines.proofs.last.Tie as tie
 
 pub last-spec : {M : Type 1} → statement M

@@ -1,8 +1,7 @@
--- `lines::next` meets its contract. Assumes nothing.
+-- `lines::next` meets its contract.
 use native.Mathlib.Omega.{arith}
-use Rattle.lines.proofs.Gathered.{closed-by, left-open}
+use Rattle.lines.proofs.{Gathered.closed-by, Gathered.left-open, next.Statement.statement}
 use borrow.Author.Needs.{needs}
-use Rattle.lines.proofs.next.Statement.{statement}
 use Rattle.lines.proofs.next.Tie as tie
 
 returns : tie.Need-returns

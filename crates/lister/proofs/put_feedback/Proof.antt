@@ -1,13 +1,10 @@
 -- `lister::put_feedback` meets its contract.
--- Assumes nothing.
 use mathlib.Core.Path.{sym}
 use Prim.Native.Nat.{_*_}
 use borrow.Author.Needs.{needs}
-use native.Mathlib.Omega.{arith}
-use native.Mathlib.Nat.{mul-mod-right, div-le-self}
+use native.Mathlib.{Omega.arith, Nat.mul-mod-right, Nat.div-le-self}
 use denote.Ref.{now}
-use Rattle.lister.proofs.Hits.{none-put, product-meets}
-use Rattle.lister.proofs.put_feedback.Statement.{statement}
+use Rattle.lister.proofs.{Hits.none-put, Hits.product-meets, put_feedback.Statement.statement}
 use Rattle.lister.proofs.put_feedback.Tie as tie
 
 returns-3 : tie.Need-returns-3

@@ -1,7 +1,5 @@
 -- `lister::put_list` meets its contract: what is left to write completes the list.
--- Assumes nothing.
-use mathlib.Core.Path.{_≡_, refl, sym, ap, subst, _∙_}
-use mathlib.Core.Logic.{inl, inr}
+use mathlib.Core.{Path._≡_, Path.refl, Path.sym, Path.ap, Path.subst, Path._∙_, Logic.inl, Logic.inr}
 use mathlib.Core.List.{List, flatMap}
 use Prim.Native.Nat.{ℕ, _+_, _-_, _*_, _≤_}
 use borrow.Author.Needs.{needs}
@@ -9,15 +7,10 @@ use native.Mathlib.Omega.{arith}
 use lib.ListN.{length}
 use denote.Ref.{now}
 use Rattle.base.specs.Answer.{value, numberIs}
-use Rattle.pll.specs.Ranges.{feedbackMin, feedbackMax}
-use Rattle.pll.specs.Search.{rising, keep}
-use Rattle.pll.specs.Ends.{lowestOf, highestOf}
-use Rattle.pll.proofs.Ends.{lowest-right, highest-right, between-permitted}
-use Rattle.pll.proofs.Inputs.{none-to-walk}
-use Rattle.lister.specs.Lister.{meets, listOf}
-use Rattle.lister.specs.Order.{atFeedback, Wrote}
-use Rattle.lister.proofs.Writing.{nothing, same-size}
-use Rattle.lister.proofs.Hits.{none-listed, whole-list}
+use Rattle.pll.specs.{Ranges.feedbackMin, Ranges.feedbackMax, Search.rising, Search.keep, Ends.lowestOf, Ends.highestOf}
+use Rattle.pll.proofs.{Ends.lowest-right, Ends.highest-right, Ends.between-permitted, Inputs.none-to-walk}
+use Rattle.lister.specs.{Lister.meets, Lister.listOf, Order.atFeedback, Order.Wrote}
+use Rattle.lister.proofs.{Writing.nothing, Writing.same-size, Hits.none-listed, Hits.whole-list}
 use Rattle.lister.proofs.Walks.{rising-step, rising-end, one-more, done}
 use Rattle.lister.proofs.put_list.Statement.{statement}
 use Rattle.lister.proofs.put_list.Tie as tie

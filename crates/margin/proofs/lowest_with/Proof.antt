@@ -1,13 +1,11 @@
 -- `margin::lowest_with` meets its contract.
--- Assumes nothing.
 use mathlib.Core.Path.{sym, _∙_}
 use Prim.Native.Nat.{ℕ, _-_, _≤_, _<_}
 use native.Mathlib.Omega.{arith}
 use borrow.Author.Needs.{needs}
 use Rattle.near.proofs.Near.{search-between}
 use Rattle.margin.specs.Walk.{Has}
-use Rattle.margin.proofs.Sides.{no, lowest-end}
-use Rattle.margin.proofs.lowest_with.Statement.{statement}
+use Rattle.margin.proofs.{Sides.no, Sides.lowest-end, lowest_with.Statement.statement}
 use Rattle.margin.proofs.lowest_with.Tie as tie
 
 abbrev Inv-loop : tie.InvT-loop

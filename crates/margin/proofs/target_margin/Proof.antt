@@ -1,11 +1,9 @@
 -- `margin::target_margin` meets its contract: from the lowest and the highest target with the setting.
--- Assumes nothing.
 use mathlib.Core.Path.{sym, ap, _∙_}
 use borrow.Author.Needs.{needs}
 use Rattle.pll.specs.Search.{foundIs}
 use Rattle.margin.specs.Margin.{limitIs}
-use Rattle.margin.proofs.Right.{right-is-margin}
-use Rattle.margin.proofs.Sides.{lower-side, higher-side, refused-15}
+use Rattle.margin.proofs.{Right.right-is-margin, Sides.lower-side, Sides.higher-side, Sides.refused-15}
 use Rattle.margin.proofs.target_margin.Statement.{statement}
 use Rattle.margin.proofs.target_margin.Tie as tie
 

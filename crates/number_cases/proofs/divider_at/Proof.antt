@@ -1,4 +1,4 @@
--- `number_cases::divider_at` meets its contract. Assumes nothing.
+-- `number_cases::divider_at` meets its contract.
 use borrow.Author.Needs.{needs}
 use Rattle.number_cases.proofs.divider_at.Statement.{statement}
 use Rattle.number_cases.proofs.divider_at.Tie as tie

@@ -1,4 +1,4 @@
--- `number_cases::put_read_235` meets its contract. Assumes nothing.
+-- `number_cases::put_read_235` meets its contract.
 use borrow.Author.Needs.{needs}
 use Rattle.number_cases.proofs.put_read_235.Statement.{statement}
 use Rattle.number_cases.proofs.put_read_235.Tie as tie

@@ -1,4 +1,4 @@
--- `number_cases::put_search` meets its contract. Assumes nothing.
+-- `number_cases::put_search` meets its contract.
 use borrow.Author.Needs.{needs}
 use Rattle.number_cases.proofs.put_search.Statement.{statement}
 use Rattle.number_cases.proofs.put_search.Tie as tie

@@ -1,4 +1,4 @@
--- `number_cases::put_sides` meets its contract. Assumes nothing.
+-- `number_cases::put_sides` meets its contract.
 use borrow.Author.Needs.{needs}
 use Rattle.base.proofs.Placing.{placed-append}
 use Rattle.number_cases.proofs.put_sides.Statement.{statement}

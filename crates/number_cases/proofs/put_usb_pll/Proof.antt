@@ -1,4 +1,4 @@
--- `number_cases::put_usb_pll` meets its contract. Assumes nothing.
+-- `number_cases::put_usb_pll` meets its contract.
 use borrow.Author.Needs.{needs}
 use Rattle.number_cases.proofs.put_usb_pll.Statement.{statement}
 use Rattle.number_cases.proofs.put_usb_pll.Tie as tie

@@ -1,5 +1,4 @@
 -- `page::put_line` meets its contract.
--- Assumes nothing.
 use mathlib.Core.Path.{refl, sym, _∙_}
 use native.Mathlib.Omega.{arith}
 use borrow.Author.Needs.{needs}

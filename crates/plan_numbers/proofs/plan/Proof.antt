@@ -1,13 +1,12 @@
--- `plan_numbers::plan` meets its contract. Assumes nothing.
-use Rattle.plan_numbers.specs.Plan.{planOf}
-use borrow.Author.Tests.{not-true, not-false}
+-- `plan_numbers::plan` meets its contract.
+use Rattle.plan_numbers.specs.Plan.{planNumbered}
+use borrow.{Author.Tests.not-true, Author.Tests.not-false, Author.Needs.needs}
 use mathlib.Core.Path.{sym, _∙_}
-use borrow.Author.Needs.{needs}
 use Rattle.plan_numbers.proofs.plan.Statement.{statement}
 use Rattle.plan_numbers.proofs.plan.Tie as tie
 
 pub plan-spec : {M : Type 1} → statement M
-unfolding planOf
+unfolding planNumbered
 plan-spec = tie.close (tie.spec (λ c κs. search needs)
     (λ c. rw (sym (c .before .whole-plan .ensures) ∙ not-true _ (c .if1 .taken))) (λ c κs. search needs)
     (λ c. search needs) (λ c κs. search needs) (λ c. search needs)

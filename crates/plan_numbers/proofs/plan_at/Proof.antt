@@ -1,4 +1,4 @@
--- `plan_numbers::plan_at` meets its contract. Assumes nothing.
+-- `plan_numbers::plan_at` meets its contract.
 use Rattle.plan_numbers.specs.Plan.{planAt}
 use borrow.Author.Needs.{needs}
 use Rattle.plan_numbers.proofs.plan_at.Statement.{statement}

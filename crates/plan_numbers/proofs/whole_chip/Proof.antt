@@ -1,7 +1,6 @@
--- `plan_numbers::whole_chip` meets its contract. Assumes nothing.
+-- `plan_numbers::whole_chip` meets its contract.
 use Rattle.plan_numbers.specs.Plan.{wholeChip}
-use borrow.Author.Needs.{needs}
-use borrow.Author.Tests.{eq-eqb, ne-eqb}
+use borrow.{Author.Needs.needs, Author.Tests.eq-eqb, Author.Tests.ne-eqb}
 use Rattle.plan_numbers.proofs.whole_chip.Statement.{statement}
 use Rattle.plan_numbers.proofs.whole_chip.Tie as tie
 

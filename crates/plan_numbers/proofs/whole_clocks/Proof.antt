@@ -1,4 +1,4 @@
--- `plan_numbers::whole_clocks` meets its contract. Assumes nothing.
+-- `plan_numbers::whole_clocks` meets its contract.
 use Rattle.plan_numbers.specs.Plan.{wholeClocks}
 use borrow.Author.Needs.{needs}
 use Rattle.plan_numbers.proofs.whole_clocks.Statement.{statement}

@@ -1,7 +1,6 @@
--- `plan_numbers::whole_plan` meets its contract. Assumes nothing.
+-- `plan_numbers::whole_plan` meets its contract.
 use mathlib.Core.Path.{sym, _∙_}
-use borrow.Author.Tests.{not-true, not-false}
-use borrow.Author.Needs.{needs}
+use borrow.{Author.Tests.not-true, Author.Tests.not-false, Author.Needs.needs}
 use Rattle.plan_numbers.proofs.whole_plan.Statement.{statement}
 use Rattle.plan_numbers.proofs.whole_plan.Tie as tie
 

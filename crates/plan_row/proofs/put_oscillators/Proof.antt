@@ -1,4 +1,4 @@
--- `plan_row::put_oscillators` meets its contract. Assumes nothing.
+-- `plan_row::put_oscillators` meets its contract.
 use Rattle.base.proofs.Placing.{placed-append}
 use Rattle.plan_row.specs.Row.{oscillatorRow}
 use borrow.Author.Needs.{needs}

@@ -1,4 +1,4 @@
--- `plan_row::put_rtc` meets its contract. Assumes nothing.
+-- `plan_row::put_rtc` meets its contract.
 use mathlib.Core.Path.{refl}
 use native.Mathlib.Omega.{arith}
 use borrow.Author.Needs.{needs}

@@ -1,4 +1,4 @@
--- `plan_text::put_chip` meets its contract. Assumes nothing.
+-- `plan_text::put_chip` meets its contract.
 use native.Mathlib.Omega.{arith}
 use borrow.Author.Needs.{needs}
 use Rattle.plan_text.proofs.put_chip.Statement.{statement}

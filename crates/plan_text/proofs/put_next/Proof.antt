@@ -1,4 +1,4 @@
--- `plan_text::put_next` meets its contract. Assumes nothing.
+-- `plan_text::put_next` meets its contract.
 use native.Mathlib.Omega.{arith}
 use borrow.Author.Needs.{needs}
 use Rattle.base.proofs.Placing.{placed-append}

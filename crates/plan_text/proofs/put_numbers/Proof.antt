@@ -1,10 +1,9 @@
--- `plan_text::put_numbers` meets its contract. Assumes nothing.
+-- `plan_text::put_numbers` meets its contract.
 use mathlib.Core.Path.{refl}
 use native.Mathlib.Omega.{arith}
 use Rattle.plan_row.proofs.Whole.{row-most, begins}
 use borrow.Author.Needs.{needs}
-use Rattle.plan_text.proofs.Puts.{put-most}
-use Rattle.plan_text.proofs.put_numbers.Statement.{statement}
+use Rattle.plan_text.proofs.{Puts.put-most, put_numbers.Statement.statement}
 use Rattle.plan_text.proofs.put_numbers.Tie as tie
 
 pub put-numbers-spec : {M : Type 1} → statement M

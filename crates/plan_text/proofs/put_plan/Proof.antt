@@ -1,8 +1,7 @@
--- `plan_text::put_plan` meets its contract. Assumes nothing.
+-- `plan_text::put_plan` meets its contract.
 use Rattle.plan_text.specs.Text.{planText}
 use borrow.Author.Needs.{needs}
-use Rattle.plan_text.proofs.Puts.{put-append}
-use Rattle.plan_text.proofs.put_plan.Statement.{statement}
+use Rattle.plan_text.proofs.{Puts.put-append, put_plan.Statement.statement}
 use Rattle.plan_text.proofs.put_plan.Tie as tie
 
 pub put-plan-spec : {M : Type 1} → statement M

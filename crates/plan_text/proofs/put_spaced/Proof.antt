@@ -1,10 +1,9 @@
--- `plan_text::put_spaced` meets its contract. Measure: the numbers left. Assumes nothing.
+-- `plan_text::put_spaced` meets its contract. Measure: the numbers left.
 use mathlib.Core.Path.{refl}
 use Prim.Native.Nat.{_-_, _*_, _≤_}
 use native.Mathlib.Omega.{arith}
 use borrow.Author.Needs.{needs}
-use lib.ListN.{length, take, length-append}
-use lib.Seq.{take-all}
+use lib.{ListN.length, ListN.take, ListN.length-append, Seq.take-all}
 use Rattle.base.proofs.Parts.{Parts, parts-none, parts-next, parts-length, parts-of}
 use Rattle.replies.specs.Reply.{spaced}
 use Rattle.replies.proofs.Spaced.{spaced-step}

@@ -1,19 +1,15 @@
 -- The proof of the cycle of calls {walk}. The measure is the feedback divider.
--- Assumes nothing.
 use native.Mathlib.Omega.{arith}
 use Prim.Native.Nat.{ℕ, _<_}
-use borrow.Author.Needs.{needs}
-use borrow.Fn.Kinds.{In}
+use borrow.{Author.Needs.needs, Fn.Kinds.In}
 use borrow.Fn.PlainCycle.{Measures, is, falls, and}
-use Rattle.pll.proofs.Ends.{permits-between}
-use Rattle.pll.proofs.Steps.{stop-exact, stop-last, walk-on}
+use Rattle.pll.proofs.{Ends.permits-between, Steps.stop-exact, Steps.stop-last, Steps.walk-on, +walk.statement}
+use Rattle.pll.proofs.+walk.Tie.{close}
 use Rattle.pll.proofs.walk.Reads as walk
 use Rattle.pll.proofs.walk.Kinds as walk-kinds
 use Rattle.pll.proofs.+walk.Lts-walk as walk-lts
 use Rattle.pll.proofs.best_posts.Reads as best
 use Rattle.pll.proofs.lower.Reads as lower
-use Rattle.pll.proofs.+walk.{statement}
-use Rattle.pll.proofs.+walk.Tie.{close}
 
 abbrev μ-walk : Measures 0 walk-kinds.ps ℕ
 μ-walk κs a = a .1 .1 .0

@@ -1,9 +1,7 @@
 -- `pll::best_posts` meets its contract.
--- Assumes nothing.
 use native.Mathlib.Omega.{arith}
 use borrow.Author.Needs.{needs}
-use Rattle.pll.proofs.Nearest.{nearest-lowest}
-use Rattle.pll.proofs.best_posts.Statement.{statement}
+use Rattle.pll.proofs.{Nearest.nearest-lowest, best_posts.Statement.statement}
 use Rattle.pll.proofs.best_posts.Tie as tie
 
 pub best-posts-spec : {M : Type 1} → statement M

@@ -1,16 +1,10 @@
 -- `pll::find_pll_params` meets its contract.
--- Assumes nothing.
-use mathlib.Core.Path.{sym, ap, _∙_}
-use mathlib.Core.Logic.{inl, inr}
+use mathlib.Core.{Path.sym, Path.ap, Path._∙_, Logic.inl, Logic.inr}
 use native.Mathlib.Omega.{arith}
 use borrow.Author.Needs.{needs}
 use Rattle.base.specs.Answer.{refusal, numberIs}
-use Rattle.pll.proofs.Candidates.{a-candidate}
-use Rattle.pll.proofs.Ends.{highest-right, lowest-right}
-use Rattle.pll.proofs.Inputs.{none-to-walk}
-use Rattle.pll.proofs.Joined.{lowest-found}
-use Rattle.pll.proofs.Steps.{all-walked}
-use Rattle.pll.proofs.find_pll_params.Statement.{statement}
+use Rattle.pll.proofs.{Candidates.a-candidate, Ends.highest-right, Ends.lowest-right, Inputs.none-to-walk}
+use Rattle.pll.proofs.{Joined.lowest-found, Steps.all-walked, find_pll_params.Statement.statement}
 use Rattle.pll.proofs.find_pll_params.Tie as tie
 
 walk-requires : tie.Need-walk-requires

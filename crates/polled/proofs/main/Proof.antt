@@ -1,12 +1,9 @@
 -- `polled::main` meets its contract: the sheet's length is within the buffer.
--- Assumes nothing.
-use mathlib.Core.List.{List}
-use mathlib.Core.Path.{_≡_, sym}
+use mathlib.Core.{List.List, Path._≡_, Path.sym}
 use Prim.Native.Nat.{ℕ, _≤_}
 use native.Mathlib.Omega.{arith}
 use borrow.Author.Needs.{needs}
-use lib.ListN.{length, length-append}
-use lib.Seq.{length-take-le}
+use lib.{ListN.length, ListN.length-append, Seq.length-take-le}
 use Rattle.base.specs.Answer.{value, lengthIs}
 use Rattle.base.specs.declared.Length.{Length}
 use Rattle.config.specs.declared.ClockConfig.{ClockConfig}

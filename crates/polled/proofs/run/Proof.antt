@@ -1,5 +1,4 @@
 -- `polled::run` meets its contract: the loop ends. Measure: how many calls are left.
--- Assumes nothing.
 use borrow.Author.Needs.{needs}
 use Rattle.polled.proofs.run.Statement.{statement}
 use Rattle.polled.proofs.run.Tie as tie

@@ -1,4 +1,4 @@
--- `polled::show` meets its contract. Assumes nothing.
+-- `polled::show` meets its contract.
 use mathlib.Core.Path.{sym}
 use borrow.Author.Needs.{needs}
 use lib.Seq.{length-take-le}

@@ -1,4 +1,4 @@
--- `read_cases::answer_of` meets its contract. Assumes nothing.
+-- `read_cases::answer_of` meets its contract.
 use borrow.Author.Needs.{needs}
 use Rattle.read_cases.proofs.answer_of.Statement.{statement}
 use Rattle.read_cases.proofs.answer_of.Tie as tie

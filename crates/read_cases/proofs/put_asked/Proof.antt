@@ -1,4 +1,4 @@
--- `read_cases::put_asked` meets its contract. Assumes nothing.
+-- `read_cases::put_asked` meets its contract.
 use borrow.Author.Needs.{needs}
 use Rattle.read_cases.proofs.put_asked.Statement.{statement}
 use Rattle.read_cases.proofs.put_asked.Tie as tie

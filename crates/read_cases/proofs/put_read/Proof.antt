@@ -1,4 +1,4 @@
--- `read_cases::put_read` meets its contract. Assumes nothing.
+-- `read_cases::put_read` meets its contract.
 use Rattle.read_cases.specs.Reads.{readText}
 use borrow.Author.Needs.{needs}
 use Rattle.read_cases.proofs.put_read.Statement.{statement}

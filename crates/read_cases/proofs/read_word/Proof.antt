@@ -1,4 +1,4 @@
--- `read_cases::read_word` meets its contract. Assumes nothing.
+-- `read_cases::read_word` meets its contract.
 use Rattle.text.proofs.HexWords.{word-read, no-word}
 use Rattle.read_cases.specs.Reads.{sheetIn}
 use borrow.Author.Needs.{needs}

@@ -1,10 +1,8 @@
--- `readback::gives` meets its contract. Assumes nothing.
+-- `readback::gives` meets its contract.
 use mathlib.Core.Path.{refl}
-use borrow.Author.Tests.{eq-eqb, ne-eqb}
+use borrow.{Author.Tests.eq-eqb, Author.Tests.ne-eqb, Author.Needs.needs}
 use Rattle.readback.specs.Read.{gives}
-use Rattle.readback.proofs.Kept.{kept, turned-back}
-use borrow.Author.Needs.{needs}
-use Rattle.readback.proofs.gives.Statement.{statement}
+use Rattle.readback.proofs.{Kept.kept, Kept.turned-back, gives.Statement.statement}
 use Rattle.readback.proofs.gives.Tie as tie
 
 pub gives-spec : {M : Type 1} → statement M

@@ -1,7 +1,6 @@
--- `readback::read_sheet` meets its contract. Assumes nothing.
-use borrow.Author.Tests.{lt-ltb, le-ltb}
+-- `readback::read_sheet` meets its contract.
+use borrow.{Author.Tests.lt-ltb, Author.Tests.le-ltb, Author.Needs.needs}
 use Rattle.readback.specs.Read.{planIn, readOf}
-use borrow.Author.Needs.{needs}
 use Rattle.readback.proofs.read_sheet.Statement.{statement}
 use Rattle.readback.proofs.read_sheet.Tie as tie
 

@@ -1,9 +1,8 @@
--- `readback::top_reading` meets its contract. Assumes nothing.
+-- `readback::top_reading` meets its contract.
 use mathlib.Core.Path.{refl}
 use borrow.Author.Needs.{needs}
 use Rattle.readback.specs.Steps.{topReading}
-use Rattle.readback.proofs.Parts.{goes-on}
-use Rattle.readback.proofs.top_reading.Statement.{statement}
+use Rattle.readback.proofs.{Parts.goes-on, top_reading.Statement.statement}
 use Rattle.readback.proofs.top_reading.Tie as tie
 
 pub top-reading-spec : {M : Type 1} → statement M

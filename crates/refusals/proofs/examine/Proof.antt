@@ -1,4 +1,4 @@
--- `refusals::examine` meets its contract. Assumes nothing.
+-- `refusals::examine` meets its contract.
 use borrow.Author.Needs.{needs}
 use Rattle.refusals.proofs.examine.Statement.{statement}
 use Rattle.refusals.proofs.examine.Tie as tie

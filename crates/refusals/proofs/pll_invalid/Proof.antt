@@ -1,4 +1,4 @@
--- `refusals::pll_invalid` meets its contract. Assumes nothing.
+-- `refusals::pll_invalid` meets its contract.
 use Rattle.settings.proofs.Plls.{pll-silent}
 use borrow.Author.Needs.{needs}
 use Rattle.refusals.proofs.pll_invalid.Statement.{statement}

@@ -1,8 +1,8 @@
--- `refusals::plls_invalid` meets its contract. Assumes nothing.
+-- `refusals::plls_invalid` meets its contract.
 use mathlib.Core.Path.{refl, ap}
 use Rattle.settings.specs.declared.Sources.{Sources}
 use Rattle.settings.specs.Frequencies.{sourcesOf}
-use Rattle.refusals.specs.Refusals.{sysPllInvalid, usbPllInvalid}
+use Rattle.grounds.specs.Grounds.{sysPllInvalid, usbPllInvalid}
 use borrow.Author.Needs.{needs}
 use Rattle.refusals.proofs.plls_invalid.Statement.{statement}
 use Rattle.refusals.proofs.plls_invalid.Tie as tie

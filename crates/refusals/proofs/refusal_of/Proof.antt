@@ -1,13 +1,13 @@
--- `refusals::refusal_of` meets its contract: each call of `number_when` is a row of the list. Assumes nothing.
-use mathlib.Core.Path.{_≡_, refl, ap, _∙_}
-use mathlib.Core.Bool.{Bool}
+-- `refusals::refusal_of` meets its contract: each call of `number_when` is a row of the list.
+use mathlib.Core.{Path._≡_, Path.refl, Path.ap, Path._∙_, Bool.Bool}
 use Prim.Native.Nat.{ℕ}
 use borrow.Author.Needs.{needs}
 use lib.Dec.{eqb, ltb}
 use Rattle.base.specs.Choice.{pick}
 use Rattle.chip.specs.declared.Facts.{Facts}
 use Rattle.settings.specs.declared.Frequencies.{Frequencies}
-use Rattle.refusals.specs.Refusals.{ringDividerOver, wholeBad, first, testsOf, refusalOf}
+use Rattle.grounds.specs.Grounds.{ringDividerOver, wholeBad}
+use Rattle.refusals.specs.Refusals.{first, testsOf, refusalOf}
 use Rattle.refusals.proofs.refusal_of.Statement.{statement}
 use Rattle.refusals.proofs.refusal_of.Tie as tie
 

@@ -1,17 +1,13 @@
 -- `replay::take_piece` meets its contract. Invariant: what the buffer holds goes on by what is left of the piece, and
 -- the buffers keep their lengths. Measure: what is left of the piece.
--- Assumes nothing.
-use mathlib.Core.Path.{_≡_, refl}
-use mathlib.Core.List.{List}
+use mathlib.Core.{Path._≡_, Path.refl, List.List}
 use Prim.Native.Nat.{ℕ, _-_, _≤_}
 use native.Mathlib.Omega.{arith}
 use borrow.Author.Needs.{needs}
-use lib.ListN.{length, take, drop, length-take, length-drop}
-use lib.Seq.{take-all}
+use lib.{ListN.length, ListN.take, ListN.drop, ListN.length-take, ListN.length-drop, Seq.take-all}
 use Rattle.lines.specs.Lines.{Holds}
 use Rattle.replay.specs.Pieces.{unclosed}
-use Rattle.replay.proofs.Unclosed.{Goes, goes-on, all-gone}
-use Rattle.replay.proofs.take_piece.Statement.{statement}
+use Rattle.replay.proofs.{Unclosed.Goes, Unclosed.goes-on, Unclosed.all-gone, take_piece.Statement.statement}
 use Rattle.replay.proofs.take_piece.Tie as tie
 
 abbrev Inv-loop : tie.InvT-loop

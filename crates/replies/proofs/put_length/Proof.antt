@@ -1,4 +1,4 @@
--- `replies::put_length` meets its contract. Assumes nothing.
+-- `replies::put_length` meets its contract.
 use borrow.Author.Needs.{needs}
 use Rattle.base.proofs.Placing.{placed-append}
 use Rattle.replies.proofs.put_length.Statement.{statement}

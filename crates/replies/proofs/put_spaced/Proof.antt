@@ -1,4 +1,4 @@
--- `replies::put_spaced` meets its contract. Measure: the numbers left. Assumes nothing.
+-- `replies::put_spaced` meets its contract. Measure: the numbers left.
 use mathlib.Core.Path.{refl}
 use Prim.Native.Nat.{_-_}
 use native.Mathlib.Omega.{arith}
@@ -6,8 +6,7 @@ use borrow.Author.Needs.{needs}
 use lib.ListN.{length, take}
 use Rattle.base.proofs.Parts.{Parts, parts-none, parts-next, parts-length, parts-of}
 use Rattle.replies.specs.Reply.{spaced}
-use Rattle.replies.proofs.Spaced.{spaced-step}
-use Rattle.replies.proofs.put_spaced.Statement.{statement}
+use Rattle.replies.proofs.{Spaced.spaced-step, put_spaced.Statement.statement}
 use Rattle.replies.proofs.put_spaced.Tie as tie
 
 pub put-spaced-spec : {M : Type 1} → statement M

@@ -1,10 +1,9 @@
--- `replies::put_unread` meets its contract. Assumes nothing.
+-- `replies::put_unread` meets its contract.
 use native.Mathlib.Omega.{arith}
 use borrow.Author.Needs.{needs}
 use Rattle.text.proofs.Outputs.{whole}
 use Rattle.replies.specs.Reply.{refusedLine}
-use Rattle.replies.proofs.Refused.{refused-most}
-use Rattle.replies.proofs.put_unread.Statement.{statement}
+use Rattle.replies.proofs.{Refused.refused-most, put_unread.Statement.statement}
 use Rattle.replies.proofs.put_unread.Tie as tie
 
 pub put-unread-spec : {M : Type 1} → statement M

@@ -1,4 +1,4 @@
--- `replies::put_written` meets its contract. Assumes nothing.
+-- `replies::put_written` meets its contract.
 use mathlib.Core.List.{append-assoc}
 use borrow.Author.Needs.{needs}
 use Rattle.base.proofs.Placing.{placed-append}

@@ -1,4 +1,4 @@
--- `replies::put_yes_no` meets its contract. Assumes nothing.
+-- `replies::put_yes_no` meets its contract.
 use borrow.Author.Needs.{needs}
 use Rattle.replies.proofs.put_yes_no.Statement.{statement}
 use Rattle.replies.proofs.put_yes_no.Tie as tie

@@ -1,4 +1,4 @@
--- `report::put_report` meets its contract. Assumes nothing.
+-- `report::put_report` meets its contract.
 use borrow.Author.Needs.{needs}
 use Rattle.report.specs.Report.{reportOf}
 use Rattle.report.proofs.put_report.Statement.{statement}

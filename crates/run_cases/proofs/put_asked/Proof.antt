@@ -1,4 +1,4 @@
--- `run_cases::put_asked` meets its contract. Assumes nothing.
+-- `run_cases::put_asked` meets its contract.
 use borrow.Author.Needs.{needs}
 use Rattle.run_cases.proofs.put_asked.Statement.{statement}
 use Rattle.run_cases.proofs.put_asked.Tie as tie

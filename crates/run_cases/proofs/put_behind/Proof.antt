@@ -1,11 +1,9 @@
--- `run_cases::put_behind` meets its contract. Assumes nothing.
-use borrow.Author.Needs.{needs}
-use borrow.Author.Tests.{lt-ltb, le-ltb}
+-- `run_cases::put_behind` meets its contract.
+use borrow.{Author.Needs.needs, Author.Tests.lt-ltb, Author.Tests.le-ltb}
 use native.Mathlib.Numerals.{add-one}
 use Prim.Native.Nat.{_+_}
 use Rattle.fields.specs.Fields.{tailAt}
-use Rattle.run_cases.proofs.HexWords.{take-rest}
-use Rattle.run_cases.proofs.put_behind.Statement.{statement}
+use Rattle.run_cases.proofs.{HexWords.take-rest, put_behind.Statement.statement}
 use Rattle.run_cases.proofs.put_behind.Tie as tie
 
 pub put-behind-spec : {M : Type 1} → statement M

@@ -1,4 +1,4 @@
--- `run_cases::put_kept` meets its contract. Assumes nothing.
+-- `run_cases::put_kept` meets its contract.
 use borrow.Author.Needs.{needs}
 use lib.ListN.{length-take}
 use native.Mathlib.Omega.{arith}

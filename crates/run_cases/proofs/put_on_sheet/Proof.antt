@@ -1,12 +1,12 @@
--- `run_cases::put_on_sheet` meets its contract. Assumes nothing.
+-- `run_cases::put_on_sheet` meets its contract.
 use borrow.Author.Needs.{needs}
 use Rattle.text.proofs.HexWords.{word-read, no-word}
-use Rattle.run_cases.specs.Runs.{sheetText}
+use Rattle.run_cases.specs.Runs.{askedSheet}
 use Rattle.run_cases.proofs.put_on_sheet.Statement.{statement}
 use Rattle.run_cases.proofs.put_on_sheet.Tie as tie
 
 pub put-on-sheet-spec : {M : Type 1} → statement M
-unfolding sheetText
+unfolding askedSheet
 put-on-sheet-spec = tie.close (tie.spec (λ c. search needs) (λ c κs. search needs) (λ c. search needs)
     (λ c. let length = c .before in
     word-read (length .length .given .1) (length .before .before .before .hex-bytes .ensures) .within)

@@ -1,4 +1,4 @@
--- `run_cases::put_opening` meets its contract. Assumes nothing.
+-- `run_cases::put_opening` meets its contract.
 use borrow.Author.Needs.{needs}
 use Rattle.run_cases.proofs.put_opening.Statement.{statement}
 use Rattle.run_cases.proofs.put_opening.Tie as tie

@@ -1,4 +1,4 @@
--- `run_cases::put_run` meets its contract. Assumes nothing.
+-- `run_cases::put_run` meets its contract.
 use borrow.Author.Needs.{needs}
 use Rattle.run_cases.proofs.put_run.Statement.{statement}
 use Rattle.run_cases.proofs.put_run.Tie as tie

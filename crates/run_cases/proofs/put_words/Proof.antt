@@ -1,16 +1,15 @@
--- `run_cases::put_words` meets its contract. Assumes nothing.
+-- `run_cases::put_words` meets its contract.
 use borrow.Author.Needs.{needs}
 use lib.ListN.{length-take}
 use native.Mathlib.Omega.{arith}
 use Rattle.fields.proofs.Tails.{behind-first}
 use Rattle.text.proofs.HexWords.{word-read, no-word}
-use Rattle.run_cases.proofs.HexWords.{word-padded, of-first}
-use Rattle.run_cases.specs.Runs.{wordsText}
-use Rattle.run_cases.proofs.put_words.Statement.{statement}
+use Rattle.run_cases.proofs.{HexWords.word-padded, HexWords.of-first, put_words.Statement.statement}
+use Rattle.run_cases.specs.Runs.{askedWords}
 use Rattle.run_cases.proofs.put_words.Tie as tie
 
 returns : tie.Need-returns
-unfolding wordsText
+unfolding askedWords
 returns c =
     let put-behind = c .before .before in let runner-at = put-behind .before .before in
     let told = runner-at .before .enum-told .given .1 in let hex-bytes = runner-at .before .before .before .before in
@@ -20,7 +19,7 @@ returns c =
     (put-behind .put-behind .ensures) in rw (word-read told word .readable) put
 
 pub put-words-spec : {M : Type 1} → statement M
-unfolding wordsText
+unfolding askedWords
 put-words-spec = tie.close (tie.spec (λ c κs. search needs) (λ c. simp length-take (omega arith)) (λ c. search needs)
     (λ c κs. search needs) (λ c. search needs) (λ c κs. search needs) (λ c κs. search needs) (λ c. search needs)
     (λ c κs. search needs) (λ c. search needs) returns (λ c. search needs)

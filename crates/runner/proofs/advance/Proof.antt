@@ -1,5 +1,4 @@
 -- `runner::advance` meets its contract.
--- Assumes nothing.
 use borrow.Author.Needs.{needs}
 use mathlib.Core.Path.{ap}
 use Rattle.runner.specs.declared.Stepper.{Stepper}

@@ -1,11 +1,9 @@
 -- `runner::move_stepper` meets its contract.
--- Assumes nothing.
 use borrow.Author.Needs.{needs}
 use mathlib.Core.Path.{ap}
 use Rattle.runner.specs.declared.State.{State}
 use Rattle.runner.specs.Run.{Outcome, stepperOf}
-use Rattle.runner.proofs.Steps.{turn-formed}
-use Rattle.runner.proofs.move_stepper.Statement.{statement}
+use Rattle.runner.proofs.{Steps.turn-formed, move_stepper.Statement.statement}
 use Rattle.runner.proofs.move_stepper.Tie as tie
 
 pub move-stepper-spec : {M : Type 1} → statement M

@@ -1,4 +1,4 @@
--- `runner::next_stepper` meets its contract. Assumes nothing.
+-- `runner::next_stepper` meets its contract.
 use borrow.Author.Needs.{needs}
 use Rattle.runner.proofs.next_stepper.Statement.{statement}
 use Rattle.runner.proofs.next_stepper.Tie as tie

@@ -1,14 +1,10 @@
 -- `runner::poll` meets its contract: it changes a runner's stepper in place, by `next_stepper`.
--- Assumes nothing.
-use mathlib.Core.Path.{_≡_, ap}
-use mathlib.Core.List.{[], _∷_}
-use Rattle.base.proofs.HandedOn.{bytes, flag}
-use Rattle.base.proofs.InPlace.{in-place}
+use mathlib.Core.{Path._≡_, Path.ap, List.[], List._∷_}
+use Rattle.base.proofs.{HandedOn.bytes, HandedOn.flag, InPlace.in-place}
 use Rattle.runner.specs.Run.{outcome, replyIs, movedIs, stepperOf, inRunner, advanceOf}
 use Rattle.runner.proofs.Changed.{runner, stepper, reply, moved, steps}
+use Rattle.runner.proofs.{next_stepper.Met.met, poll.Key.name as #poll}
 use Rattle.runner.proofs.next_stepper.Symbol as next
-use Rattle.runner.proofs.next_stepper.Met.{met}
-use Rattle.runner.proofs.poll.Key.{name as #poll}
 use Rattle.runner.proofs.poll.Statement as stated
 use Rattle.runner.proofs.poll.Code as code
 

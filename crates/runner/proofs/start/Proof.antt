@@ -1,15 +1,10 @@
 -- `runner::start` meets its contract: it changes a runner in place, by `restarted`.
--- Assumes nothing.
-use mathlib.Core.Path.{_≡_}
-use mathlib.Core.List.{[], _∷_}
-use Rattle.base.proofs.HandedOn.{bytes}
-use Rattle.base.proofs.InPlace.{in-place}
-use Rattle.base.proofs.Solid.{whole}
+use mathlib.Core.{Path._≡_, List.[], List._∷_}
+use Rattle.base.proofs.{HandedOn.bytes, InPlace.in-place, Solid.whole}
 use Rattle.runner.specs.Run.{begun, openingIs, openedIs, startOf}
-use Rattle.runner.proofs.Changed.{runner, opening, opened}
-use Rattle.runner.proofs.restarted.Symbol as restarted
-use Rattle.runner.proofs.restarted.Met.{met}
+use Rattle.runner.proofs.{Changed.runner, Changed.opening, Changed.opened, restarted.Met.met}
 use Rattle.runner.proofs.start.Key.{name as #start}
+use Rattle.runner.proofs.restarted.Symbol as restarted
 use Rattle.runner.proofs.start.Statement as stated
 use Rattle.runner.proofs.start.Code as code
 

@@ -1,17 +1,12 @@
 -- `runner::turn` meets its contract: each way out is one of the rules of a call.
--- Assumes nothing.
-use borrow.Author.Needs.{needs}
-use borrow.Author.Tests.{not-true, not-false}
-use mathlib.Core.Bool.{false}
-use mathlib.Core.Path.{_≡_, sym, _∙_}
+use borrow.{Author.Needs.needs, Author.Tests.not-true, Author.Tests.not-false}
+use mathlib.Core.{Bool.false, Path._≡_, Path.sym, Path._∙_}
 use native.Mathlib.Omega.{arith}
 use Prim.Native.Nat.{_≤_}
-use lib.ListN.{length}
-use lib.Seq.{length-take-le}
+use lib.{ListN.length, Seq.length-take-le}
 use Rattle.step.specs.Sheet.{maxBytes}
 use Rattle.runner.specs.Run.{outside}
-use Rattle.runner.proofs.Calls.{inside, len-fits}
-use Rattle.runner.proofs.Calls.{call-outside, call-stopped, call-differs, call-goes}
+use Rattle.runner.proofs.Calls.{inside, len-fits, call-outside, call-stopped, call-differs, call-goes}
 use Rattle.runner.proofs.turn.Statement.{statement}
 use Rattle.runner.proofs.turn.Tie as tie
 

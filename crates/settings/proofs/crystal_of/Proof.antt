@@ -1,4 +1,4 @@
--- `settings::crystal_of` meets its contract. Assumes nothing.
+-- `settings::crystal_of` meets its contract.
 use borrow.Author.Needs.{needs}
 use Rattle.settings.proofs.crystal_of.Statement.{statement}
 use Rattle.settings.proofs.crystal_of.Tie as tie

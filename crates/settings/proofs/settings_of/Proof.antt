@@ -1,4 +1,4 @@
--- `settings::settings_of` meets its contract. Assumes nothing.
+-- `settings::settings_of` meets its contract.
 use borrow.Author.Needs.{needs}
 use Rattle.settings.proofs.settings_of.Statement.{statement}
 use Rattle.settings.proofs.settings_of.Tie as tie

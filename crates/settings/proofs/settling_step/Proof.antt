@@ -1,7 +1,6 @@
--- `settings::settling_step` meets its contract. Assumes nothing.
-use borrow.Author.Tests.{eq-eqb, ne-eqb}
+-- `settings::settling_step` meets its contract.
+use borrow.{Author.Tests.eq-eqb, Author.Tests.ne-eqb, Author.Needs.needs}
 use Rattle.settings.specs.Settings.{settlingStep}
-use borrow.Author.Needs.{needs}
 use Rattle.settings.proofs.settling_step.Statement.{statement}
 use Rattle.settings.proofs.settling_step.Tie as tie
 

@@ -1,6 +1,6 @@
--- `sheet::gather` meets its contract. Assumes nothing.
-use Rattle.sheet.specs.Steps.{stepsOf}
-use Rattle.sheet.proofs.Gathering.{pushes-append}
+-- `sheet::gather` meets its contract.
+use Rattle.sheet_steps.specs.Steps.{stepsOf}
+use Rattle.sheet_steps.proofs.Gathering.{pushes-append}
 use borrow.Author.Needs.{needs}
 use Rattle.sheet.proofs.gather.Statement.{statement}
 use Rattle.sheet.proofs.gather.Tie as tie

@@ -1,12 +1,10 @@
--- `sheet::init` meets its contract: each of its three ends. Assumes nothing.
-use mathlib.Core.Path.{sym, _∙_}
-use mathlib.Core.List.{List}
+-- `sheet::init` meets its contract: each of its three ends.
+use mathlib.Core.{Path.sym, Path._∙_, List.List}
 use Prim.Native.Nat.{ℕ}
 use native.Mathlib.Omega.{arith}
 use denote.Ref.{now}
-use borrow.Author.Needs.{needs}
-use borrow.Author.Tests.{not-true, not-false}
-use Rattle.sheet.specs.Gather.{held}
+use borrow.{Author.Needs.needs, Author.Tests.not-true, Author.Tests.not-false}
+use Rattle.sheet_steps.specs.Gather.{held}
 use Rattle.sheet.specs.Writer.{sheetBytes}
 use Rattle.sheet.proofs.Ends.{Looked, looked, Ready, ready, copy-short, copy-whole, refused, too-short, accepted}
 use Rattle.sheet.proofs.init.Statement.{statement}

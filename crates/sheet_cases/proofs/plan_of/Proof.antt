@@ -1,4 +1,4 @@
--- `sheet_cases::plan_of` meets its contract. Assumes nothing.
+-- `sheet_cases::plan_of` meets its contract.
 use borrow.Author.Needs.{needs}
 use Rattle.sheet_cases.proofs.plan_of.Statement.{statement}
 use Rattle.sheet_cases.proofs.plan_of.Tie as tie

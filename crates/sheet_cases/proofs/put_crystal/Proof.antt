@@ -1,4 +1,4 @@
--- `sheet_cases::put_crystal` meets its contract. Assumes nothing.
+-- `sheet_cases::put_crystal` meets its contract.
 use borrow.Author.Needs.{needs}
 use Rattle.sheet_cases.proofs.put_crystal.Statement.{statement}
 use Rattle.sheet_cases.proofs.put_crystal.Tie as tie

@@ -1,4 +1,4 @@
--- `sheet_cases::put_plan_sheet` meets its contract. Assumes nothing.
+-- `sheet_cases::put_plan_sheet` meets its contract.
 use borrow.Author.Needs.{needs}
 use Rattle.sheet_cases.proofs.put_plan_sheet.Statement.{statement}
 use Rattle.sheet_cases.proofs.put_plan_sheet.Tie as tie

@@ -1,4 +1,4 @@
--- `sheet_cases::put_planned` meets its contract. Assumes nothing.
+-- `sheet_cases::put_planned` meets its contract.
 use borrow.Author.Needs.{needs}
 use Rattle.sheet_cases.proofs.put_planned.Statement.{statement}
 use Rattle.sheet_cases.proofs.put_planned.Tie as tie

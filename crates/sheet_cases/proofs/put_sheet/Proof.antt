@@ -1,10 +1,9 @@
--- `sheet_cases::put_sheet` meets its contract. Assumes nothing.
+-- `sheet_cases::put_sheet` meets its contract.
 use Rattle.sheet_cases.specs.Sheets.{sheetText}
-use Rattle.sheet_cases.proofs.Buffers.{take-same}
+use Rattle.sheet_cases.proofs.{Buffers.take-same, put_sheet.Statement.statement}
 use lib.ListN.{length-take, length-replicate}
 use native.Mathlib.Omega.{arith}
 use borrow.Author.Needs.{needs}
-use Rattle.sheet_cases.proofs.put_sheet.Statement.{statement}
 use Rattle.sheet_cases.proofs.put_sheet.Tie as tie
 
 returns : tie.Need-returns

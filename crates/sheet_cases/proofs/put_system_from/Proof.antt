@@ -1,4 +1,4 @@
--- `sheet_cases::put_system_from` meets its contract. Assumes nothing.
+-- `sheet_cases::put_system_from` meets its contract.
 use borrow.Author.Needs.{needs}
 use Rattle.sheet_cases.proofs.put_system_from.Statement.{statement}
 use Rattle.sheet_cases.proofs.put_system_from.Tie as tie

@@ -1,6 +1,5 @@
--- `sleep::sleep` meets its contract. Assumes nothing.
-use borrow.Author.Needs.{needs}
-use borrow.Author.Tests.{lt-ltb, le-ltb}
+-- `sleep::sleep` meets its contract.
+use borrow.{Author.Needs.needs, Author.Tests.lt-ltb, Author.Tests.le-ltb}
 use Rattle.sleep.specs.Sleep.{sleepOf}
 use Rattle.sleep.proofs.sleep.Statement.{statement}
 use Rattle.sleep.proofs.sleep.Tie as tie

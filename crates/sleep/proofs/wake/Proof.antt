@@ -1,6 +1,5 @@
--- `sleep::wake` meets its contract. Assumes nothing.
-use borrow.Author.Needs.{needs}
-use borrow.Author.Tests.{lt-ltb, le-ltb}
+-- `sleep::wake` meets its contract.
+use borrow.{Author.Needs.needs, Author.Tests.lt-ltb, Author.Tests.le-ltb}
 use Rattle.sleep.specs.Sleep.{wakeOf}
 use Rattle.sleep.proofs.wake.Statement.{statement}
 use Rattle.sleep.proofs.wake.Tie as tie

@@ -1,12 +1,12 @@
--- `sleep_cases::put_change` meets its contract. Assumes nothing.
+-- `sleep_cases::put_change` meets its contract.
 use borrow.Author.Needs.{needs}
 use Rattle.base.proofs.Placing.{placed-append}
-use Rattle.sleep_cases.specs.Sleeps.{outcomeText}
+use Rattle.sleep_cases.specs.Sleeps.{sleepOutcomeText}
 use Rattle.sleep_cases.proofs.put_change.Statement.{statement}
 use Rattle.sleep_cases.proofs.put_change.Tie as tie
 
 returns : tie.Need-returns
-unfolding outcomeText
+unfolding sleepOutcomeText
 returns c =
     let put-slots = c .before .before in let put-bytes2 = put-slots .before .before .before .before in
     let put-steps = put-bytes2 .before .before .before .before .before in
@@ -17,7 +17,7 @@ returns c =
     (put-bytes2 .put-bytes2 .ensures) (put-slots .put-slots .ensures)))))
 
 pub put-change-spec : {M : Type 1} → statement M
-unfolding outcomeText
+unfolding sleepOutcomeText
 put-change-spec = tie.close (tie.spec (λ c. search needs) (λ c κs. search needs) (λ c. search needs)
     (λ c κs. search needs) (λ c κs. search needs) (λ c. search needs) (λ c κs. search needs) (λ c κs. search needs)
     (λ c. search needs) (λ c κs. search needs) (λ c. search needs) returns (λ c. search needs)

@@ -1,4 +1,4 @@
--- `sleep_cases::put_numbered` meets its contract. Assumes nothing.
+-- `sleep_cases::put_numbered` meets its contract.
 use borrow.Author.Needs.{needs}
 use Rattle.base.proofs.Placing.{placed-append}
 use Rattle.sleep_cases.proofs.put_numbered.Statement.{statement}

@@ -1,4 +1,4 @@
--- `sleep_cases::put_sleep` meets its contract. Assumes nothing.
+-- `sleep_cases::put_sleep` meets its contract.
 use borrow.Author.Needs.{needs}
 use Rattle.sleep_cases.proofs.put_sleep.Statement.{statement}
 use Rattle.sleep_cases.proofs.put_sleep.Tie as tie

@@ -1,4 +1,4 @@
--- `sleep_cases::put_steps` meets its contract. Measure: the steps left. Assumes nothing.
+-- `sleep_cases::put_steps` meets its contract. Measure: the steps left.
 use mathlib.Core.Path.{refl}
 use Prim.Native.Nat.{_-_}
 use native.Mathlib.Omega.{arith}

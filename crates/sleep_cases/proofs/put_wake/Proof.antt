@@ -1,4 +1,4 @@
--- `sleep_cases::put_wake` meets its contract. Assumes nothing.
+-- `sleep_cases::put_wake` meets its contract.
 use borrow.Author.Needs.{needs}
 use Rattle.sleep_cases.proofs.put_wake.Statement.{statement}
 use Rattle.sleep_cases.proofs.put_wake.Tie as tie

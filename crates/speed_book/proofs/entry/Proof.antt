@@ -1,5 +1,4 @@
 -- `speed_book::entry` meets its contract.
--- Assumes nothing.
 use borrow.Author.Needs.{needs}
 use Rattle.speed_book.proofs.entry.Statement.{statement}
 use Rattle.speed_book.proofs.entry.Tie as tie

@@ -1,7 +1,5 @@
 -- `speed_book::entry_at` meets its contract.
--- Assumes nothing.
-use borrow.Author.Tests.{lt-ltb, le-ltb}
-use borrow.Author.Needs.{needs}
+use borrow.{Author.Tests.lt-ltb, Author.Tests.le-ltb, Author.Needs.needs}
 use Rattle.speed_book.proofs.entry_at.Statement.{statement}
 use Rattle.speed_book.proofs.entry_at.Tie as tie
 

@@ -1,7 +1,5 @@
 -- `speed_book::entry_in` meets its contract.
--- Assumes nothing.
-use borrow.Author.Tests.{lt-ltb, le-ltb}
-use borrow.Author.Needs.{needs}
+use borrow.{Author.Tests.lt-ltb, Author.Tests.le-ltb, Author.Needs.needs}
 use Rattle.speed_book.specs.Book.{lineIn}
 use Rattle.speed_book.proofs.entry_in.Statement.{statement}
 use Rattle.speed_book.proofs.entry_in.Tie as tie

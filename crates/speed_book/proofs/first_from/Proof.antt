@@ -1,5 +1,4 @@
 -- `speed_book::first_from` meets its contract: what is left of the halvings is in the invariant.
--- Assumes nothing.
 use mathlib.Core.Path.{_≡_, refl, sym, _∙_}
 use Prim.Native.Nat.{_-_, _≤_}
 use native.Mathlib.Omega.{arith}

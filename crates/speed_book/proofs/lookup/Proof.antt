@@ -1,8 +1,6 @@
 -- `speed_book::lookup` meets its contract.
--- Assumes nothing.
 use borrow.Author.Needs.{needs}
-use Rattle.speed_book.proofs.Lookups.{lookup-searches}
-use Rattle.speed_book.proofs.lookup.Statement.{statement}
+use Rattle.speed_book.proofs.{Lookups.lookup-searches, lookup.Statement.statement}
 use Rattle.speed_book.proofs.lookup.Tie as tie
 
 pub lookup-spec : {M : Type 1} → statement M

@@ -1,5 +1,4 @@
 -- `speed_book::lookup_in` meets its contract.
--- Assumes nothing.
 use borrow.Author.Needs.{needs}
 use Rattle.speed_book.specs.Lookup.{lookupIn}
 use Rattle.speed_book.proofs.lookup_in.Statement.{statement}

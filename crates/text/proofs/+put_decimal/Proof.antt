@@ -1,19 +1,15 @@
 -- The proof of the cycle of calls {put_decimal}. The measure is the number.
--- Assumes nothing.
 use mathlib.Core.Path.{_∙_}
 use Prim.Native.Nat.{ℕ, _≤_, _<_}
 use native.Mathlib.Omega.{arith}
-use borrow.Fn.Kinds.{In}
-use borrow.Fn.PlainCycle.{Measures, is, falls, and}
+use borrow.{Fn.Kinds.In, Fn.PlainCycle.Measures, Fn.PlainCycle.is, Fn.PlainCycle.falls, Fn.PlainCycle.and}
 use Rattle.base.proofs.Placing.{placed-append}
-use Rattle.text.proofs.Decimals.{decimal-small, decimal-more}
+use Rattle.text.proofs.{Decimals.decimal-small, Decimals.decimal-more, put_decimal.Kinds.ps, +put_decimal.statement}
+use Rattle.text.proofs.+put_decimal.Tie.{close}
 use Rattle.text.proofs.put_decimal.Reads as reads
-use Rattle.text.proofs.put_decimal.Kinds.{ps}
 use Rattle.text.proofs.last_digit.Reads as last-digit
 use Rattle.text.proofs.put_byte.Reads as put-byte
 use Rattle.text.proofs.+put_decimal.Lts-put_decimal as lts
-use Rattle.text.proofs.+put_decimal.{statement}
-use Rattle.text.proofs.+put_decimal.Tie.{close}
 
 abbrev μ : Measures 1 ps ℕ
 μ κs a = a .1 .1 .0

@@ -1,14 +1,11 @@
 -- `text::are_pairs` meets its contract. Invariant: the first i bytes are pairs. Measure: what is left of s.
--- Assumes nothing.
 use mathlib.Core.Path.{_≡_, refl, sym, ap, _∙_}
 use Prim.Native.Nat.{_-_, _≤_}
 use native.Mathlib.Omega.{arith}
-use borrow.Author.Needs.{needs}
-use borrow.Author.Tests.{not-true, not-false}
+use borrow.{Author.Needs.needs, Author.Tests.not-true, Author.Tests.not-false}
 use lib.ListN.{length, drop, drop-of-length-le}
 use Rattle.text.specs.Hex.{arePairs}
-use Rattle.text.proofs.Hexes.{pair-step, pair-last}
-use Rattle.text.proofs.are_pairs.Statement.{statement}
+use Rattle.text.proofs.{Hexes.pair-step, Hexes.pair-last, are_pairs.Statement.statement}
 use Rattle.text.proofs.are_pairs.Tie as tie
 
 abbrev Inv-loop : tie.InvT-loop

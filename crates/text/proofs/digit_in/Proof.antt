@@ -1,4 +1,4 @@
--- `text::digit_in` meets its contract. Assumes nothing.
+-- `text::digit_in` meets its contract.
 use borrow.Author.Needs.{needs}
 use Rattle.text.proofs.digit_in.Statement.{statement}
 use Rattle.text.proofs.digit_in.Tie as tie

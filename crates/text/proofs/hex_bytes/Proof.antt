@@ -1,10 +1,8 @@
--- `text::hex_bytes` meets its contract. Assumes nothing.
+-- `text::hex_bytes` meets its contract.
 use mathlib.Core.Path.{sym, _∙_}
 use native.Mathlib.Omega.{arith}
-use borrow.Author.Needs.{needs}
-use borrow.Author.Tests.{not-true, not-false}
-use Rattle.text.proofs.Hexes.{no-word, no-room, word-read}
-use Rattle.text.proofs.hex_bytes.Statement.{statement}
+use borrow.{Author.Needs.needs, Author.Tests.not-true, Author.Tests.not-false}
+use Rattle.text.proofs.{Hexes.no-word, Hexes.no-room, Hexes.word-read, hex_bytes.Statement.statement}
 use Rattle.text.proofs.hex_bytes.Tie as tie
 
 returns-3 : tie.Need-returns-3

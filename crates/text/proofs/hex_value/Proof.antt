@@ -1,9 +1,8 @@
--- `text::hex_value` meets its contract. Assumes nothing.
+-- `text::hex_value` meets its contract.
 use borrow.Author.Needs.{needs}
 use mathlib.Core.Path.{_≡_}
 use Rattle.text.specs.Hex.{hexValue}
-use Rattle.text.proofs.Hexes.{hex-small}
-use Rattle.text.proofs.hex_value.Statement.{statement}
+use Rattle.text.proofs.{Hexes.hex-small, hex_value.Statement.statement}
 use Rattle.text.proofs.hex_value.Tie as tie
 
 pub hex-value-spec : {M : Type 1} → statement M

@@ -1,13 +1,11 @@
 -- `text::index_from` meets its contract. Invariant: b is nowhere from at up to i. Measure: what is left of s.
--- Assumes nothing.
 use mathlib.Core.Path.{_≡_, refl, sym, _∙_}
 use Prim.Native.Nat.{_-_, _≤_, max}
 use native.Mathlib.Omega.{arith}
 use borrow.Author.Needs.{needs}
 use lib.ListN.{length}
 use Rattle.text.specs.Words.{indexFrom}
-use Rattle.text.proofs.Lines.{index-hit, index-miss, index-end}
-use Rattle.text.proofs.index_from.Statement.{statement}
+use Rattle.text.proofs.{Lines.index-hit, Lines.index-miss, Lines.index-end, index_from.Statement.statement}
 use Rattle.text.proofs.index_from.Tie as tie
 
 abbrev Inv-loop : tie.InvT-loop

@@ -1,8 +1,7 @@
--- `text::is_hex_word` meets its contract. Assumes nothing.
+-- `text::is_hex_word` meets its contract.
 use borrow.Author.Needs.{needs}
 use mathlib.Core.Path.{_∙_}
-use Rattle.text.proofs.Hexes.{word-none, word-one, word-more}
-use Rattle.text.proofs.is_hex_word.Statement.{statement}
+use Rattle.text.proofs.{Hexes.word-none, Hexes.word-one, Hexes.word-more, is_hex_word.Statement.statement}
 use Rattle.text.proofs.is_hex_word.Tie as tie
 
 pub is-hex-word-spec : {M : Type 1} → statement M

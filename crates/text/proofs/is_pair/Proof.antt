@@ -1,4 +1,4 @@
--- `text::is_pair` meets its contract. Assumes nothing.
+-- `text::is_pair` meets its contract.
 use borrow.Author.Needs.{needs}
 use Rattle.text.proofs.is_pair.Statement.{statement}
 use Rattle.text.proofs.is_pair.Tie as tie

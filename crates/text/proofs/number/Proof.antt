@@ -1,16 +1,14 @@
 -- `text::number` meets its contract. Invariant: n is the value of the first i bytes, which are digits.
--- Measure: what is left of s. Assumes nothing.
+-- Measure: what is left of s.
 use mathlib.Core.Path.{_≡_, refl, sym, ap, _∙_}
 use Prim.Native.Nat.{ℕ, _+_, _-_, _*_, _≤_}
 use native.Mathlib.Omega.{arith}
-use borrow.Author.Needs.{needs}
-use borrow.Author.Tests.{not-true, not-false}
+use borrow.{Author.Needs.needs, Author.Tests.not-true, Author.Tests.not-false}
 use lib.ListN.{length, drop, drop-of-length-le}
 use Rattle.base.specs.Answer.{value}
 use Rattle.base.proofs.Bools.{in-range}
 use Rattle.text.specs.Decimal.{allDigits, valueAfter, valueOf}
-use Rattle.text.proofs.Decimals.{value-step, digits-step}
-use Rattle.text.proofs.Decimals.{bad-length, bad-digits, bad-value, good-number, value-grows}
+use Rattle.text.proofs.Decimals.{value-step, digits-step, bad-length, bad-digits, bad-value, good-number, value-grows}
 use Rattle.text.proofs.number.Statement.{statement}
 use Rattle.text.proofs.number.Tie as tie
 

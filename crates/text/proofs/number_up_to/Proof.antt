@@ -1,12 +1,9 @@
--- `text::number_up_to` meets its contract. Assumes nothing.
-use mathlib.Core.Path.{refl, sym, ap, _∙_}
-use mathlib.Core.List.{[]}
+-- `text::number_up_to` meets its contract.
+use mathlib.Core.{Path.refl, Path.sym, Path.ap, Path._∙_, List.[]}
 use borrow.Author.Needs.{needs}
 use lib.ListN.{drop-of-length-le}
 use Rattle.text.specs.Decimal.{numberOf}
-use Rattle.text.proofs.Decimals.{bad-length}
-use Rattle.text.proofs.Lines.{between}
-use Rattle.text.proofs.number_up_to.Statement.{statement}
+use Rattle.text.proofs.{Decimals.bad-length, Lines.between, number_up_to.Statement.statement}
 use Rattle.text.proofs.number_up_to.Tie as tie
 
 pub number-up-to-spec : {M : Type 1} → statement M

@@ -1,4 +1,4 @@
--- `text::put_byte` meets its contract. Assumes nothing.
+-- `text::put_byte` meets its contract.
 use borrow.Author.Needs.{needs}
 use Rattle.base.proofs.Placing.{placed-none}
 use Rattle.text.proofs.put_byte.Statement.{statement}

@@ -1,4 +1,4 @@
--- `text::put_bytes` meets its contract. Measure: the bytes left. Assumes nothing.
+-- `text::put_bytes` meets its contract. Measure: the bytes left.
 use mathlib.Core.Path.{refl}
 use Prim.Native.Nat.{_-_}
 use native.Mathlib.Omega.{arith}

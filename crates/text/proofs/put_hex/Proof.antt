@@ -1,4 +1,4 @@
--- `text::put_hex` meets its contract. Measure: the bytes left. Assumes nothing.
+-- `text::put_hex` meets its contract. Measure: the bytes left.
 use mathlib.Core.Path.{refl}
 use Prim.Native.Nat.{_-_, _≤_}
 use native.Mathlib.Omega.{arith}
@@ -6,8 +6,7 @@ use borrow.Author.Needs.{needs}
 use lib.ListN.{length, take}
 use Rattle.base.proofs.Parts.{Parts, parts-none, parts-next, parts-length, parts-of}
 use Rattle.text.specs.Hex.{hexDigits}
-use Rattle.text.proofs.Hexes.{hex-step, hex-some, hex-none}
-use Rattle.text.proofs.put_hex.Statement.{statement}
+use Rattle.text.proofs.{Hexes.hex-step, Hexes.hex-some, Hexes.hex-none, put_hex.Statement.statement}
 use Rattle.text.proofs.put_hex.Tie as tie
 
 pub put-hex-spec : {M : Type 1} → statement M

@@ -1,9 +1,8 @@
--- `text::put_hex_byte` meets its contract. Assumes nothing.
+-- `text::put_hex_byte` meets its contract.
 use native.Mathlib.Omega.{arith}
 use borrow.Author.Needs.{needs}
 use Rattle.base.proofs.Placing.{placed-append}
-use Rattle.text.proofs.Hexes.{hex-pair}
-use Rattle.text.proofs.put_hex_byte.Statement.{statement}
+use Rattle.text.proofs.{Hexes.hex-pair, put_hex_byte.Statement.statement}
 use Rattle.text.proofs.put_hex_byte.Tie as tie
 
 returns : tie.Need-returns

@@ -1,7 +1,6 @@
 -- `text::put_pairs` meets its contract. Invariant: once the rest of s is placed, all of it is.
--- Measure: what is left of s. Assumes nothing.
-use mathlib.Core.Path.{_≡_, refl, ap, _∙_}
-use mathlib.Core.List.{List}
+-- Measure: what is left of s.
+use mathlib.Core.{Path._≡_, Path.refl, Path.ap, Path._∙_, List.List}
 use Prim.Native.Nat.{ℕ, _+_, _-_, _*_, _≤_}
 use native.Mathlib.Omega.{arith}
 use borrow.Author.Needs.{needs}
@@ -9,8 +8,7 @@ use lib.ListN.{length, drop, getD, length-drop}
 use Rattle.base.specs.Placed.{Placed}
 use Rattle.base.proofs.Placing.{placed-append}
 use Rattle.text.specs.Hex.{hexValue, pairValues}
-use Rattle.text.proofs.Hexes.{pair-step, pairs-end}
-use Rattle.text.proofs.put_pairs.Statement.{statement}
+use Rattle.text.proofs.{Hexes.pair-step, Hexes.pairs-end, put_pairs.Statement.statement}
 use Rattle.text.proofs.put_pairs.Tie as tie
 
 abbrev Inv-loop : tie.InvT-loop

@@ -1,12 +1,10 @@
--- `trial::load` meets its contract. Assumes nothing.
+-- `trial::load` meets its contract.
 use native.Mathlib.Omega.{arith}
 use lib.ListN.{length-take}
 use borrow.Author.Needs.{needs}
 use Rattle.text.proofs.Outputs.{printed}
 use Rattle.trial.specs.Load.{loadOf}
-use Rattle.trial.proofs.Starts.{load-start}
-use Rattle.trial.proofs.Bounds.{load-most}
-use Rattle.trial.proofs.load.Statement.{statement}
+use Rattle.trial.proofs.{Starts.load-start, Bounds.load-most, load.Statement.statement}
 use Rattle.trial.proofs.load.Tie as tie
 
 pub load-spec : {M : Type 1} → statement M

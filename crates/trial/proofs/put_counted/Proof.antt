@@ -1,8 +1,7 @@
--- `trial::put_counted` meets its contract. Assumes nothing.
+-- `trial::put_counted` meets its contract.
 use Prim.Native.Nat.{_≤_, _<_}
 use native.Mathlib.Omega.{arith}
-use borrow.Author.Needs.{needs}
-use borrow.Author.Tests.{lt-ltb, le-ltb}
+use borrow.{Author.Needs.needs, Author.Tests.lt-ltb, Author.Tests.le-ltb}
 use Rattle.trial.specs.Load.{mostCount}
 use Rattle.trial.proofs.put_counted.Statement.{statement}
 use Rattle.trial.proofs.put_counted.Tie as tie

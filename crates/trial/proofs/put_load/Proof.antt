@@ -1,14 +1,12 @@
--- `trial::put_load` meets its contract. Assumes nothing.
+-- `trial::put_load` meets its contract.
 use mathlib.Core.Path.{_≡_, _∙_}
 use Prim.Native.Nat.{_+_}
 use borrow.Author.Needs.{needs}
 use lib.ListN.{length, drop}
 use Rattle.base.specs.Answer.{numberIs}
-use Rattle.text.specs.Decimal.{numberOf}
-use Rattle.text.specs.Words.{upTo}
+use Rattle.text.specs.{Decimal.numberOf, Words.upTo}
 use Rattle.trial.specs.Load.{loadOf}
-use Rattle.trial.proofs.Trials.{space-at}
-use Rattle.trial.proofs.put_load.Statement.{statement}
+use Rattle.trial.proofs.{Trials.space-at, put_load.Statement.statement}
 use Rattle.trial.proofs.put_load.Tie as tie
 
 returns : tie.Need-returns

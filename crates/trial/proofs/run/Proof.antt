@@ -1,14 +1,14 @@
 -- `trial::run` meets its contract. Invariant: after i calls the runner and the last draw are those of the definitions.
--- Measure: how many calls are left. Assumes nothing.
+-- Measure: how many calls are left.
 use mathlib.Core.Path.{_≡_, refl, ap, _∙_}
 use Prim.Native.Nat.{_-_, _≤_}
 use native.Mathlib.Omega.{arith}
 use borrow.Author.Needs.{needs}
 use Rattle.up.specs.Wait.{runnerAfter}
-use Rattle.trial.specs.Draws.{drawn}
+use Rattle.draws.specs.Draws.{drawn}
 use Rattle.trial.specs.Load.{flags}
-use Rattle.trial.proofs.Trials.{draw-next, begins, runner-next}
-use Rattle.trial.proofs.run.Statement.{statement}
+use Rattle.draws.proofs.Targets.{draw-next}
+use Rattle.trial.proofs.{Trials.begins, Trials.runner-next, run.Statement.statement}
 use Rattle.trial.proofs.run.Tie as tie
 
 abbrev Inv-loop : tie.InvT-loop

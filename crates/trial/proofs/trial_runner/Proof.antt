@@ -1,6 +1,5 @@
--- `trial::trial_runner` meets its contract. Assumes nothing.
-use mathlib.Core.List.{List}
-use mathlib.Core.Path.{refl, sym, ap, _∙_}
+-- `trial::trial_runner` meets its contract.
+use mathlib.Core.{List.List, Path.refl, Path.sym, Path.ap, Path._∙_}
 use Prim.Native.Nat.{ℕ}
 use borrow.Author.Needs.{needs}
 use lib.Seq.{length-take-le}
@@ -9,8 +8,7 @@ use Rattle.config.specs.Presets.{crystalPlan}
 use Rattle.up.specs.Wait.{runnerAfter}
 use Rattle.up.proofs.Run.{sheet-size}
 use Rattle.trial.specs.Load.{flags}
-use Rattle.trial.proofs.Sheets.{written-fits, written, never-refused}
-use Rattle.trial.proofs.trial_runner.Statement.{statement}
+use Rattle.trial.proofs.{Sheets.written-fits, Sheets.written, Sheets.never-refused, trial_runner.Statement.statement}
 use Rattle.trial.proofs.trial_runner.Tie as tie
 
 returns-2 : tie.Need-returns-2

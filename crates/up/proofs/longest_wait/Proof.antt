@@ -1,9 +1,7 @@
 -- `up::longest_wait` meets its contract.
--- Assumes nothing.
 use Prim.Native.Nat.{_≤_, _<_}
 use native.Mathlib.Omega.{arith}
-use borrow.Author.Needs.{needs}
-use borrow.Author.Tests.{lt-ltb, le-ltb}
+use borrow.{Author.Needs.needs, Author.Tests.lt-ltb, Author.Tests.le-ltb}
 use Rattle.up.specs.ComesUp.{longestWait}
 use Rattle.up.proofs.longest_wait.Statement.{statement}
 use Rattle.up.proofs.longest_wait.Tie as tie

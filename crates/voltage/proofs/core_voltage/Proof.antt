@@ -1,7 +1,6 @@
--- `voltage::core_voltage` meets its contract. Assumes nothing.
+-- `voltage::core_voltage` meets its contract.
 use Rattle.voltage.specs.Voltage.{codeOf, voltages}
-use Rattle.voltage.proofs.Codes.{none-read}
-use Rattle.voltage.proofs.core_voltage.Statement.{statement}
+use Rattle.voltage.proofs.{Codes.none-read, core_voltage.Statement.statement}
 use Rattle.voltage.proofs.core_voltage.Tie as tie
 
 pub core-voltage-spec : {M : Type 1} → statement M

@@ -1,7 +1,6 @@
--- `voltage::core_voltage_235` meets its contract. Assumes nothing.
+-- `voltage::core_voltage_235` meets its contract.
 use Rattle.voltage.specs.Voltage235.{code235Of, voltages235}
-use Rattle.voltage.proofs.Codes.{none-read}
-use Rattle.voltage.proofs.core_voltage_235.Statement.{statement}
+use Rattle.voltage.proofs.{Codes.none-read, core_voltage_235.Statement.statement}
 use Rattle.voltage.proofs.core_voltage_235.Tie as tie
 
 pub core-voltage-235-spec : {M : Type 1} → statement M

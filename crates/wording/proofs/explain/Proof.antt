@@ -1,7 +1,6 @@
--- `wording::explain` meets its contract. Assumes nothing.
-use Rattle.wording.proofs.Starts.{explain-printed}
+-- `wording::explain` meets its contract.
+use Rattle.wording.proofs.{Starts.explain-printed, explain.Statement.statement}
 use borrow.Author.Needs.{needs}
-use Rattle.wording.proofs.explain.Statement.{statement}
 use Rattle.wording.proofs.explain.Tie as tie
 
 pub explain-spec : {M : Type 1} → statement M

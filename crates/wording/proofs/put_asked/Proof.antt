@@ -1,4 +1,4 @@
--- `wording::put_asked` meets its contract. Assumes nothing.
+-- `wording::put_asked` meets its contract.
 use borrow.Author.Needs.{needs}
 use Rattle.wording.proofs.put_asked.Statement.{statement}
 use Rattle.wording.proofs.put_asked.Tie as tie

@@ -1,4 +1,4 @@
--- `wording::put_clocks` meets its contract. Assumes nothing.
+-- `wording::put_clocks` meets its contract.
 use native.Mathlib.Omega.{arith}
 use Rattle.plan_text.proofs.Puts.{put-append, put-most}
 use Rattle.wording.specs.Words.{clockLines}

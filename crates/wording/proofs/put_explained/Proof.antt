@@ -1,4 +1,4 @@
--- `wording::put_explained` meets its contract. Assumes nothing.
+-- `wording::put_explained` meets its contract.
 use Rattle.wording.specs.Explain.{explainOf}
 use borrow.Author.Needs.{needs}
 use Rattle.wording.proofs.put_explained.Statement.{statement}

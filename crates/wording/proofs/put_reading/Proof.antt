@@ -1,6 +1,5 @@
--- `wording::put_reading` meets its contract. Assumes nothing.
-use borrow.Author.Tests.{lt-ltb, le-ltb}
-use borrow.Author.Needs.{needs}
+-- `wording::put_reading` meets its contract.
+use borrow.{Author.Tests.lt-ltb, Author.Tests.le-ltb, Author.Needs.needs}
 use Rattle.wording.proofs.put_reading.Statement.{statement}
 use Rattle.wording.proofs.put_reading.Tie as tie
 

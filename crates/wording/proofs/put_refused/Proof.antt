@@ -1,4 +1,4 @@
--- `wording::put_refused` meets its contract. Assumes nothing.
+-- `wording::put_refused` meets its contract.
 use native.Mathlib.Omega.{arith}
 use Rattle.replies.proofs.Refused.{refused-most}
 use borrow.Author.Needs.{needs}

@@ -1,4 +1,4 @@
--- `wording::put_sources` meets its contract. Assumes nothing.
+-- `wording::put_sources` meets its contract.
 use native.Mathlib.Omega.{arith}
 use Rattle.plan_text.proofs.Puts.{put-append, put-most}
 use Rattle.wording.specs.Words.{sourceLines}

@@ -1,14 +1,11 @@
--- `wording::put_words` meets its contract. Assumes nothing.
-use mathlib.Core.Path.{_≡_}
-use mathlib.Core.List.{_++_}
+-- `wording::put_words` meets its contract.
+use mathlib.Core.{Path._≡_, List._++_}
 use Prim.Native.Nat.{ℕ}
 use native.Mathlib.Omega.{arith}
 use Rattle.plan_text.proofs.Puts.{put-append, put-most}
 use Rattle.config.specs.declared.ClockConfig.{ClockConfig}
-use Rattle.settings.specs.declared.Settings.{Settings}
-use Rattle.settings.specs.declared.Frequencies.{Frequencies}
-use Rattle.settings.specs.Settings.{settingsOf}
-use Rattle.settings.specs.Frequencies.{frequenciesOf}
+use Rattle.settings.specs.declared.{Settings.Settings, Frequencies.Frequencies}
+use Rattle.settings.specs.{Settings.settingsOf, Frequencies.frequenciesOf}
 use Rattle.wording.specs.Words.{sourceLines, coreLines, clockLines, planLine, wordsOf}
 use borrow.Author.Needs.{needs}
 use Rattle.wording.proofs.put_words.Statement.{statement}

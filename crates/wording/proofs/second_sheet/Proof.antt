@@ -1,7 +1,6 @@
--- `wording::second_sheet` meets its contract. Assumes nothing.
-use Rattle.wording.proofs.Starts.{first-only, second-line}
+-- `wording::second_sheet` meets its contract.
+use Rattle.wording.proofs.{Starts.first-only, Starts.second-line, second_sheet.Statement.statement}
 use borrow.Author.Needs.{needs}
-use Rattle.wording.proofs.second_sheet.Statement.{statement}
 use Rattle.wording.proofs.second_sheet.Tie as tie
 
 pub second-sheet-spec : {M : Type 1} → statement M

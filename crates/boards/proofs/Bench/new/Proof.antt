@@ -1,4 +1,4 @@
--- `boards::Bench::new` meets its contract. Assumes nothing.
+-- `boards::Bench::new` meets its contract.
 use borrow.Author.Needs.{needs}
 use Rattle.boards.proofs.Bench.new.Statement.{statement}
 use Rattle.boards.proofs.Bench.new.Tie as tie

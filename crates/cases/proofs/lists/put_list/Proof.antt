@@ -1,4 +1,4 @@
--- `cases::lists::put_list` meets its contract. Assumes nothing.
+-- `cases::lists::put_list` meets its contract.
 use Rattle.sheet_cases.proofs.Buffers.{length-same}
 use native.Mathlib.Omega.{arith}
 use mathlib.Core.Path.{sym}

@@ -1,8 +1,7 @@
--- `cases::lists::put_list_in` meets its contract. Assumes nothing.
+-- `cases::lists::put_list_in` meets its contract.
 use borrow.Author.Needs.{needs}
 use denote.Ref.{now}
-use Rattle.cases.proofs.Listed.{listed-text}
-use Rattle.cases.proofs.lists.put_list_in.Statement.{statement}
+use Rattle.cases.proofs.{Listed.listed-text, lists.put_list_in.Statement.statement}
 use Rattle.cases.proofs.lists.put_list_in.Tie as tie
 
 pub put-list-in-spec : {M : Type 1} → statement M

@@ -1,4 +1,4 @@
--- `cases::lists::put_listed` meets its contract. Assumes nothing.
+-- `cases::lists::put_listed` meets its contract.
 use borrow.Author.Needs.{needs}
 use Rattle.cases.proofs.lists.put_listed.Statement.{statement}
 use Rattle.cases.proofs.lists.put_listed.Tie as tie

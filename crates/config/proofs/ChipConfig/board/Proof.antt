@@ -1,4 +1,4 @@
--- `config::ChipConfig::board` meets its contract. Assumes nothing.
+-- `config::ChipConfig::board` meets its contract.
 use native.Mathlib.Omega.{arith}
 use borrow.Author.Needs.{needs}
 use Rattle.config.proofs.ChipConfig.board.Statement.{statement}

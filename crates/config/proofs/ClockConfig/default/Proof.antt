@@ -1,4 +1,4 @@
--- `config::ClockConfig::default` meets its contract. Assumes nothing.
+-- `config::ClockConfig::default` meets its contract.
 use borrow.Author.Needs.{needs}
 use Rattle.config.proofs.ClockConfig.default.Statement.{statement}
 use Rattle.config.proofs.ClockConfig.default.Tie as tie

@@ -1,4 +1,4 @@
--- `config::ClockConfig::system_freq_from` meets its contract. Assumes nothing.
+-- `config::ClockConfig::system_freq_from` meets its contract.
 use borrow.Author.Needs.{needs}
 use Rattle.config.specs.Presets.{systemPlanFrom}
 use Rattle.config.proofs.ClockConfig.system_freq_from.Statement.{statement}

@@ -1,4 +1,4 @@
--- `config::preset::from_plls` meets its contract. Assumes nothing.
+-- `config::preset::from_plls` meets its contract.
 use borrow.Author.Needs.{needs}
 use Rattle.config.proofs.preset.from_plls.Statement.{statement}
 use Rattle.config.proofs.preset.from_plls.Tie as tie

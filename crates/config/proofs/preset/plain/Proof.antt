@@ -1,4 +1,4 @@
--- `config::preset::plain` meets its contract. Assumes nothing.
+-- `config::preset::plain` meets its contract.
 use borrow.Author.Needs.{needs}
 use Rattle.config.proofs.preset.plain.Statement.{statement}
 use Rattle.config.proofs.preset.plain.Tie as tie

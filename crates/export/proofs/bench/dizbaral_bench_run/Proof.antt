@@ -1,11 +1,10 @@
--- `export::bench::dizbaral_bench_run` meets its contract. Assumes nothing.
+-- `export::bench::dizbaral_bench_run` meets its contract.
 use borrow.Author.Needs.{needs}
-use mathlib.Core.List.{List}
-use mathlib.Core.Path.{ap, _∙_}
+use mathlib.Core.{List.List, Path.ap, Path._∙_}
 use Prim.Native.Nat.{ℕ, _*_}
 use lib.Seq.{sets}
-use Rattle.export.specs.Bench.{fourteen}
-use Rattle.export.proofs.Boards.{over-number, over-leaves, bad-number, bad-leaves, board-number, board-leaves}
+use Rattle.as_numbers.specs.Bench.{fourteen}
+use Rattle.as_numbers.proofs.Boards.{over-number, over-leaves, bad-number, bad-leaves, board-number, board-leaves}
 use Rattle.export.proofs.bench.dizbaral_bench_run.Statement.{statement}
 use Rattle.export.proofs.bench.dizbaral_bench_run.Tie as tie
 

@@ -1,7 +1,7 @@
--- `export::bench::dizbaral_bench_start` meets its contract. Assumes nothing.
+-- `export::bench::dizbaral_bench_start` meets its contract.
 use borrow.Author.Needs.{needs}
-use Rattle.export.proofs.Boards.{all-started, all-turned}
-use Rattle.export.proofs.bench.dizbaral_bench_start.Statement.{statement}
+use Rattle.as_numbers.proofs.Boards.{all-started, all-turned}
+use Rattle.export.proofs.bench.{dizbaral_bench_start.Statement.statement}
 use Rattle.export.proofs.bench.dizbaral_bench_start.Tie as tie
 
 pub dizbaral-bench-start-spec : {M : Type 1} → statement M

@@ -1,4 +1,4 @@
--- `export::read::dizbaral_read_sheet` meets its contract. Assumes nothing.
+-- `export::read::dizbaral_read_sheet` meets its contract.
 use borrow.Author.Needs.{needs}
 use Rattle.export.proofs.read.dizbaral_read_sheet.Statement.{statement}
 use Rattle.export.proofs.read.dizbaral_read_sheet.Tie as tie

@@ -1,8 +1,7 @@
 -- `export::run::answer` meets its contract.
--- Assumes nothing.
 use borrow.Author.Needs.{needs}
 use mathlib.Core.Path.{refl}
-use Rattle.export.proofs.Runners.{freqs-kept}
+use Rattle.as_numbers.proofs.Runners.{freqs-kept}
 use Rattle.export.proofs.run.answer.Statement.{statement}
 use Rattle.export.proofs.run.answer.Tie as tie
 

@@ -1,11 +1,8 @@
 -- `export::run::put_started` meets its contract.
--- Assumes nothing.
-use mathlib.Core.List.{[]}
-use mathlib.Core.Path.{_≡_, refl, _∙_}
+use mathlib.Core.{List.[], Path._≡_, Path.refl, Path._∙_}
 use native.Mathlib.Omega.{arith}
-use lib.ListN.{length, drop, length-set, drop-of-length-le}
-use lib.Seq.{sets-eq}
-use Rattle.export.specs.Run.{startedNumbers}
+use lib.{ListN.length, ListN.drop, ListN.length-set, ListN.drop-of-length-le, Seq.sets-eq}
+use Rattle.as_numbers.specs.Run.{startedNumbers}
 use Rattle.export.proofs.run.put_started.Statement.{statement}
 use Rattle.export.proofs.run.put_started.Tie as tie
 

@@ -1,7 +1,6 @@
 -- `export::run::put_state` meets its contract.
--- Assumes nothing.
 use borrow.Author.Needs.{needs}
-use Rattle.export.specs.Run.{withState}
+use Rattle.as_numbers.specs.Run.{withState}
 use Rattle.export.proofs.run.put_state.Statement.{statement}
 use Rattle.export.proofs.run.put_state.Tie as tie
 

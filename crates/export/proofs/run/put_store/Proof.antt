@@ -1,11 +1,10 @@
 -- `export::run::put_store` meets its contract.
--- Assumes nothing.
 use borrow.Author.Tests.{eq-eqb, ne-eqb}
 use Prim.Native.Nat.{_<_}
 use native.Mathlib.Omega.{arith}
 use Rattle.runner.specs.Run.{storedBy}
 use Rattle.runner.proofs.Steps.{store-fits}
-use Rattle.export.proofs.Runners.{set-behind, freqs-kept}
+use Rattle.as_numbers.proofs.Runners.{set-behind, freqs-kept}
 use Rattle.export.proofs.run.put_store.Statement.{statement}
 use Rattle.export.proofs.run.put_store.Tie as tie
 

@@ -1,5 +1,4 @@
 -- `export::run::state` meets its contract.
--- Assumes nothing.
 use borrow.Author.Needs.{needs}
 use Rattle.export.proofs.run.state.Statement.{statement}
 use Rattle.export.proofs.run.state.Tie as tie

@@ -1,4 +1,4 @@
--- `plan_numbers::part::chip` meets its contract. Assumes nothing.
+-- `plan_numbers::part::chip` meets its contract.
 use Rattle.plan_numbers.specs.Plan.{chipAt}
 use borrow.Author.Needs.{needs}
 use Rattle.plan_numbers.proofs.part.chip.Statement.{statement}

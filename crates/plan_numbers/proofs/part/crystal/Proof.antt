@@ -1,8 +1,7 @@
--- `plan_numbers::part::crystal` meets its contract. Assumes nothing.
+-- `plan_numbers::part::crystal` meets its contract.
 use Rattle.plan_numbers.specs.Plan.{crystalAt}
-use Rattle.plan_numbers.proofs.Flags.{there, absent}
+use Rattle.plan_numbers.proofs.{Flags.there, Flags.absent, part.crystal.Statement.statement}
 use borrow.Author.Needs.{needs}
-use Rattle.plan_numbers.proofs.part.crystal.Statement.{statement}
 use Rattle.plan_numbers.proofs.part.crystal.Tie as tie
 
 pub crystal-spec : {M : Type 1} → statement M

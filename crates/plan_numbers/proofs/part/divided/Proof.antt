@@ -1,8 +1,7 @@
--- `plan_numbers::part::divided` meets its contract. Assumes nothing.
+-- `plan_numbers::part::divided` meets its contract.
 use Rattle.plan_numbers.specs.Plan.{dividedAt}
-use Rattle.plan_numbers.proofs.Flags.{there, absent}
+use Rattle.plan_numbers.proofs.{Flags.there, Flags.absent, part.divided.Statement.statement}
 use borrow.Author.Needs.{needs}
-use Rattle.plan_numbers.proofs.part.divided.Statement.{statement}
 use Rattle.plan_numbers.proofs.part.divided.Tie as tie
 
 pub divided-spec : {M : Type 1} → statement M

@@ -1,8 +1,7 @@
--- `plan_numbers::part::peripheral` meets its contract. Assumes nothing.
+-- `plan_numbers::part::peripheral` meets its contract.
 use Rattle.plan_numbers.specs.Plan.{peripheralAt}
-use Rattle.plan_numbers.proofs.Flags.{there, absent}
+use Rattle.plan_numbers.proofs.{Flags.there, Flags.absent, part.peripheral.Statement.statement}
 use borrow.Author.Needs.{needs}
-use Rattle.plan_numbers.proofs.part.peripheral.Statement.{statement}
 use Rattle.plan_numbers.proofs.part.peripheral.Tie as tie
 
 pub peripheral-spec : {M : Type 1} → statement M

@@ -1,8 +1,7 @@
--- `plan_numbers::part::pll` meets its contract. Assumes nothing.
+-- `plan_numbers::part::pll` meets its contract.
 use Rattle.plan_numbers.specs.Plan.{optionPllAt}
-use Rattle.plan_numbers.proofs.Flags.{there, absent}
+use Rattle.plan_numbers.proofs.{Flags.there, Flags.absent, part.pll.Statement.statement}
 use borrow.Author.Needs.{needs}
-use Rattle.plan_numbers.proofs.part.pll.Statement.{statement}
 use Rattle.plan_numbers.proofs.part.pll.Tie as tie
 
 pub pll-spec : {M : Type 1} → statement M

@@ -1,4 +1,4 @@
--- `plan_numbers::part::reference` meets its contract. Assumes nothing.
+-- `plan_numbers::part::reference` meets its contract.
 use Rattle.plan_numbers.specs.Plan.{referenceAt}
 use borrow.Author.Needs.{needs}
 use Rattle.plan_numbers.proofs.part.reference.Statement.{statement}

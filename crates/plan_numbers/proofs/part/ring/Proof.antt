@@ -1,8 +1,7 @@
--- `plan_numbers::part::ring` meets its contract. Assumes nothing.
+-- `plan_numbers::part::ring` meets its contract.
 use Rattle.plan_numbers.specs.Plan.{ringAt}
-use Rattle.plan_numbers.proofs.Flags.{there, absent}
+use Rattle.plan_numbers.proofs.{Flags.there, Flags.absent, part.ring.Statement.statement}
 use borrow.Author.Needs.{needs}
-use Rattle.plan_numbers.proofs.part.ring.Statement.{statement}
 use Rattle.plan_numbers.proofs.part.ring.Tie as tie
 
 pub ring-spec : {M : Type 1} → statement M

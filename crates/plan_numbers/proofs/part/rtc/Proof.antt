@@ -1,8 +1,7 @@
--- `plan_numbers::part::rtc` meets its contract. Assumes nothing.
+-- `plan_numbers::part::rtc` meets its contract.
 use Rattle.plan_numbers.specs.Plan.{rtcAt}
-use Rattle.plan_numbers.proofs.Flags.{there, absent}
+use Rattle.plan_numbers.proofs.{Flags.there, Flags.absent, part.rtc.Statement.statement}
 use borrow.Author.Needs.{needs}
-use Rattle.plan_numbers.proofs.part.rtc.Statement.{statement}
 use Rattle.plan_numbers.proofs.part.rtc.Tie as tie
 
 pub rtc-spec : {M : Type 1} → statement M

@@ -1,8 +1,7 @@
--- `plan_numbers::part::settling` meets its contract. Assumes nothing.
+-- `plan_numbers::part::settling` meets its contract.
 use Rattle.plan_numbers.specs.Plan.{settlingAt}
-use Rattle.plan_numbers.proofs.Flags.{there, absent}
+use Rattle.plan_numbers.proofs.{Flags.there, Flags.absent, part.settling.Statement.statement}
 use borrow.Author.Needs.{needs}
-use Rattle.plan_numbers.proofs.part.settling.Statement.{statement}
 use Rattle.plan_numbers.proofs.part.settling.Tie as tie
 
 pub settling-spec : {M : Type 1} → statement M

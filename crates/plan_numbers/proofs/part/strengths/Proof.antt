@@ -1,4 +1,4 @@
--- `plan_numbers::part::strengths` meets its contract. Assumes nothing.
+-- `plan_numbers::part::strengths` meets its contract.
 use Rattle.plan_numbers.specs.Plan.{strengthsAt}
 use borrow.Author.Needs.{needs}
 use Rattle.plan_numbers.proofs.part.strengths.Statement.{statement}

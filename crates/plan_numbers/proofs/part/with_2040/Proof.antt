@@ -1,4 +1,4 @@
--- `plan_numbers::part::with_2040` meets its contract. Assumes nothing.
+-- `plan_numbers::part::with_2040` meets its contract.
 use borrow.Author.Needs.{needs}
 use Rattle.plan_numbers.proofs.part.with_2040.Statement.{statement}
 use Rattle.plan_numbers.proofs.part.with_2040.Tie as tie

@@ -1,4 +1,4 @@
--- `plan_numbers::part::with_235x` meets its contract. Assumes nothing.
+-- `plan_numbers::part::with_235x` meets its contract.
 use borrow.Author.Needs.{needs}
 use Rattle.plan_numbers.proofs.part.with_235x.Statement.{statement}
 use Rattle.plan_numbers.proofs.part.with_235x.Tie as tie

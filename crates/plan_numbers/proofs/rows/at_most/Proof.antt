@@ -1,4 +1,4 @@
--- `plan_numbers::rows::at_most` meets its contract. Assumes nothing.
+-- `plan_numbers::rows::at_most` meets its contract.
 use borrow.Author.Needs.{needs}
 use Rattle.plan_numbers.proofs.rows.at_most.Statement.{statement}
 use Rattle.plan_numbers.proofs.rows.at_most.Tie as tie

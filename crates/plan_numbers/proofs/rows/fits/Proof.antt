@@ -1,14 +1,11 @@
 -- `plan_numbers::rows::fits` meets its contract. Invariant: the numbers before place at fit. Measure: the limits left.
--- Assumes nothing.
 use mathlib.Core.Path.{_≡_, refl, sym, _∙_}
 use Prim.Native.Nat.{_+_, _-_, _≤_}
 use native.Mathlib.Omega.{arith}
-use borrow.Author.Needs.{needs}
-use borrow.Author.Tests.{lt-leb, le-leb}
+use borrow.{Author.Needs.needs, Author.Tests.lt-leb, Author.Tests.le-leb}
 use lib.ListN.{length, drop, drop-of-length-le}
 use Rattle.plan_numbers.specs.Rows.{fitFrom}
-use Rattle.plan_numbers.proofs.Fits.{fit-step}
-use Rattle.plan_numbers.proofs.rows.fits.Statement.{statement}
+use Rattle.plan_numbers.proofs.{Fits.fit-step, rows.fits.Statement.statement}
 use Rattle.plan_numbers.proofs.rows.fits.Tie as tie
 
 abbrev Inv-loop : tie.InvT-loop

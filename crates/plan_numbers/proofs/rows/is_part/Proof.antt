@@ -1,4 +1,4 @@
--- `plan_numbers::rows::is_part` meets its contract. Assumes nothing.
+-- `plan_numbers::rows::is_part` meets its contract.
 use Rattle.plan_numbers.specs.Rows.{isPart}
 use borrow.Author.Needs.{needs}
 use Rattle.plan_numbers.proofs.rows.is_part.Statement.{statement}

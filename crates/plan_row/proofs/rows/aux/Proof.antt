@@ -1,4 +1,4 @@
--- `plan_row::rows::aux` meets its contract. Assumes nothing.
+-- `plan_row::rows::aux` meets its contract.
 use borrow.Author.Needs.{needs}
 use Rattle.plan_row.proofs.rows.aux.Statement.{statement}
 use Rattle.plan_row.proofs.rows.aux.Tie as tie

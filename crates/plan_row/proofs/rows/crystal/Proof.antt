@@ -1,4 +1,4 @@
--- `plan_row::rows::crystal` meets its contract. Assumes nothing.
+-- `plan_row::rows::crystal` meets its contract.
 use borrow.Author.Needs.{needs}
 use Rattle.plan_row.proofs.rows.crystal.Statement.{statement}
 use Rattle.plan_row.proofs.rows.crystal.Tie as tie

@@ -1,4 +1,4 @@
--- `plan_row::rows::first` meets its contract. Assumes nothing.
+-- `plan_row::rows::first` meets its contract.
 use borrow.Author.Needs.{needs}
 use Rattle.plan_row.proofs.rows.first.Statement.{statement}
 use Rattle.plan_row.proofs.rows.first.Tie as tie

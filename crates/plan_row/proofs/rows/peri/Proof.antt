@@ -1,4 +1,4 @@
--- `plan_row::rows::peri` meets its contract. Assumes nothing.
+-- `plan_row::rows::peri` meets its contract.
 use borrow.Author.Needs.{needs}
 use Rattle.plan_row.proofs.rows.peri.Statement.{statement}
 use Rattle.plan_row.proofs.rows.peri.Tie as tie

@@ -1,4 +1,4 @@
--- `plan_row::rows::pll` meets its contract. Assumes nothing.
+-- `plan_row::rows::pll` meets its contract.
 use borrow.Author.Needs.{needs}
 use Rattle.plan_row.proofs.rows.pll.Statement.{statement}
 use Rattle.plan_row.proofs.rows.pll.Tie as tie

@@ -1,4 +1,4 @@
--- `plan_row::rows::ring` meets its contract. Assumes nothing.
+-- `plan_row::rows::ring` meets its contract.
 use borrow.Author.Needs.{needs}
 use Rattle.plan_row.proofs.rows.ring.Statement.{statement}
 use Rattle.plan_row.proofs.rows.ring.Tie as tie

@@ -1,4 +1,4 @@
--- `plan_row::rows::rtc` meets its contract. Assumes nothing.
+-- `plan_row::rows::rtc` meets its contract.
 use borrow.Author.Needs.{needs}
 use Rattle.plan_row.proofs.rows.rtc.Statement.{statement}
 use Rattle.plan_row.proofs.rows.rtc.Tie as tie

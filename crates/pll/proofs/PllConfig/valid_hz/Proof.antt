@@ -1,14 +1,10 @@
 -- `pll::PllConfig::valid_hz` meets its contract.
--- Assumes nothing.
-use mathlib.Core.Path.{_≡_, sym, _∙_}
-use mathlib.Core.Bool.{_&&_}
-use native.Mathlib.Nat.{mul-le-mul, mul-pos}
-use native.Mathlib.Omega.{arith}
+use mathlib.Core.{Path._≡_, Path.sym, Path._∙_, Bool._&&_}
+use native.Mathlib.{Nat.mul-le-mul, Nat.mul-pos, Omega.arith}
 use borrow.Author.Needs.{needs}
 use Rattle.base.proofs.Products.{product-fits}
 use Rattle.pll.specs.Setting.{validOf}
-use Rattle.pll.proofs.Valid.{Valid, valid}
-use Rattle.pll.proofs.PllConfig.valid_hz.Statement.{statement}
+use Rattle.pll.proofs.{Valid.Valid, Valid.valid, PllConfig.valid_hz.Statement.statement}
 use Rattle.pll.proofs.PllConfig.valid_hz.Tie as tie
 
 -- what is tested is that the setting is valid

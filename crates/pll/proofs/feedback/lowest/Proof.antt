@@ -1,9 +1,7 @@
 -- `pll::feedback::lowest` meets its contract.
--- Assumes nothing.
 use mathlib.Core.Path.{sym}
 use Prim.Native.Nat.{_-_}
-use native.Mathlib.Omega.{arith}
-use native.Mathlib.Nat.{div-le-self}
+use native.Mathlib.{Omega.arith, Nat.div-le-self}
 use borrow.Author.Needs.{needs}
 use Rattle.pll.specs.Ranges.{vcoMin}
 use Rattle.pll.proofs.Ends.{test-served, test-unserved, lowest-none, lowest-at-least, lowest-above}

@@ -1,4 +1,4 @@
--- `readback::clocks::read_config` meets its contract. Assumes nothing.
+-- `readback::clocks::read_config` meets its contract.
 use borrow.Author.Needs.{needs}
 use Rattle.readback.proofs.clocks.read_config.Statement.{statement}
 use Rattle.readback.proofs.clocks.read_config.Tie as tie

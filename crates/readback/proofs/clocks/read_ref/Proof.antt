@@ -1,4 +1,4 @@
--- `readback::clocks::read_ref` meets its contract. Assumes nothing.
+-- `readback::clocks::read_ref` meets its contract.
 use native.Mathlib.Omega.{arith}
 use lib.Seq.{drop-drop}
 use borrow.Author.Needs.{needs}

@@ -1,6 +1,5 @@
--- `readback::clocks::read_rtc` meets its contract. Assumes nothing.
-use borrow.Author.Tests.{eq-eqb, ne-eqb}
-use borrow.Author.Needs.{needs}
+-- `readback::clocks::read_rtc` meets its contract.
+use borrow.{Author.Tests.eq-eqb, Author.Tests.ne-eqb, Author.Needs.needs}
 use Rattle.readback.proofs.clocks.read_rtc.Statement.{statement}
 use Rattle.readback.proofs.clocks.read_rtc.Tie as tie
 

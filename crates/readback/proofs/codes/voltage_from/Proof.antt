@@ -1,9 +1,8 @@
--- `readback::codes::voltage_from` meets its contract. Assumes nothing.
+-- `readback::codes::voltage_from` meets its contract.
 use Rattle.voltage.specs.Voltage.{codeOf, voltages}
 use Rattle.voltage.proofs.Codes.{code-small}
-use Rattle.readback.proofs.Voltages.{least-code}
+use Rattle.readback.proofs.{Voltages.least-code, codes.voltage_from.Statement.statement}
 use borrow.Author.Needs.{needs}
-use Rattle.readback.proofs.codes.voltage_from.Statement.{statement}
 use Rattle.readback.proofs.codes.voltage_from.Tie as tie
 
 pub voltage-from-spec : {M : Type 1} → statement M

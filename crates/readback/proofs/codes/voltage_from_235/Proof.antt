@@ -1,9 +1,8 @@
--- `readback::codes::voltage_from_235` meets its contract. Assumes nothing.
+-- `readback::codes::voltage_from_235` meets its contract.
 use Rattle.voltage.specs.Voltage235.{code235Of, voltages235}
 use Rattle.voltage.proofs.Codes.{code-small-235}
-use Rattle.readback.proofs.Voltages.{least-code}
+use Rattle.readback.proofs.{Voltages.least-code, codes.voltage_from_235.Statement.statement}
 use borrow.Author.Needs.{needs}
-use Rattle.readback.proofs.codes.voltage_from_235.Statement.{statement}
 use Rattle.readback.proofs.codes.voltage_from_235.Tie as tie
 
 pub voltage-from-235-spec : {M : Type 1} → statement M

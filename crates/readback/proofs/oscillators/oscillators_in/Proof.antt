@@ -1,26 +1,23 @@
--- `readback::oscillators::oscillators_in` meets its contract. Assumes nothing.
-use mathlib.Core.Path.{_≡_, refl}
-use mathlib.Core.List.{List}
+-- `readback::oscillators::oscillators_in` meets its contract.
+use mathlib.Core.{Path._≡_, Path.refl, List.List}
 use Prim.Native.Nat.{_+_}
 use denote.Ref.{now}
-use lib.ListN.{drop}
+use lib.{ListN.drop, Seq.drop-drop}
 use native.Mathlib.Omega.{arith}
-use lib.Seq.{drop-drop}
 use Rattle.step.specs.declared.Step.{Step}
 use Rattle.readback.specs.Steps.{stepsIn, restIn}
-use Rattle.readback.specs.Parse.{chipPart, ringPart, voltagePart, crystalPart}
-use Rattle.readback.proofs.Parts.{goes-on}
+use Rattle.readback.specs.Parse.{chipTaken, ringTaken, voltageTaken, crystalTaken}
+use Rattle.readback.proofs.{Parts.goes-on, oscillators.oscillators_in.Statement.statement}
 use borrow.Author.Needs.{needs}
-use Rattle.readback.proofs.oscillators.oscillators_in.Statement.{statement}
 use Rattle.readback.proofs.oscillators.oscillators_in.Tie as tie
 
 returns : tie.Need-returns
-unfolding chipPart ringPart voltagePart crystalPart
+unfolding chipTaken ringTaken voltageTaken crystalTaken
 returns c =
     let at-voltage = c .before in let at-ring = at-voltage .before in let at-facts = at-ring .before .before in
     let at-chip = at-facts .before in let xs : List Step = stepsIn (now (at-chip .before .before .args .sheet)) in
     let mark = at-chip .read-chip in let facts = at-facts .facts .ensures in let chip = goes-on (mark .ensures) refl in
-    let head : drop 9 (restIn (chipPart xs)) ≡ drop (mark .result .at + 9) xs = rw (chip .rest, drop-drop) in
+    let head : drop 9 (restIn (chipTaken xs)) ≡ drop (mark .result .at + 9) xs = rw (chip .rest, drop-drop) in
     let ring = goes-on (rw (facts, chip .value) at (at-ring .read-ring .ensures)) head in
     let voltage = goes-on (rw (facts, chip .value) at (at-voltage .read-voltage .ensures)) (ring .rest) in
     let crystal = goes-on (c .read-crystal .ensures) (voltage .rest) in

@@ -1,4 +1,4 @@
--- `readback::oscillators::pll_of` meets its contract. Assumes nothing.
+-- `readback::oscillators::pll_of` meets its contract.
 use borrow.Author.Needs.{needs}
 use Rattle.readback.proofs.oscillators.pll_of.Statement.{statement}
 use Rattle.readback.proofs.oscillators.pll_of.Tie as tie

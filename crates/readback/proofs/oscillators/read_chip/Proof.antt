@@ -1,7 +1,6 @@
--- `readback::oscillators::read_chip` meets its contract. Assumes nothing.
+-- `readback::oscillators::read_chip` meets its contract.
 use native.Mathlib.Omega.{arith}
-use borrow.Author.Tests.{eq-eqb, ne-eqb}
-use borrow.Author.Needs.{needs}
+use borrow.{Author.Tests.eq-eqb, Author.Tests.ne-eqb, Author.Needs.needs}
 use Rattle.readback.proofs.oscillators.read_chip.Statement.{statement}
 use Rattle.readback.proofs.oscillators.read_chip.Tie as tie
 

@@ -1,15 +1,12 @@
--- `readback::oscillators::read_crystal` meets its contract. Assumes nothing.
+-- `readback::oscillators::read_crystal` meets its contract.
 use mathlib.Core.Path.{refl, sym, ap, _∙_}
-use lib.ListN.{drop}
+use lib.{ListN.drop, Seq.drop-drop}
 use native.Mathlib.Omega.{arith}
-use lib.Seq.{drop-drop}
-use borrow.Author.Tests.{ne-eqb}
+use borrow.{Author.Tests.ne-eqb, Author.Needs.needs}
 use Rattle.step.specs.declared.Step.{Step}
 use denote.Ref.{now}
 use Rattle.readback.specs.Steps.{stepsIn}
-use Rattle.readback.proofs.Parts.{crystal-there, goes-on}
-use borrow.Author.Needs.{needs}
-use Rattle.readback.proofs.oscillators.read_crystal.Statement.{statement}
+use Rattle.readback.proofs.{Parts.crystal-there, Parts.goes-on, oscillators.read_crystal.Statement.statement}
 use Rattle.readback.proofs.oscillators.read_crystal.Tie as tie
 
 pub read-crystal-spec : {M : Type 1} → statement M

@@ -1,4 +1,4 @@
--- `readback::oscillators::read_pll` meets its contract. Assumes nothing.
+-- `readback::oscillators::read_pll` meets its contract.
 use native.Mathlib.Omega.{arith}
 use lib.Seq.{drop-drop}
 use borrow.Author.Needs.{needs}

@@ -1,4 +1,4 @@
--- `readback::oscillators::ring_of` meets its contract. Assumes nothing.
+-- `readback::oscillators::ring_of` meets its contract.
 use borrow.Author.Needs.{needs}
 use Rattle.readback.proofs.oscillators.ring_of.Statement.{statement}
 use Rattle.readback.proofs.oscillators.ring_of.Tie as tie

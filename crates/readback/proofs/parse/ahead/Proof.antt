@@ -1,7 +1,6 @@
--- `readback::parse::ahead` meets its contract. Assumes nothing.
-use Rattle.readback.proofs.Parts.{from-at}
+-- `readback::parse::ahead` meets its contract.
+use Rattle.readback.proofs.{Parts.from-at, parse.ahead.Statement.statement}
 use borrow.Author.Needs.{needs}
-use Rattle.readback.proofs.parse.ahead.Statement.{statement}
 use Rattle.readback.proofs.parse.ahead.Tie as tie
 
 pub ahead-spec : {M : Type 1} → statement M

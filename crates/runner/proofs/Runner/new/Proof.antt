@@ -1,4 +1,4 @@
--- `runner::Runner::new` meets its contract. Assumes nothing.
+-- `runner::Runner::new` meets its contract.
 use borrow.Author.Needs.{needs}
 use Rattle.runner.proofs.Runner.new.Statement.{statement}
 use Rattle.runner.proofs.Runner.new.Tie as tie

@@ -1,10 +1,7 @@
 -- `runner::stepping::freqs_after` meets its contract.
--- Assumes nothing.
-use borrow.Author.Needs.{needs}
-use borrow.Author.Tests.{eq-eqb, ne-eqb}
+use borrow.{Author.Needs.needs, Author.Tests.eq-eqb, Author.Tests.ne-eqb}
 use denote.Enum.Declared.{tagOf}
-use mathlib.Core.List.{List, [], _∷_}
-use mathlib.Core.Path.{_≡_, refl}
+use mathlib.Core.{List.List, List.[], List._∷_, Path._≡_, Path.refl}
 use native.Mathlib.Omega.{arith}
 use Prim.Native.Nat.{ℕ}
 use types.Run.{OneOf, miss}
@@ -12,8 +9,7 @@ use Rattle.runner.specs.declared.Reply.{Reply}
 use Rattle.runner.specs.declared.Reply.the-variants.{Done, Handed, Passed, Waiting, Refused}
 use Rattle.runner.specs.Run.{replyIs, freqsAfter, storedBy}
 use Rattle.runner.proofs.Reply as reply
-use Rattle.runner.proofs.Steps.{store-fits}
-use Rattle.runner.proofs.stepping.freqs_after.Statement.{statement}
+use Rattle.runner.proofs.{Steps.store-fits, stepping.freqs_after.Statement.statement}
 use Rattle.runner.proofs.stepping.freqs_after.Tie as tie
 
 -- only a step that is handed out stores

@@ -1,7 +1,5 @@
 -- `runner::stepping::one_more` meets its contract.
--- Assumes nothing.
-use borrow.Author.Needs.{needs}
-use borrow.Author.Tests.{lt-ltb, le-ltb}
+use borrow.{Author.Needs.needs, Author.Tests.lt-ltb, Author.Tests.le-ltb}
 use Rattle.runner.specs.Run.{oneMore}
 use Rattle.runner.proofs.stepping.one_more.Statement.{statement}
 use Rattle.runner.proofs.stepping.one_more.Tie as tie

@@ -1,12 +1,10 @@
 -- `runner::stepping::onward` meets its contract: each way out is one of the rules of a call.
--- Assumes nothing.
 use borrow.Author.Needs.{needs}
 use mathlib.Core.Path.{sym, ap, _∙_}
 use native.Mathlib.Omega.{arith}
 use Rattle.step.specs.Steps.{unpackedIs}
 use Rattle.runner.specs.Run.{takeRead}
-use Rattle.runner.proofs.Calls.{onward-done, onward-read}
-use Rattle.runner.proofs.stepping.onward.Statement.{statement}
+use Rattle.runner.proofs.{Calls.onward-done, Calls.onward-read, stepping.onward.Statement.statement}
 use Rattle.runner.proofs.stepping.onward.Tie as tie
 
 pub onward-spec : {M : Type 1} → statement M

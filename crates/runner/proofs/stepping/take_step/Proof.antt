@@ -1,5 +1,4 @@
 -- `runner::stepping::take_step` meets its contract.
--- Assumes nothing.
 use borrow.Author.Needs.{needs}
 use mathlib.Core.Path.{sym, _∙_}
 use Rattle.runner.specs.Run.{takeStep}

@@ -1,7 +1,5 @@
 -- `runner::stepping::wait_unready` meets its contract.
--- Assumes nothing.
-use borrow.Author.Needs.{needs}
-use borrow.Author.Tests.{lt-ltb, le-ltb, eq-eqb, ne-eqb}
+use borrow.{Author.Needs.needs, Author.Tests.lt-ltb, Author.Tests.le-ltb, Author.Tests.eq-eqb, Author.Tests.ne-eqb}
 use Prim.Native.Nat.{_+_}
 use native.Mathlib.Omega.{arith}
 use Rattle.runner.specs.Run.{unready}

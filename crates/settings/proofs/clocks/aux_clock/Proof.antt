@@ -1,4 +1,4 @@
--- `settings::clocks::aux_clock` meets its contract. Assumes nothing.
+-- `settings::clocks::aux_clock` meets its contract.
 use borrow.Author.Needs.{needs}
 use Rattle.settings.proofs.clocks.aux_clock.Statement.{statement}
 use Rattle.settings.proofs.clocks.aux_clock.Tie as tie

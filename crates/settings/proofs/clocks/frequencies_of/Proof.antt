@@ -1,4 +1,4 @@
--- `settings::clocks::frequencies_of` meets its contract. Assumes nothing.
+-- `settings::clocks::frequencies_of` meets its contract.
 use native.Mathlib.Omega.{arith}
 use borrow.Author.Needs.{needs}
 use Rattle.settings.proofs.clocks.frequencies_of.Statement.{statement}

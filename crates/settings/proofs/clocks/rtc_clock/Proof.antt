@@ -1,4 +1,4 @@
--- `settings::clocks::rtc_clock` meets its contract. Assumes nothing.
+-- `settings::clocks::rtc_clock` meets its contract.
 use mathlib.Core.Path.{refl}
 use native.Mathlib.Omega.{arith}
 use borrow.Author.Needs.{needs}

@@ -1,4 +1,4 @@
--- `settings::clocks::sys_source` meets its contract. Assumes nothing.
+-- `settings::clocks::sys_source` meets its contract.
 use borrow.Author.Needs.{needs}
 use Rattle.settings.proofs.clocks.sys_source.Statement.{statement}
 use Rattle.settings.proofs.clocks.sys_source.Tie as tie

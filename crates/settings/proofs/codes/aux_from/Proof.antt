@@ -1,4 +1,4 @@
--- `settings::codes::aux_from` meets its contract. Assumes nothing.
+-- `settings::codes::aux_from` meets its contract.
 use borrow.Author.Tests.{ne-eqb}
 use Rattle.settings.proofs.codes.aux_from.Statement.{statement}
 use Rattle.settings.proofs.codes.aux_from.Tie as tie

@@ -1,4 +1,4 @@
--- `settings::codes::peri_from` meets its contract. Assumes nothing.
+-- `settings::codes::peri_from` meets its contract.
 use borrow.Author.Tests.{ne-eqb}
 use Rattle.settings.proofs.codes.peri_from.Statement.{statement}
 use Rattle.settings.proofs.codes.peri_from.Tie as tie

@@ -1,4 +1,4 @@
--- `settings::codes::range_from` meets its contract. Assumes nothing.
+-- `settings::codes::range_from` meets its contract.
 use borrow.Author.Tests.{ne-eqb}
 use Rattle.settings.proofs.codes.range_from.Statement.{statement}
 use Rattle.settings.proofs.codes.range_from.Tie as tie

@@ -1,6 +1,5 @@
--- `settings::codes::ref_from` meets its contract. Assumes nothing.
-use mathlib.Core.Path.{_≡_, refl}
-use mathlib.Core.Bool.{Bool, true, false}
+-- `settings::codes::ref_from` meets its contract.
+use mathlib.Core.{Path._≡_, Path.refl, Bool.Bool, Bool.true, Bool.false}
 use lib.Dec.{eqb}
 use Rattle.base.specs.Choice.{pick}
 use Rattle.config.specs.declared.RefClkSrc.the-variants.{Xosc}

@@ -1,4 +1,4 @@
--- `settings::codes::sys_from` meets its contract. Assumes nothing.
+-- `settings::codes::sys_from` meets its contract.
 use borrow.Author.Tests.{ne-eqb}
 use Rattle.settings.proofs.codes.sys_from.Statement.{statement}
 use Rattle.settings.proofs.codes.sys_from.Tie as tie

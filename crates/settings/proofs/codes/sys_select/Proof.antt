@@ -1,6 +1,5 @@
--- `settings::codes::sys_select` meets its contract. Assumes nothing.
-use borrow.Author.Tests.{eq-eqb, ne-eqb}
-use borrow.Author.Needs.{needs}
+-- `settings::codes::sys_select` meets its contract.
+use borrow.{Author.Tests.eq-eqb, Author.Tests.ne-eqb, Author.Needs.needs}
 use Rattle.settings.proofs.codes.sys_select.Statement.{statement}
 use Rattle.settings.proofs.codes.sys_select.Tie as tie
 

@@ -1,6 +1,5 @@
--- `settings::codes::sys_source_from` meets its contract. Assumes nothing.
-use borrow.Author.Needs.{needs}
-use borrow.Author.Tests.{eq-eqb, ne-eqb}
+-- `settings::codes::sys_source_from` meets its contract.
+use borrow.{Author.Needs.needs, Author.Tests.eq-eqb, Author.Tests.ne-eqb}
 use Rattle.settings.proofs.codes.sys_source_from.Statement.{statement}
 use Rattle.settings.proofs.codes.sys_source_from.Tie as tie
 

@@ -1,10 +1,9 @@
--- `sleep::bits::field` meets its contract. Assumes nothing.
+-- `sleep::bits::field` meets its contract.
 use borrow.Author.Needs.{needs}
 use Prim.Native.Nat.{_/_, _^_}
 use native.Mathlib.Omega.{arith}
 use lib.Pow.{pow-pos}
-use Rattle.sleep.proofs.Words.{one-shl, low-bits}
-use Rattle.sleep.proofs.bits.field.Statement.{statement}
+use Rattle.sleep.proofs.{Words.one-shl, Words.low-bits, bits.field.Statement.statement}
 use Rattle.sleep.proofs.bits.field.Tie as tie
 
 pub field-spec : {M : Type 1} → statement M

@@ -1,4 +1,4 @@
--- `sleep::bits::pll_off` meets its contract. Assumes nothing.
+-- `sleep::bits::pll_off` meets its contract.
 use borrow.Author.Needs.{needs}
 use Rattle.sleep.proofs.bits.pll_off.Statement.{statement}
 use Rattle.sleep.proofs.bits.pll_off.Tie as tie

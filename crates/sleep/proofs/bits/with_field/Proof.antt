@@ -1,9 +1,7 @@
--- `sleep::bits::with_field` meets its contract. Assumes nothing.
+-- `sleep::bits::with_field` meets its contract.
 use borrow.Author.Needs.{needs}
-use native.Mathlib.Nat.{div-one}
-use native.Mathlib.Omega.{arith}
-use Rattle.sleep.proofs.Words.{high-exact, value-exact, word-fits}
-use Rattle.sleep.proofs.bits.with_field.Statement.{statement}
+use native.Mathlib.{Nat.div-one, Omega.arith}
+use Rattle.sleep.proofs.{Words.high-exact, Words.value-exact, Words.word-fits, bits.with_field.Statement.statement}
 use Rattle.sleep.proofs.bits.with_field.Tie as tie
 
 add-result : tie.Need-add-result

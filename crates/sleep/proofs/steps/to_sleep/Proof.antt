@@ -1,7 +1,6 @@
--- `sleep::steps::to_sleep` meets its contract. Assumes nothing.
-use Rattle.sleep.proofs.Gathered.{sleep-gathered}
+-- `sleep::steps::to_sleep` meets its contract.
+use Rattle.sleep.proofs.{Gathered.sleep-gathered, steps.to_sleep.Statement.statement}
 use borrow.Author.Needs.{needs}
-use Rattle.sleep.proofs.steps.to_sleep.Statement.{statement}
 use Rattle.sleep.proofs.steps.to_sleep.Tie as tie
 
 pub to-sleep-spec : {M : Type 1} → statement M

@@ -1,4 +1,4 @@
--- `sleep_numbers::put::put_slot` meets its contract. Assumes nothing.
+-- `sleep_numbers::put::put_slot` meets its contract.
 use borrow.Author.Needs.{needs}
 use Rattle.base.proofs.Placing.{placed-append}
 use Rattle.sleep_numbers.proofs.put.put_slot.Statement.{statement}

@@ -1,4 +1,4 @@
--- `sleep_numbers::put::put_step` meets its contract. Assumes nothing.
+-- `sleep_numbers::put::put_step` meets its contract.
 use borrow.Author.Needs.{needs}
 use Rattle.sleep_numbers.proofs.put.put_step.Statement.{statement}
 use Rattle.sleep_numbers.proofs.put.put_step.Tie as tie

@@ -1,12 +1,11 @@
--- `sleep_numbers::put::put_steps` meets its contract. Measure: the steps left. Assumes nothing.
+-- `sleep_numbers::put::put_steps` meets its contract. Measure: the steps left.
 use mathlib.Core.Path.{refl}
 use Prim.Native.Nat.{_-_}
 use native.Mathlib.Omega.{arith}
 use borrow.Author.Needs.{needs}
 use Rattle.base.proofs.Parts.{parts-none, parts-length, parts-all}
 use Rattle.sleep_numbers.specs.Numbers.{stepNumbers}
-use Rattle.sleep_numbers.proofs.EachStep.{StepParts, step-next}
-use Rattle.sleep_numbers.proofs.put.put_steps.Statement.{statement}
+use Rattle.sleep_numbers.proofs.{EachStep.StepParts, EachStep.step-next, put.put_steps.Statement.statement}
 use Rattle.sleep_numbers.proofs.put.put_steps.Tie as tie
 
 pub put-steps-spec : {M : Type 1} → statement M

@@ -1,4 +1,4 @@
--- `step::access::byte_over` meets its contract. Assumes nothing.
+-- `step::access::byte_over` meets its contract.
 use borrow.Author.Needs.{needs}
 use Rattle.step.proofs.access.byte_over.Statement.{statement}
 use Rattle.step.proofs.access.byte_over.Tie as tie

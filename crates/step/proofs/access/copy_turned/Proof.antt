@@ -1,13 +1,9 @@
 -- `step::access::copy_turned` meets its contract: after i turns the bytes of the first i words stand in the buffer.
--- Assumes nothing.
-use mathlib.Core.Path.{_≡_, refl, _∙_}
-use mathlib.Core.List.{List, _++_, map}
+use mathlib.Core.{Path._≡_, Path.refl, Path._∙_, List.List, List._++_, List.map}
 use Prim.Native.Nat.{ℕ, _≤_, _-_, _*_}
-use lib.ListN.{length, take, drop}
-use lib.Seq.{take-length}
+use lib.{ListN.length, ListN.take, ListN.drop, Seq.take-length}
 use denote.Ref.{now}
-use native.Mathlib.Nat.{le-antisymm}
-use native.Mathlib.Omega.{arith}
+use native.Mathlib.{Nat.le-antisymm, Omega.arith}
 use Rattle.step.specs.Bytes.{turnedOf, bytesOf}
 use Rattle.step.proofs.Copies.{copied-more, copied-room, copied-short}
 use Rattle.step.proofs.access.copy_turned.Statement.{statement}

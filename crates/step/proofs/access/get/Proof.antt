@@ -1,9 +1,7 @@
--- `step::access::get` meets its contract. Assumes nothing.
+-- `step::access::get` meets its contract.
 use borrow.Author.Needs.{needs}
 use denote.Ref.{now}
-use Rattle.step.proofs.Laws.{word-turned}
-use Rattle.step.proofs.Runs.{eight}
-use Rattle.step.proofs.access.get.Statement.{statement}
+use Rattle.step.proofs.{Laws.word-turned, Runs.eight, access.get.Statement.statement}
 use Rattle.step.proofs.access.get.Tie as tie
 
 pub get-spec : {M : Type 1} → statement M

@@ -1,9 +1,8 @@
--- `step::access::get_reversed` meets its contract. Assumes nothing.
+-- `step::access::get_reversed` meets its contract.
 use borrow.Author.Needs.{needs}
 use denote.Ref.{now}
 use Rattle.step.specs.Bytes.{word8}
-use Rattle.step.proofs.Runs.{eight}
-use Rattle.step.proofs.access.get_reversed.Statement.{statement}
+use Rattle.step.proofs.{Runs.eight, access.get_reversed.Statement.statement}
 use Rattle.step.proofs.access.get_reversed.Tie as tie
 
 returns : tie.Need-returns

@@ -1,4 +1,4 @@
--- `step::access::moved_over` meets its contract. Assumes nothing.
+-- `step::access::moved_over` meets its contract.
 use borrow.Author.Needs.{needs}
 use Rattle.step.proofs.access.moved_over.Statement.{statement}
 use Rattle.step.proofs.access.moved_over.Tie as tie

@@ -1,12 +1,9 @@
--- `step::access::put_turned` meets its contract. Assumes nothing.
+-- `step::access::put_turned` meets its contract.
 use borrow.Author.Needs.{needs}
-use Rattle.step.specs.Bytes.{bytes8}
-use Rattle.step.specs.Inside.{splice}
-use Rattle.step.proofs.Laws.{turned-bytes}
-use Rattle.step.proofs.Runs.{stores}
+use Rattle.step.specs.{Bytes.bytes8, Inside.splice}
+use Rattle.step.proofs.{Laws.turned-bytes, Runs.stores, access.put_turned.Statement.statement}
 use native.Mathlib.Omega.{arith}
 use lib.ListN.{length-set}
-use Rattle.step.proofs.access.put_turned.Statement.{statement}
 use Rattle.step.proofs.access.put_turned.Tie as tie
 
 returns : tie.Need-returns

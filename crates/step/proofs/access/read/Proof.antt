@@ -1,9 +1,8 @@
--- `step::access::read` meets its contract. Assumes nothing.
+-- `step::access::read` meets its contract.
 use borrow.Author.Needs.{needs}
 use native.Mathlib.Omega.{arith}
 use denote.Ref.{now}
-use Rattle.step.proofs.Accesses.{read-room, read-short}
-use Rattle.step.proofs.access.read.Statement.{statement}
+use Rattle.step.proofs.{Accesses.read-room, Accesses.read-short, access.read.Statement.statement}
 use Rattle.step.proofs.access.read.Tie as tie
 
 pub read-spec : {M : Type 1} → statement M

@@ -1,4 +1,4 @@
--- `step::access::turned` meets its contract. Assumes nothing.
+-- `step::access::turned` meets its contract.
 use borrow.Author.Needs.{needs}
 use Rattle.step.specs.Bytes.{bytes8, word8, turnedOf}
 use Rattle.step.proofs.access.turned.Statement.{statement}

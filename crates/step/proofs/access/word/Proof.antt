@@ -1,10 +1,9 @@
--- `step::access::word` meets its contract. Assumes nothing.
+-- `step::access::word` meets its contract.
 use borrow.Author.Needs.{needs}
 use mathlib.Core.Path.{sym, _∙_}
 use native.Mathlib.Omega.{arith}
 use denote.Ref.{now}
-use Rattle.step.proofs.Accesses.{word-room, word-short}
-use Rattle.step.proofs.access.word.Statement.{statement}
+use Rattle.step.proofs.{Accesses.word-room, Accesses.word-short, access.word.Statement.statement}
 use Rattle.step.proofs.access.word.Tie as tie
 
 pub word-spec : {M : Type 1} → statement M

@@ -1,4 +1,4 @@
--- `step::packing::bits` meets its contract. Assumes nothing.
+-- `step::packing::bits` meets its contract.
 use borrow.Author.Needs.{needs}
 use Prim.Native.Nat.{_-_, _/_, _^_}
 use native.Mathlib.Nat.{mod-lt}

@@ -1,8 +1,6 @@
 -- `step::packing::layout` meets its contract: each arm's row is its kind's row of the table.
--- Assumes nothing.
 use Rattle.step.specs.Layout.{rows, width}
-use Rattle.step.proofs.Table.{laid, laid-none}
-use Rattle.step.proofs.packing.layout.Statement.{statement}
+use Rattle.step.proofs.{Table.laid, Table.laid-none, packing.layout.Statement.statement}
 use Rattle.step.proofs.packing.layout.Tie as tie
 
 pub layout-spec : {M : Type 1} → statement M

@@ -1,9 +1,8 @@
--- `step::packing::low` meets its contract. Assumes nothing.
+-- `step::packing::low` meets its contract.
 use borrow.Author.Needs.{needs}
 use native.Mathlib.Omega.{arith}
 use lib.Pow.{pow-pos}
-use Rattle.step.proofs.Words.{one-shl, low-bits}
-use Rattle.step.proofs.packing.low.Statement.{statement}
+use Rattle.step.proofs.{Words.one-shl, Words.low-bits, packing.low.Statement.statement}
 use Rattle.step.proofs.packing.low.Tie as tie
 
 pub low-spec : {M : Type 1} → statement M

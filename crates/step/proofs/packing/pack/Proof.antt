@@ -1,9 +1,8 @@
--- `step::packing::pack` meets its contract. Assumes nothing.
+-- `step::packing::pack` meets its contract.
 use borrow.Author.Needs.{needs}
 use native.Mathlib.Omega.{arith}
 use lib.Pow.{pow-pos}
-use Rattle.step.specs.Layout.{widths}
-use Rattle.step.specs.Steps.{packOf}
+use Rattle.step.specs.{Layout.widths, Steps.packOf}
 use Rattle.step.proofs.packing.pack.Statement.{statement}
 use Rattle.step.proofs.packing.pack.Tie as tie
 

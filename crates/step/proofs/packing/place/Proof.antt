@@ -1,12 +1,10 @@
--- `step::packing::place` meets its contract. Assumes nothing.
+-- `step::packing::place` meets its contract.
 use borrow.Author.Needs.{needs}
 use mathlib.Core.Path.{_≡_}
 use Prim.Native.Nat.{ℕ, _+_, _-_, _*_, _%_, _^_, _<_}
 use native.Mathlib.Nat.{mod-lt}
-use lib.Bits.{bitOr}
-use lib.Pow.{pow-pos}
-use Rattle.step.proofs.Words.{place-bits, field-lt}
-use Rattle.step.proofs.packing.place.Statement.{statement}
+use lib.{Bits.bitOr, Pow.pow-pos}
+use Rattle.step.proofs.{Words.place-bits, Words.field-lt, packing.place.Statement.statement}
 use Rattle.step.proofs.packing.place.Tie as tie
 
 returns : tie.Need-returns

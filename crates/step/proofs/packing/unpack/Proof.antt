@@ -1,7 +1,6 @@
--- `step::packing::unpack` meets its contract. Assumes nothing.
+-- `step::packing::unpack` meets its contract.
 use borrow.Author.Needs.{needs}
-use Rattle.step.proofs.Laws.{unpack-unknown}
-use Rattle.step.proofs.packing.unpack.Statement.{statement}
+use Rattle.step.proofs.{Laws.unpack-unknown, packing.unpack.Statement.statement}
 use Rattle.step.proofs.packing.unpack.Tie as tie
 
 pub unpack-spec : {M : Type 1} → statement M

@@ -1,8 +1,6 @@
--- `step::packing::unpack_as` meets its contract. Assumes nothing.
-use borrow.Author.Needs.{needs}
-use borrow.Author.Tests.{le-leb}
-use mathlib.Core.Bool.{true}
-use mathlib.Core.Path.{_≡_}
+-- `step::packing::unpack_as` meets its contract.
+use borrow.{Author.Needs.needs, Author.Tests.le-leb}
+use mathlib.Core.{Bool.true, Path._≡_}
 use Prim.Native.Nat.{ℕ, _/_, _%_, _^_}
 use native.Mathlib.Omega.{arith}
 use lib.Dec.{leb}

@@ -1,4 +1,4 @@
--- `voltage::CoreVoltage::volts` meets its contract. Assumes nothing.
+-- `voltage::CoreVoltage::volts` meets its contract.
 use borrow.Author.Needs.{needs}
 use Rattle.voltage.proofs.CoreVoltage.volts.Statement.{statement}
 use Rattle.voltage.proofs.CoreVoltage.volts.Tie as tie

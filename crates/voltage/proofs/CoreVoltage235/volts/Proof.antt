@@ -1,4 +1,4 @@
--- `voltage::CoreVoltage235::volts` meets its contract. Assumes nothing.
+-- `voltage::CoreVoltage235::volts` meets its contract.
 use borrow.Author.Needs.{needs}
 use Rattle.voltage.proofs.CoreVoltage235.volts.Statement.{statement}
 use Rattle.voltage.proofs.CoreVoltage235.volts.Tie as tie

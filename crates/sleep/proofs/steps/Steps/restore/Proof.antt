@@ -1,4 +1,4 @@
--- `sleep::steps::Steps::restore` meets its contract. Assumes nothing.
+-- `sleep::steps::Steps::restore` meets its contract.
 use Rattle.sleep.specs.Inside.{pushedIf}
 use borrow.Author.Needs.{needs}
 use Rattle.sleep.proofs.steps.Steps.restore.Statement.{statement}

@@ -1,4 +1,4 @@
--- `sleep::steps::Steps::write3` meets its contract. Assumes nothing.
+-- `sleep::steps::Steps::write3` meets its contract.
 use borrow.Author.Needs.{needs}
 use Rattle.sleep.proofs.steps.Steps.write3.Statement.{statement}
 use Rattle.sleep.proofs.steps.Steps.write3.Tie as tie

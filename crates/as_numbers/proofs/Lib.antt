@@ -1,0 +1,2 @@
+pub mod Runners
+pub mod Boards

@@ -1,3 +1,0 @@
--- What belongs to no one function.
--- Assumes nothing.
-pub mod UsbRows

@@ -1,0 +1,3 @@
+pub mod Commas
+pub mod Forms
+pub mod Named

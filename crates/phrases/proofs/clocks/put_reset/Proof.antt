@@ -1,0 +1,33 @@
+-- `phrases::clocks::put_reset` meets its contract.
+use mathlib.Core.Path.{ap, _∙_}
+use native.Mathlib.Omega.{arith}
+use Rattle.plan_text.proofs.Puts.{put-append, put-most}
+use Rattle.phrases.specs.Lines.{resetLine}
+use borrow.Author.Needs.{needs}
+use lib.{ListN.length, Seq.length-sets}
+use Rattle.phrases.proofs.clocks.put_reset.Statement.{statement}
+use Rattle.phrases.proofs.clocks.put_reset.Tie as tie
+
+returns : tie.Need-returns
+unfolding resetLine
+returns c =
+    let put-bytes2 = c .before .before in let put-where6 = put-bytes2 .before .before .before .before .before in
+    let put-where5 = put-where6 .before .before .before .before .before in
+    let put-where4 = put-where5 .before .before .before .before .before in
+    let put-where3 = put-where4 .before .before .before .before .before in
+    let put-where2 = put-where3 .before .before .before .before .before in
+    let put-where = put-where2 .before .before .before .before .before in
+    let put-bytes = put-where .before .before .before .before .before in
+    put-most (omega arith) (put-append (put-bytes .put-bytes .ensures) (put-append (put-where .put-where .ensures)
+    (put-append (put-where2 .put-where2 .ensures) (put-append (put-where3 .put-where3 .ensures) (put-append
+    (put-where4 .put-where4 .ensures) (put-append (put-where5 .put-where5 .ensures) (put-append
+    (put-where6 .put-where6 .ensures) (put-bytes2 .put-bytes2 .ensures))))))))
+
+same-length : tie.Need-same-length
+same-length c = ap length (returns c .placed .bytes) ∙ simp length-sets
+
+pub put-reset-spec : {M : Type 1} → statement M
+put-reset-spec = tie.close (tie.spec (λ c. search needs) (λ c κs. search needs) (λ c. search needs)
+    (λ c κs. search needs) (λ c. search needs) (λ c κs. search needs) (λ c. search needs) (λ c κs. search needs)
+    (λ c. search needs) (λ c κs. search needs) (λ c. search needs) (λ c κs. search needs) (λ c. search needs)
+    (λ c κs. search needs) (λ c. search needs) (λ c κs. search needs) same-length returns)

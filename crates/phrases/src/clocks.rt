@@ -1,0 +1,174 @@
+// The lines of the clocks, and of what stays in reset.
+use crate::form::put_bytes;
+use crate::form::put_where;
+use crate::names::put_named;
+use chip::Chip;
+use config::OptionAux;
+use config::OptionPeri;
+use config::OptionRtc;
+use config::RefClkConfig;
+use config::SysClkSrc;
+ghost use mathlib.Core.Path.{_≡_};
+ghost use Prim.Native.Nat.{_+_};
+ghost use lib.ListN.{length};
+ghost use Rattle.plan_text.specs.Put.{Put};
+ghost use Rattle.phrases.specs.Lines.{refLine, sysLine, periLine, auxLine, rtcLine, isRp2040, noPeri, noAux, noRtc, resetLine};
+
+pub fn put_ref(out: &mut [u8], at: usize, hz: u32, clock: RefClkConfig) -> usize
+    ensures { λ r. ⌜ Put (now (out .entry)) at (refLine hz clock) 100 r (now (out .exit)) ⌝ }
+{
+    let src = clock.src;
+    put_named(
+        out,
+        at,
+        b"ref # Hz from ",
+        hz as u64,
+        b"rosc,pll_usb,xosc",
+        settings::ref_code(src),
+        b", divider #\n",
+        &[clock.div as u64],
+    )
+}
+
+pub fn put_sys(
+    out: &mut [u8],
+    at: usize,
+    hz: u64,
+    src: SysClkSrc,
+    whole: u32,
+    fraction: u16,
+    scale: u32,
+) -> usize
+    ensures { λ r. ⌜ Put (now (out .entry)) at (sysLine hz src whole fraction scale) 150 r (now (out .exit)) ⌝ }
+{
+    put_named(
+        out,
+        at,
+        b"sys # Hz from ",
+        hz,
+        b"ref,pll_sys,pll_usb,rosc,xosc",
+        settings::sys_code(src),
+        b", divider # + #/#\n",
+        &[whole as u64, fraction as u64, scale as u64],
+    )
+}
+
+pub fn put_peri(out: &mut [u8], at: usize, hz: u64, peri: OptionPeri) -> usize
+    ensures { λ r. ⌜ Put (now (out .entry)) at (periLine hz peri) 80 r (now (out .exit)) ⌝ }
+{
+    match peri {
+        OptionPeri::Some(src) => put_named(
+            out,
+            at,
+            b"peri # Hz from ",
+            hz,
+            b"sys,pll_sys,pll_usb,rosc,xosc",
+            settings::peri_aux(src),
+            b"\n",
+            &[],
+        ),
+        OptionPeri::None => put_bytes(out, at, b"peri absent\n"),
+    }
+}
+
+// USB or ADC by its name.
+pub fn put_aux(out: &mut [u8], at: usize, name: &[u8], hz: u32, aux: OptionAux) -> usize
+    ensures { λ r. ⌜ Put (now (out .entry)) at (auxLine (now (name .entry)) hz aux) (length (now (name .entry)) + 120) r (now (out .exit)) ⌝ }
+{
+    let at = put_bytes(out, at, name);
+    match aux {
+        OptionAux::Some(on) => {
+            let src = on.src;
+            put_named(
+                out,
+                at,
+                b" # Hz from ",
+                hz as u64,
+                b"pll_usb,pll_sys,rosc,xosc",
+                settings::aux_code(src),
+                b", divider #, phase #\n",
+                &[on.div as u64, on.phase as u64],
+            )
+        }
+        OptionAux::None => put_bytes(out, at, b" absent\n"),
+    }
+}
+
+pub fn put_rtc(out: &mut [u8], at: usize, hz: u64, rtc: OptionRtc) -> usize
+    ensures { λ r. ⌜ Put (now (out .entry)) at (rtcLine hz rtc) 150 r (now (out .exit)) ⌝ }
+{
+    match rtc {
+        OptionRtc::Some(on) => {
+            let src = on.src;
+            put_named(
+                out,
+                at,
+                b"rtc # Hz from ",
+                hz,
+                b"pll_usb,pll_sys,rosc,xosc",
+                settings::aux_code(src),
+                b", divider # + #/256, phase #\n",
+                &[on.div_int as u64, on.div_frac as u64, on.phase as u64],
+            )
+        }
+        OptionRtc::None => put_bytes(out, at, b"rtc absent\n"),
+    }
+}
+
+pub fn is_rp2040(chip: Chip) -> bool
+    ensures { λ r. ⌜ r ≡ isRp2040 chip ⌝ }
+{
+    match chip {
+        Chip::Rp2040 => true,
+        Chip::Rp235x => false,
+    }
+}
+
+pub fn no_peri(peri: OptionPeri) -> bool
+    ensures { λ r. ⌜ r ≡ noPeri peri ⌝ }
+{
+    match peri {
+        OptionPeri::Some(_) => false,
+        OptionPeri::None => true,
+    }
+}
+
+pub fn no_aux(aux: OptionAux) -> bool
+    ensures { λ r. ⌜ r ≡ noAux aux ⌝ }
+{
+    match aux {
+        OptionAux::Some(_) => false,
+        OptionAux::None => true,
+    }
+}
+
+pub fn no_rtc(rtc: OptionRtc) -> bool
+    ensures { λ r. ⌜ r ≡ noRtc rtc ⌝ }
+{
+    match rtc {
+        OptionRtc::Some(_) => false,
+        OptionRtc::None => true,
+    }
+}
+
+// The blocks that the last release leaves in reset: those of absent clocks, and HSTX of the RP235x.
+pub fn put_reset(
+    out: &mut [u8],
+    at: usize,
+    old: bool,
+    peri: bool,
+    usb: bool,
+    adc: bool,
+    rtc: bool,
+) -> usize
+    ensures { λ r. ⌜ Put (now (out .entry)) at (resetLine old peri usb adc rtc) 80 r (now (out .exit)) ⌝ }
+{
+    let at = put_bytes(out, at, b"in reset:");
+    let at = put_where(out, at, adc, b" adc");
+    let at = put_where(out, at, !old, b" hstx");
+    let at = put_where(out, at, old & rtc, b" rtc");
+    let at = put_where(out, at, peri, b" spi0 spi1");
+    let at = put_where(out, at, old & peri, b" uart0 uart1");
+    let at = put_where(out, at, old & usb, b" usb");
+    put_bytes(out, at, b"\n")
+}

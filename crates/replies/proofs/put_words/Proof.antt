@@ -1,0 +1,22 @@
+-- `replies::put_words` meets its contract. Measure: the numbers left.
+use mathlib.Core.Path.{refl}
+use Prim.Native.Nat.{_-_}
+use native.Mathlib.Omega.{arith}
+use borrow.Author.Needs.{needs}
+use lib.ListN.{length, take}
+use Rattle.base.proofs.Parts.{Parts, parts-none, parts-next, parts-length, parts-of}
+use Rattle.replies.specs.Reply.{spaced}
+use Rattle.replies.proofs.{Spaced.spaced-step, put_words.Statement.statement}
+use Rattle.replies.proofs.put_words.Tie as tie
+
+pub put-words-spec : {M : Type 1} → statement M
+put-words-spec = tie.close (tie.spec
+    (λ out₀ at ns end₀ i₀ out end i. Parts (λ k. spaced (take k ns)) (length ns) out₀ at i end out)
+    (λ out₀ at ns end₀ i₀ out end i. length ns - i) (λ c κs. search needs) (λ c. parts-none refl (search needs))
+    (λ c. search needs) (λ c. search needs) (λ c κs. search needs) (λ c κs. search needs) (λ c. search needs)
+    (λ c. search needs)
+    (λ c. let put = c .before .before in
+    parts-next (put .before .before .before .before .before .loop .inv)
+    (rw (put .before .wide .ensures .0) at (put .put-next .ensures)) (omega arith)
+    (spaced-step _ _)) (λ c. parts-length (c .before .loop .inv))
+    (λ c. parts-of spaced _ (c .before .loop .inv) (c .loop-test .left)))

@@ -1,9 +1,0 @@
--- `sheet::clocks::put_divider` meets its contract. Assumes nothing.
-use borrow.Author.Needs.{needs}
-use Rattle.sheet.proofs.clocks.put_divider.Statement.{statement}
-use Rattle.sheet.proofs.clocks.put_divider.Tie as tie
-
-pub put-divider-spec : {M : Type 1} → statement M
-put-divider-spec = tie.close (tie.spec (λ c. search needs) (λ c κs. search needs) (λ c. search needs)
-    (λ c κs. search needs) (λ c. rw (c .before .before .enum-told .given .1, c .add2 .ensures))
-    (λ c. rw (c .before .before .enum-told2 .given .1, c .add22 .ensures)))

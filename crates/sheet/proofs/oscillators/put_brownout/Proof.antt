@@ -1,9 +1,0 @@
--- `sheet::oscillators::put_brownout` meets its contract. Assumes nothing.
-use borrow.Author.Needs.{needs}
-use Rattle.sheet.proofs.oscillators.put_brownout.Statement.{statement}
-use Rattle.sheet.proofs.oscillators.put_brownout.Tie as tie
-
-pub put-brownout-spec : {M : Type 1} → statement M
-put-brownout-spec = tie.close (tie.spec (λ c. search needs) (λ c κs. search needs) (λ c. search needs)
-    (λ c κs. search needs) (λ c. rw (c .before .before .enum-told .given .1, c .add1 .ensures))
-    (λ c. rw (c .before .before .enum-told2 .given .1, c .add12 .ensures)))
