@@ -6,7 +6,7 @@ use native.Mathlib.Omega.{arith}
 use borrow.Author.Tests.{lt-ltb, le-ltb, le-leb, lt-leb, ltb-true, ltb-false}
 use lib.Dec.{eqb, ltb, leb·suc-suc}
 use lib.ListN.{length, take, drop, getD, set, length-drop, drop-of-length-le}
-use lib.Seq.{drop-cons, drop-drop, sets}
+use lib.Seq.{drop-cons, drop-drop, sets, take-all}
 use Rattle.base.specs.{Answer.value, Answer.refusal, Choice.pick}
 use Rattle.text.specs.{Decimal.numberOf, Words.upTo, Words.indexFrom}
 use Rattle.text.proofs.Lines.{take-up}
@@ -162,3 +162,7 @@ module _ (line : List ℕ) where
 
   pub behind-first : tailAt line (indexFrom line 0 32) ≡ behind line
   behind-first = rw word-end (sym (behind-word line))
+
+-- all that is left behind an index
+pub take-rest : (k : ℕ) (xs : List ℕ) → take (length xs - k) (drop k xs) ≡ drop k xs
+take-rest k xs = take-all (length xs - k) (drop k xs) (simp length-drop (omega arith))

@@ -4,7 +4,6 @@ use pll::PllConfig;
 ghost use mathlib.Core.Path.{_≡_};
 ghost use Prim.Native.Nat.{min};
 ghost use lib.ListN.{set};
-ghost use Rattle.text.specs.Ascii.{same};
 ghost use Rattle.fields.specs.Fields.{numbersIn, numbersOnly, tailAt, Reading};
 ghost use Rattle.fields.specs.Row.{nth, byteAt, halfAt, roomAt, pllAt, tenAt};
 
@@ -12,13 +11,6 @@ ghost use Rattle.fields.specs.Row.{nth, byteAt, halfAt, roomAt, pllAt, t
 pub enum Rest {
     At(usize),
     Bad,
-}
-
-// Whether a and b hold the same bytes.
-pub fn same_bytes(a: &[u8], b: &[u8]) -> bool
-    ensures { λ r. ⌜ r ≡ same (now (a .entry)) (now (b .entry)) ⌝ }
-{
-    check::same(a, b)
 }
 
 // Sets a number, if the buffer reaches that far.

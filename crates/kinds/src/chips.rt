@@ -74,7 +74,7 @@ pub(crate) fn named(name: &[u8]) -> Kind
     ensures { λ r. ⌜ r ≡ chipKindNamed (now (name .entry)) ⌝ }
 {
     let end = base::less(name.len(), 3);
-    if fields::same_bytes(&name[end..], b"235") {
+    if kept::same_bytes(&name[end..], b"235") {
         named_on(Chip::Rp235x, &name[..end])
     } else {
         named_on(Chip::Rp2040, name)

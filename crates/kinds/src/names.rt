@@ -16,7 +16,7 @@ pub(crate) const ROOM: u32 = 1024;
 pub(crate) fn where_named(name: &[u8], word: &[u8], kind: Kind, other: Kind) -> Kind
     ensures { λ r. ⌜ r ≡ pick (same (now (name .entry)) (now (word .entry))) kind other ⌝ }
 {
-    if fields::same_bytes(name, word) {
+    if kept::same_bytes(name, word) {
         kind
     } else {
         other

@@ -1,4 +1,3 @@
-pub mod Same
 pub mod Voltages
 pub mod Numbers
 pub mod Unique

@@ -7,7 +7,7 @@ use borrow.Author.Tests.{eqb-true, eq-eqb, ltb-true, ltb-false}
 use Rattle.base.specs.{Choice.pick, Answer.Answer, Answer.value, Answer.refusal}
 use Rattle.base.proofs.Bools.{both-true}
 use Rattle.text.proofs.Same.{same-true}
-use Rattle.readback.proofs.Same.{same-refl}
+use Rattle.text.proofs.Same.{same-refl}
 use Rattle.readback.proofs.Canonical.{steps-in, plan-in, gives-in, back-in}
 use Rattle.readback.proofs.Unique.{readback-one}
 use Rattle.config.specs.declared.{ClockConfig.ClockConfig, OptionRosc.OptionRosc}

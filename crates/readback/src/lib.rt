@@ -79,7 +79,7 @@ pub(crate) fn taken(sheet: &[u8], at: usize) -> Step
 fn is_sheet(written: &[u8], sheet: &[u8]) -> bool
     ensures { λ r. ⌜ r ≡ same (now (written .entry)) (now (sheet .entry)) ⌝ }
 {
-    fields::same_bytes(written, sheet)
+    kept::same_bytes(written, sheet)
 }
 
 // Whether a plan is accepted at a reading, and written to exactly these bytes.

@@ -1,6 +1,5 @@
 // The texts that answers are made of, each put into the caller's buffer.
 ghost use mathlib.Core.List.{[], _∷_, _++_};
-ghost use lib.ListN.{length};
 ghost use Rattle.base.specs.Placed.{Placed};
 ghost use Rattle.text.specs.Decimal.{decimalOf};
 ghost use Rattle.text.specs.Output.{Whole};

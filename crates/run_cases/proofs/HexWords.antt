@@ -1,9 +1,9 @@
--- A word of hex read over zeros, the first word, and what is left behind it.
+-- A word of hex read over zeros, and the first word.
 use mathlib.Core.{Path._≡_, Path.ap, Path._∙_, List.List, List._++_}
 use Prim.Native.Nat.{ℕ, _+_, _-_, _≤_}
 use native.Mathlib.{Nat.zero-add, Omega.arith}
 use borrow.Author.Tests.{leb-true}
-use lib.{ListN.length, ListN.take, ListN.drop, ListN.length-drop, ListN.replicate, Seq.take-all, Seq.sets, Seq.sets-eq}
+use lib.{ListN.length, ListN.take, ListN.drop, ListN.replicate, Seq.sets, Seq.sets-eq}
 use Rattle.base.proofs.Bools.{both-true}
 use Rattle.text.specs.{Words.upTo, Words.indexFrom, Hex.isHexWord, Hex.pairValues, Hex.isReadable, Hex.HexReading}
 use Rattle.fields.proofs.Tails.{first-word}
@@ -31,7 +31,3 @@ word-padded {w} told h =
 pub of-first : (words : List ℕ) {xs ys : List ℕ} {r : HexRead} {end : ℕ} → end ≡ indexFrom words 0 32
     → HexReading (take end words) xs r ys → HexReading (upTo 32 words) xs r ys
 of-first words e h = rw (e, first-word words) at h
-
--- all that is left behind an index
-pub take-rest : (k : ℕ) (xs : List ℕ) → take (length xs - k) (drop k xs) ≡ drop k xs
-take-rest k xs = take-all (length xs - k) (drop k xs) (simp length-drop (omega arith))

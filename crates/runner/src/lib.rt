@@ -201,14 +201,11 @@ pub fn restarted(r: Runner, sheet: &[u8]) -> Opened
         };
     }
     let kept = keep(sheet);
-    let fresh = Stepper::new();
+    let fresh = Runner::new();
+    let stepper = fresh.stepper;
     Opened {
         reply: Opening::Started,
-        runner: Runner {
-            kept,
-            len,
-            stepper: fresh,
-        },
+        runner: Runner { kept, len, stepper },
     }
 }
 

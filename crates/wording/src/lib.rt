@@ -7,7 +7,6 @@ use read_cases::Asked;
 use settings::Frequencies;
 use settings::Settings;
 ghost use mathlib.Core.Path.{_≡_};
-ghost use lib.ListN.{length};
 ghost use Rattle.text.specs.Output.{Printed};
 ghost use Rattle.plan_text.specs.Put.{Put};
 ghost use Rattle.base.specs.Answer.{value};

@@ -3,7 +3,7 @@ use borrow.{Author.Needs.needs, Author.Tests.lt-ltb, Author.Tests.le-ltb}
 use native.Mathlib.Numerals.{add-one}
 use Prim.Native.Nat.{_+_}
 use Rattle.fields.specs.Fields.{tailAt}
-use Rattle.run_cases.proofs.HexWords.{take-rest}
+use Rattle.fields.proofs.Tails.{take-rest}
 use Rattle.bench_cases.proofs.put_behind.Statement.{statement}
 use Rattle.bench_cases.proofs.put_behind.Tie as tie
 

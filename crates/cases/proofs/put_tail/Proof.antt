@@ -1,5 +1,5 @@
 -- `cases::put_tail` meets its contract.
-use Rattle.kinds.proofs.Rest.{take-rest}
+use Rattle.fields.proofs.Tails.{take-rest}
 use Rattle.fields.specs.Fields.{tailAt}
 use borrow.{Author.Tests.lt-ltb, Author.Tests.le-ltb, Author.Needs.needs}
 use native.Mathlib.Numerals.{add-one}

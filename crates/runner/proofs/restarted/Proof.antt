@@ -1,7 +1,8 @@
 -- `runner::restarted` meets its contract.
-use mathlib.Core.Path.{refl, sym, _∙_}
+use mathlib.Core.Path.{refl, sym, ap, _∙_}
 use borrow.Author.Needs.{needs}
 use Rattle.kept.proofs.Sizes.{size-fits}
+use Rattle.runner.specs.declared.Runner.{Runner}
 use Rattle.runner.proofs.{Starts.start-refused, Starts.start-built, restarted.Statement.statement}
 use Rattle.runner.proofs.restarted.Tie as tie
 
@@ -9,5 +10,6 @@ pub restarted-spec : {M : Type 1} → statement M
 restarted-spec = tie.close (tie.spec (λ c κs. search needs)
     (λ c. start-refused _ _ (sym (c .before .«bad-size» .ensures) ∙ c .if1 .taken))
     (λ c κs. size-fits _ (sym (c .before .«bad-size» .ensures) ∙ c .if1 .left)) (λ c κs. search needs)
-    (λ c. start-built _ _ _ _ _ (sym (c .before .before .before .«bad-size» .ensures) ∙ c .before .before .if1 .left)
-    (c .before .keep .ensures) refl (c .new .ensures)))
+    (λ c. let new = c .before in start-built _ _ _ _ _
+    (sym (new .before .before .before .«bad-size» .ensures) ∙ new .before .before .if1 .left) (new .before .keep .ensures) refl
+    (ap (λ (fresh : Runner). fresh .stepper) (new .new .ensures))))

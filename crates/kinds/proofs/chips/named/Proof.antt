@@ -2,7 +2,8 @@
 use native.Mathlib.Omega.{arith}
 use lib.ListN.{length-take}
 use borrow.Author.Needs.{needs}
-use Rattle.kinds.proofs.{Rest.take-rest, chips.named.Statement.statement}
+use Rattle.fields.proofs.Tails.{take-rest}
+use Rattle.kinds.proofs.chips.named.Statement.{statement}
 use Rattle.kinds.proofs.chips.named.Tie as tie
 
 returns : tie.Need-returns
