@@ -14,12 +14,13 @@ use Rattle.settings.specs.Settings.{crystalOf, ringHz, settlingStep, settingsOf
 use Rattle.grounds.specs.Grounds.{startupOver, settlingOver}
 use Rattle.refusals.specs.Refusals.{Accepted}
 use Rattle.refusals.proofs.Accepted.{accepted-by}
-use Rattle.step.specs.Sheet.{encoded}
+use lib.Seq.{take-all}
+use Rattle.step.specs.Sheet.{maxSteps, encoded}
 use Rattle.sheet_steps.specs.Steps.{stepsOf}
-use Rattle.sheet.proofs.Sheets.{settings-back, steps-formed}
+use Rattle.sheet.proofs.{Sheets.settings-back, Sheets.steps-formed, Counts.steps-few}
 use Rattle.sheet.specs.Writer.{sheetBytes}
 use Rattle.least_plan.specs.Plan.{xoscFor, timeFor, planOf}
-use Rattle.readback.specs.{Steps.stepsIn, Read.planIn}
+use Rattle.readback.specs.{Steps.stepsIn, Steps.stepsRead, Read.planIn}
 use Rattle.readback.specs.Law.{Gives, multiplierIn, multiplierOf, timeOf, Back}
 use Rattle.readback.proofs.{Numbers.smallest, Numbers.time-back, Decoded.steps-encoded, Fixed.settings-fixed}
 
@@ -92,18 +93,24 @@ unfolding planIn planOf
 given-in sheet reading = refl
 
 -- the bytes that a plan gives hold its steps
-pub steps-in : {sheet : List ℕ} {reading : ℕ} {q : ClockConfig} → Gives sheet reading q
+steps-in : {sheet : List ℕ} {reading : ℕ} {q : ClockConfig} → Gives sheet reading q
     → stepsIn sheet ≡ stepsOf reading (settingsOf q reading)
 unfolding sheetBytes
 steps-in {sheet} {reading} {q} g =
     rw (← g .bytes) (steps-encoded (stepsOf reading (settingsOf q reading)) (steps-formed q reading (g .accepted) (g .typed)))
+
+-- and no more steps than are read
+read-in : {sheet : List ℕ} {reading : ℕ} {q : ClockConfig} → Gives sheet reading q
+    → stepsRead sheet ≡ stepsOf reading (settingsOf q reading)
+unfolding stepsRead
+read-in {sheet} {reading} {q} g = rw (steps-in g) (take-all maxSteps _ (steps-few reading (settingsOf q reading)))
 
 -- where some plan gives the bytes, it is the plan of that plan's settings
 pub plan-in : {sheet : List ℕ} {reading : ℕ} {q : ClockConfig} → Gives sheet reading q
     → planIn sheet reading ≡ planOf (settingsOf q reading)
 unfolding planIn
 plan-in {sheet} {reading} {q} g =
-    rw (steps-in g, settings-back q reading (g .accepted), settings-fixed q reading (g .accepted) (g .typed))
+    rw (read-in g, settings-back q reading (g .accepted), settings-fixed q reading (g .accepted) (g .typed))
 
 module _ {sheet : List ℕ} {reading : ℕ} where
   -- the plan made of the bytes has the settings of every plan that gives them

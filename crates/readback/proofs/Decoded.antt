@@ -10,7 +10,7 @@ use Rattle.sheet_steps.specs.Steps.{step0}
 use Rattle.sheet.specs.Read.{stepAt}
 use Rattle.readback.specs.Steps.{stepOr, stepsFrom, stepsIn}
 
-length-from : (sheet : List ℕ) (i n : ℕ) → length (stepsFrom sheet i n) ≡ n
+pub length-from : (sheet : List ℕ) (i n : ℕ) → length (stepsFrom sheet i n) ≡ n
 length-from sheet i zero = refl
 length-from sheet i (suc n) = ap suc (length-from sheet (suc i) n)
 
@@ -21,7 +21,7 @@ at-from sheet i (suc n) (suc k) h =
     let e : suc i + k ≡ i + suc k = omega arith in
     at-from sheet (suc i) n k (omega arith) ∙ ap (λ (j : ℕ). stepOr (readAt sheet (8 * j))) e
 
-past-end : (xs : List Step) (k : ℕ) → length xs ≤ k → stepAt xs k ≡ step0 0
+pub past-end : (xs : List Step) (k : ℕ) → length xs ≤ k → stepAt xs k ≡ step0 0
 past-end [] k h = refl
 past-end (x ∷ xs) zero h = absurd (omega arith)
 past-end (x ∷ xs) (suc k) h = past-end xs k (omega arith)

@@ -4,6 +4,8 @@ pub mod Unique
 pub mod Decoded
 pub mod Fixed
 pub mod Canonical
+pub mod Gathered
+pub mod Sequence
 pub mod Parts
 pub mod Kept
 pub mod Right

@@ -1,27 +1,24 @@
--- Steps seen from a place of a sheet, and a part that is gone on from.
+-- The parts of a sheet, each read of the steps behind the one before it.
 use mathlib.Core.{Path._≡_, Path.refl, List.List}
-use Prim.Native.Nat.{ℕ, _+_}
-use lib.{ListN.drop, Seq.getD-drop, Seq.drop-drop}
+use Prim.Native.Nat.{ℕ}
+use lib.ListN.{drop}
 use borrow.Author.Tests.{eq-eqb}
 use Rattle.config.specs.declared.{OptionPll.OptionPll, ChipConfig.ChipConfig}
 use Rattle.config.specs.Board.{boardOf}
 use Rattle.settings.specs.declared.{OptionCrystal.the-variants.Some as crystal, Settings.Settings}
 use Rattle.step.specs.declared.Step.{Step}
-use Rattle.sheet_steps.specs.Steps.{step0}
 use Rattle.sheet.specs.Read.{Part, part, _then_, stepAt, readPll, readCrystal, pastTick, readRtc, settingsFrom}
 use Rattle.chip.specs.declared.{Chip.Chip, Chip.the-variants.Rp2040, Chip.the-variants.Rp235x}
 use Rattle.settings.specs.Codes.{chipFrom}
-use Rattle.readback.specs.Steps.{stepsIn, valueIn, restIn}
+use Rattle.readback.specs.declared.held.Steps.{Steps}
+use Rattle.readback.specs.Steps.{held, valueIn, restIn}
 use Rattle.readback.specs.Parse.{cutPart, Reads, ticks, chipTaken, ringTaken, voltageTaken, crystalTaken, refTaken}
 use Rattle.readback.specs.Parse.{sysTaken, periTaken, usbTaken, adcTaken}
-
-pub from-at : (xs : List Step) (at k : ℕ) → stepAt (drop at xs) k ≡ stepAt xs (at + k)
-from-at xs at k = getD-drop at xs k (step0 0)
 
 then-is : {A B : Type 0} (p : Part A) (f : A → List Step → B) → (p then f) ≡ f (valueIn p) (restIn p)
 then-is (part a rest) f = refl
 
--- what a part sets and the steps after it, where the steps ys that it is read from are those from a place on
+-- what a part sets and the steps after it
 pub record Goes {A : Type 0} (cut : A → A) (p : Part A) (a : A) (after : List Step) : Type 0 where
   pub value : a ≡ cut (valueIn p)
   pub rest : restIn p ≡ after
@@ -30,10 +27,9 @@ part-is : {A : Type 0} (cut : A → A) (p : Part A) (a : A) (rest : List Step) �
     → Goes cut p a rest
 part-is cut (part b ys) a rest e = record { value = cc; rest = cc }
 
-pub goes-on : {A : Type 0} {read : List Step → Part A} {cut : A → A} {sheet : List ℕ} {at end : ℕ} {a : A}
-    {ys : List Step} → Reads read cut sheet at a end → ys ≡ drop at (stepsIn sheet)
-    → Goes cut (read ys) a (drop end (stepsIn sheet))
-goes-on {A} {read} {cut} {sheet} {at} {end} {a} {ys} r e = rw e (part-is cut _ a _ (r .there))
+pub goes-on : {A : Type 0} (read : List Step → Part A) (cut : A → A) (s : Steps) (a : A) (rest : Steps) {ys : List Step}
+    → Reads read cut s a rest → ys ≡ held s → Goes cut (read ys) a (held rest)
+goes-on read cut s a rest r e = rw e (part-is cut _ a _ r)
 
 module _ (xs : List Step) where
   abbrev sysPll : Part OptionPll
@@ -55,9 +51,9 @@ module _ (xs : List Step) where
       (restIn usbPll)
   crystal-there e = rw (eq-eqb _ _ e, then-is sysPll, then-is usbPll)
 
-pub past-tick : (chip : Chip) (n : ℕ) (xs : List Step) → pastTick chip (drop n xs) ≡ drop (n + ticks chip) xs
-past-tick Rp2040 n xs = drop-drop 1 n xs
-past-tick Rp235x n xs = drop-drop 4 n xs
+pub past-tick : (chip : Chip) (xs : List Step) → pastTick chip xs ≡ drop (ticks chip) xs
+past-tick Rp2040 xs = refl
+past-tick Rp235x xs = refl
 
 -- the chip's part of the plan
 abbrev pub chipThere : ℕ → List Step → ChipConfig

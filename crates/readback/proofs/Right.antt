@@ -1,14 +1,14 @@
 -- What is answered is what the law asks for, and nothing else is: `readback-one`.
 use mathlib.Core.{Path._≡_, Path.refl, Path.sym, Path.ap, Path._∙_, Bool.Bool, Bool.true, Bool.false, List.List, List._++_}
-use Prim.Native.Nat.{ℕ, _%_, _^_, _≤_, _<_}
+use Prim.Native.Nat.{ℕ, _/_, _%_, _^_, _≤_, _<_}
 use native.Mathlib.{Nat.mod-lt, Omega.arith}
-use lib.{Pow.pow-pos, Dec.ltb}
-use borrow.Author.Tests.{eqb-true, eq-eqb, ltb-true, ltb-false}
+use lib.{Pow.pow-pos, ListN.length, ListN.getD, Dec.ltb, Dec.eqb}
+use borrow.Author.Tests.{eqb-true, eq-eqb, ltb-true, ltb-false, le-leb}
 use Rattle.base.specs.{Choice.pick, Answer.Answer, Answer.value, Answer.refusal}
 use Rattle.base.proofs.Bools.{both-true}
 use Rattle.text.proofs.Same.{same-true}
 use Rattle.text.proofs.Same.{same-refl}
-use Rattle.readback.proofs.Canonical.{steps-in, plan-in, gives-in, back-in}
+use Rattle.readback.proofs.Canonical.{plan-in, gives-in, back-in}
 use Rattle.readback.proofs.Unique.{readback-one}
 use Rattle.config.specs.declared.{ClockConfig.ClockConfig, OptionRosc.OptionRosc}
 use Rattle.config.specs.declared.OptionRosc.the-variants.{Some as ring, None as noRing}
@@ -28,9 +28,11 @@ use Rattle.refusals.proofs.Accepted.{accepted-by}
 use Rattle.sheet.proofs.{Stores.ring-source, Demand3.same-sheets}
 use Rattle.refusals.specs.Refusals.{Accepted}
 use Rattle.step.specs.declared.Step.{Step}
+use Rattle.step.proofs.Sheets.{length-encoded}
 use Rattle.sheet_steps.specs.Steps.{markSteps, headPart, stepsOf}
-use Rattle.sheet.specs.{Read.readChip, Writer.sheetBytes, Writer.refusalIn}
-use Rattle.readback.specs.Steps.{valueIn, topReading}
+use Rattle.step.specs.{Sheet.encoded, Steps.packOf, Layout.rows, Layout.width, Layout.widths, Bytes.bytes8}
+use Rattle.sheet.specs.{Writer.sheetBytes, Writer.refusalIn}
+use Rattle.readback.specs.Steps.{chipIn, topReading}
 use Rattle.readback.specs.Cut.{cutRing, cutCrystal, cutRtc, cutChip, cutSettings}
 use Rattle.least_plan.specs.Plan.{xoscFor, planOf}
 use Rattle.readback.specs.Law.{Gives, ReadBack, over, none, back}
@@ -108,20 +110,41 @@ module _ (sheet : List ℕ) (reading : ℕ) where
   pub read-only : (a : Answer ClockConfig) → ReadBack sheet reading a → a ≡ readOf sheet reading
   read-only a l = readback-one l read-right
 
-mark-there : (chip : Chip) (ys : List Step) → valueIn (readChip (markSteps chip ++ (headPart chip ++ ys))) ≡ chip
-unfolding headPart
-mark-there Rp2040 ys = refl
-mark-there Rp235x ys = refl
+marked : Chip → Bool
+marked Rp2040 = false
+marked Rp235x = true
 
-chip-there : (reading : ℕ) (s : Settings) → valueIn (readChip (stepsOf reading s)) ≡ s .board .chip
+-- the first byte of a chip's sheet holds the kind of its first step
+first-kind : (chip : Chip) (ys : List Step)
+    → eqb (getD (encoded (markSteps chip ++ (headPart chip ++ ys))) 0 0 / 4) 38 ≡ marked chip
+unfolding headPart encoded packOf widths width rows bytes8 marked
+first-kind Rp2040 ys = refl
+first-kind Rp235x ys = refl
+
+one-step : (chip : Chip) (ys : List Step) → 0 < length (markSteps chip ++ (headPart chip ++ ys))
+unfolding headPart
+one-step Rp2040 ys = omega arith
+one-step Rp235x ys = omega arith
+
+by-mark : (chip : Chip) → pick (marked chip) Rp235x Rp2040 ≡ chip
+unfolding marked
+by-mark Rp2040 = refl
+by-mark Rp235x = refl
+
+mark-there : (chip : Chip) (ys : List Step) → chipIn (encoded (markSteps chip ++ (headPart chip ++ ys))) ≡ chip
+mark-there chip ys =
+    let xs : List Step = markSteps chip ++ (headPart chip ++ ys) in
+    rw (le-leb 8 (length (encoded xs)) (omega (arith, length-encoded xs, one-step chip ys)), first-kind chip ys) (by-mark chip)
+
+chip-there : (reading : ℕ) (s : Settings) → chipIn (encoded (stepsOf reading s)) ≡ s .board .chip
 unfolding stepsOf
 chip-there reading s = mark-there (s .board .chip) _
 
 top-there : {sheet : List ℕ} {reading : ℕ} {q : ClockConfig} → Gives sheet reading q
     → topReading sheet ≡ factsOf (boardOf (q .chip) .chip) .«top_reading»
-unfolding topReading
+unfolding topReading sheetBytes
 top-there {sheet} {reading} {q} g =
-    ap (λ (xs : List Step). factsOf (valueIn (readChip xs)) .«top_reading») (steps-in g)
+    ap (λ (xs : List ℕ). factsOf (chipIn xs) .«top_reading») (sym (g .bytes))
     ∙ ap (λ (k : Chip). factsOf k .«top_reading») (chip-there reading (settingsOf q reading))
 
 -- a sheet that an accepted plan gives is never answered with 18

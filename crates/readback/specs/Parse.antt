@@ -1,6 +1,6 @@
--- Inside: parts of a sheet as the code reads them: a value, and the place of the step behind the part.
+-- Inside: parts of a sheet as the code reads them: a value, and the steps behind the part.
 use mathlib.Core.{Path._≡_, List.List}
-use Prim.Native.Nat.{ℕ, _+_, _-_, _≤_}
+use Prim.Native.Nat.{ℕ, _-_}
 use lib.ListN.{drop}
 use Rattle.chip.specs.declared.{Chip.Chip, Chip.the-variants.Rp2040, Chip.the-variants.Rp235x}
 use Rattle.config.specs.declared.{OptionRosc.OptionRosc, OptionPll.OptionPll, OptionPeri.OptionPeri, OptionAux.OptionAux}
@@ -8,8 +8,8 @@ use Rattle.config.specs.declared.RefClkConfig.{RefClkConfig}
 use Rattle.settings.specs.declared.OptionCrystal.{OptionCrystal}
 use Rattle.chip.specs.Chips.{factsOf}
 use Rattle.step.specs.Kinds as kind
-use Rattle.readback.specs.{Cut.cutRing, Cut.cutCrystal, Steps.stepsIn, Steps.valueIn, Steps.restIn}
-use Rattle.readback.specs.declared.{oscillators.VoltageSteps.VoltageSteps, oscillators.Oscillators.Oscillators}
+use Rattle.readback.specs.{Cut.cutRing, Cut.cutCrystal, Steps.held, Steps.valueIn, Steps.restIn}
+use Rattle.readback.specs.declared.{held.Steps.Steps, oscillators.VoltageSteps.VoltageSteps, oscillators.Oscillators.Oscillators}
 use Rattle.readback.specs.declared.clocks.SysRead.{SysRead}
 use Rattle.step.specs.declared.Step.{Step}
 use Rattle.settings.specs.Codes.{rangeFrom}
@@ -20,11 +20,9 @@ use Rattle.sheet.specs.Read.{readSys, readPeri, readAux}
 abbrev pub cutPart : {A : Type 0} → (A → A) → Part A → Part A
 cutPart cut (part a rest) = part (cut a) rest
 
--- what is read from step at of the sheet on, cut to its types, and where it ends
-pub record Reads {A : Type 0} (read : List Step → Part A) (cut : A → A) (sheet : List ℕ) (at : ℕ) (a : A)
-    (end : ℕ) : Type 0 where
-  pub there : cutPart cut (read (drop at (stepsIn sheet))) ≡ part a (drop end (stepsIn sheet))
-  pub near : end ≤ at + 21
+-- what is read of the steps held, cut to its types, and the steps behind it
+abbrev pub Reads : {A : Type 0} → (List Step → Part A) → (A → A) → Steps → A → Steps → Type 0
+Reads read cut s a rest = cutPart cut (read (held s)) ≡ part a (held rest)
 
 -- the ring of its five steps
 abbrev pub ringFrom : ℕ → Step → Step → Step → Step → Step → OptionRosc
@@ -85,11 +83,11 @@ usbTaken reading xs = readAux kind.usb-divider (restIn (periTaken reading xs))
 unfoldable pub adcTaken : ℕ → List Step → Part OptionAux
 adcTaken reading xs = readAux kind.adc-divider (restIn (usbTaken reading xs))
 
--- the first four, and where they end
-pub record Oscillating (sheet : List ℕ) (reading : ℕ) (o : Oscillators) : Type 0 where
-  pub chip : o .chip ≡ valueIn (chipTaken (stepsIn sheet))
-  pub rosc : o .rosc ≡ cutRing (valueIn (ringTaken (stepsIn sheet)))
-  pub voltage : voltageAt (o .voltage) ≡ valueIn (voltageTaken reading (stepsIn sheet))
-  pub xosc : o .xosc ≡ cutCrystal (valueIn (crystalTaken reading (stepsIn sheet)))
-  pub rest : restIn (crystalTaken reading (stepsIn sheet)) ≡ drop (o .at) (stepsIn sheet)
-  pub near : o .at ≤ 100
+-- the first four, and the steps behind them
+pub record Oscillating (s : Steps) (reading : ℕ) (o : Oscillators) : Type 0 where
+  pub chip : o .chip ≡ valueIn (chipTaken (held s))
+  pub rosc : o .rosc ≡ cutRing (valueIn (ringTaken (held s)))
+  pub code : o .code ≡ valueIn (voltageTaken reading (held s)) .code
+  pub settling : o .settling ≡ valueIn (voltageTaken reading (held s)) .settling
+  pub xosc : o .xosc ≡ cutCrystal (valueIn (crystalTaken reading (held s)))
+  pub rest : restIn (crystalTaken reading (held s)) ≡ held (o .rest)

@@ -8,11 +8,11 @@ use Rattle.text.specs.Ascii.{same}
 use Rattle.config.specs.declared.ClockConfig.{ClockConfig}
 use Rattle.sheet.specs.{Read.settingsFrom, Writer.sheetBytes, Writer.refusalIn}
 use Rattle.least_plan.specs.Plan.{planOf}
-use Rattle.readback.specs.{Steps.stepsIn, Steps.topReading, Cut.cutSettings}
+use Rattle.readback.specs.{Steps.stepsRead, Steps.topReading, Cut.cutSettings}
 
 -- the plan made of what the bytes hold
 unfoldable pub planIn : List ℕ → ℕ → ClockConfig
-planIn sheet reading = planOf (cutSettings (settingsFrom reading (stepsIn sheet)))
+planIn sheet reading = planOf (cutSettings (settingsFrom reading (stepsRead sheet)))
 
 -- a plan is accepted and written to the bytes
 unfoldable pub gives : List ℕ → ℕ → ClockConfig → Bool

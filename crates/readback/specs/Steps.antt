@@ -1,14 +1,18 @@
 -- The steps that a sheet's bytes hold, one for each eight bytes.
-use mathlib.Core.List.{List, [], _∷_}
-use Prim.Native.Nat.{ℕ, zero, suc, _+_, _*_, _/_, _%_, _^_}
-use lib.ListN.{length}
-use Rattle.base.specs.Answer.{Answer, value, refusal}
-use Rattle.chip.specs.declared.Chip.{Chip}
+use mathlib.Core.{Bool._&&_, List.List, List.[], List._∷_}
+use Prim.Native.Nat.{ℕ, zero, suc, _+_, _*_, _/_, min}
+use lib.{ListN.length, ListN.take, ListN.drop, ListN.set, ListN.replicate, ListN.getD, Dec.ltb, Dec.leb, Dec.eqb}
+use denote.Ref.{now}
+use Rattle.base.specs.{Answer.Answer, Answer.value, Answer.refusal, Choice.pick}
+use Rattle.chip.specs.declared.{Chip.Chip, Chip.the-variants.Rp2040, Chip.the-variants.Rp235x}
 use Rattle.chip.specs.Chips.{factsOf}
+use Rattle.step.specs.Kinds as kind
 use Rattle.step.specs.declared.Step.{Step}
 use Rattle.step.specs.Access.{readAt}
 use Rattle.sheet_steps.specs.Steps.{step0}
-use Rattle.sheet.specs.Read.{Part, part, readChip}
+use Rattle.step.specs.Sheet.{maxSteps}
+use Rattle.sheet.specs.Read.{Part, part, stepAt}
+use Rattle.readback.specs.declared.{Reader.Reader, Taken.Taken, held.Steps.Steps}
 
 -- the step of an answer; where it is refused one of kind 0, which no step has
 abbrev pub stepOr : Answer Step → Step
@@ -23,9 +27,40 @@ stepsFrom sheet i (suc n) = stepOr (readAt sheet (8 * i)) ∷ stepsFrom sheet (s
 unfoldable pub stepsIn : List ℕ → List Step
 stepsIn sheet = stepsFrom sheet 0 (length sheet / 8)
 
--- the place behind a step's; no sheet reaches 2 ^ 62
-abbrev pub nextPlace : ℕ → ℕ
-nextPlace at = at % 2 ^ 62 + 1
+-- what is taken at a place, and the place behind it; at the end a step of kind 0, and the place stays
+unfoldable pub takenAt : List ℕ → ℕ → Taken
+takenAt sheet at =
+    record { step = stepAt (stepsIn sheet) at; at = pick (ltb at (length sheet / 8)) (at + 1) at }
+
+-- what a reader gives next, and the reader behind it
+abbrev pub nextStep : Reader → Step
+nextStep r = takenAt (now (r .sheet)) (r .at) .step
+
+abbrev pub moved : Reader → Reader
+moved r = record { sheet = r .sheet; at = takenAt (now (r .sheet)) (r .at) .at }
+
+-- what a reader gives, step after step, in so many calls
+unfoldable pub nexts : ℕ → Reader → List Step
+nexts zero r = []
+nexts (suc n) r = nextStep r ∷ nexts n (moved r)
+
+-- the steps that are read of a sheet: as many as a plan's sheet can have
+abbrev pub countOf : List ℕ → ℕ
+countOf sheet = min (length sheet / 8) maxSteps
+
+unfoldable pub stepsRead : List ℕ → List Step
+stepsRead sheet = take maxSteps (stepsIn sheet)
+
+-- steps that are held: none, one more where there is room, and those that are not behind
+unfoldable pub noSteps : Steps
+noSteps = record { steps = replicate maxSteps (step0 0); count = 0; at = 0 }
+
+unfoldable pub added : Steps → Step → Steps
+added s x =
+    pick (ltb (s .count) maxSteps) (record { steps = set (s .steps) (s .count) x; count = s .count + 1; at = s .at }) s
+
+unfoldable pub held : Steps → List Step
+held s = drop (s .at) (take (min (s .count) maxSteps) (s .steps))
 
 -- what a part sets, and the steps after it
 abbrev pub valueIn : {A : Type 0} → Part A → A
@@ -34,9 +69,9 @@ valueIn (part a rest) = a
 abbrev pub restIn : {A : Type 0} → Part A → List Step
 restIn (part a rest) = rest
 
--- a first step of kind 38 means RP235x, anything else RP2040
+-- the six kind bits of a first step, 38, mean RP235x, anything else RP2040; fewer than 8 bytes have no first step
 abbrev pub chipIn : List ℕ → Chip
-chipIn sheet = valueIn (readChip (stepsIn sheet))
+chipIn sheet = pick (leb 8 (length sheet) && eqb (getD sheet 0 0 / 4) kind.chip-mark) Rp235x Rp2040
 
 -- the greatest reading of that chip, 15 or 31
 unfoldable pub topReading : List ℕ → ℕ

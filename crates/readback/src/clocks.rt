@@ -1,6 +1,8 @@
 // The clocks and the chip's part of a plan, as a sheet's steps hold them.
 use crate::codes;
-use crate::parse::ahead;
+use crate::held::Steps;
+use crate::held::ahead;
+use crate::held::past;
 use chip::Chip;
 use config::AuxClkConfig;
 use config::ChipConfig;
@@ -14,55 +16,52 @@ use config::RtcClkConfig;
 use config::SysClkSrc;
 use step::kind;
 ghost use mathlib.Core.Path.{_≡_};
-ghost use Prim.Native.Nat.{_≤_};
-ghost use lib.ListN.{drop};
 ghost use Rattle.settings.specs.Codes.{chipFrom};
 ghost use Rattle.sheet.specs.Read.{readRef, readSys, readPeri, readAux, readRtc};
-ghost use Rattle.readback.specs.Steps.{stepsIn};
+ghost use Rattle.readback.specs.Steps.{held};
 ghost use Rattle.readback.specs.Cut.{cutRef, cutAux, cutRtc, cutChip};
 ghost use Rattle.readback.specs.Parse.{Reads, ticks, sysAt};
 
-// Each part, and the place of the step behind it.
+// Each part, and the steps behind it.
 pub struct RefRead {
     pub reference: RefClkConfig,
-    pub at: usize,
+    pub rest: Steps,
 }
 
 pub struct SysRead {
     pub src: SysClkSrc,
     pub whole: u64,
     pub fraction: u64,
-    pub at: usize,
+    pub rest: Steps,
 }
 
 pub struct PeriRead {
     pub peri: OptionPeri,
-    pub at: usize,
+    pub rest: Steps,
 }
 
 pub struct AuxRead {
     pub aux: OptionAux,
-    pub at: usize,
+    pub rest: Steps,
 }
 
-pub(crate) fn read_ref(sheet: &[u8], at: usize) -> RefRead
-    requires { ⌜ at ≤ 400 ⌝ }
-    ensures { λ r. ⌜ Reads readRef cutRef (now (sheet .entry)) at (r .reference) (r .at) ⌝ }
+pub(crate) fn read_ref(s: Steps) -> RefRead
+    ensures { λ r. ⌜ Reads readRef cutRef s (r .reference) (r .rest) ⌝ }
 {
-    let control = ahead(sheet, at, 1);
-    let divider = ahead(sheet, at, 3);
+    let control = ahead(s, 1);
+    let divider = ahead(s, 3);
     RefRead {
         reference: RefClkConfig {
             src: settings::ref_from(control.f0),
             div: codes::div_from(divider.f0),
         },
-        at: at + 4,
+        rest: past(s, 4),
     }
 }
 
 // The steps of the tick.
-pub(crate) fn ticks(chip: Chip) -> usize
-    ensures { λ r. ⌜ (r ≡ ticks chip) × (r ≤ 4) ⌝ }
+pub(crate) fn ticks(chip: Chip) -> u8
+    ensures { λ r. ⌜ r ≡ ticks chip ⌝ }
 {
     match chip {
         Chip::Rp2040 => 1,
@@ -71,77 +70,73 @@ pub(crate) fn ticks(chip: Chip) -> usize
 }
 
 // Unless the source is the reference clock, there is a second pair of control and wait.
-pub(crate) fn read_sys(sheet: &[u8], at: usize) -> SysRead
-    requires { ⌜ at ≤ 400 ⌝ }
-    ensures { λ r. ⌜ Reads readSys (λ s. s) (now (sheet .entry)) at (sysAt r) (r .at) ⌝ }
+pub(crate) fn read_sys(s: Steps) -> SysRead
+    ensures { λ r. ⌜ Reads readSys (λ s. s) s (sysAt r) (r .rest) ⌝ }
 {
-    let fourth = ahead(sheet, at, 3);
+    let fourth = ahead(s, 3);
     if fourth.kind != kind::SYS_CONTROL {
         return SysRead {
             src: SysClkSrc::Ref,
             whole: fourth.f0,
             fraction: fourth.f1,
-            at: at + 4,
+            rest: past(s, 4),
         };
     }
-    let divider = ahead(sheet, at, 5);
+    let divider = ahead(s, 5);
     SysRead {
         src: settings::sys_from(fourth.f0),
         whole: divider.f0,
         fraction: divider.f1,
-        at: at + 6,
+        rest: past(s, 6),
     }
 }
 
-pub(crate) fn read_peri(sheet: &[u8], at: usize) -> PeriRead
-    requires { ⌜ at ≤ 400 ⌝ }
-    ensures { λ r. ⌜ Reads readPeri (λ p. p) (now (sheet .entry)) at (r .peri) (r .at) ⌝ }
+pub(crate) fn read_peri(s: Steps) -> PeriRead
+    ensures { λ r. ⌜ Reads readPeri (λ p. p) s (r .peri) (r .rest) ⌝ }
 {
-    let control = ahead(sheet, at, 0);
+    let control = ahead(s, 0);
     if control.kind != kind::PERI_CONTROL {
         return PeriRead {
             peri: OptionPeri::None,
-            at: at + 1,
+            rest: past(s, 1),
         };
     }
     PeriRead {
         peri: OptionPeri::Some(settings::peri_from(control.f0)),
-        at: at + 2,
+        rest: past(s, 2),
     }
 }
 
 // The USB clock or the ADC clock, by the kind of its divider's step.
-pub(crate) fn read_aux(sheet: &[u8], at: usize, divider_kind: u8) -> AuxRead
-    requires { ⌜ at ≤ 400 ⌝ }
-    ensures { λ r. ⌜ Reads (readAux «divider_kind») cutAux (now (sheet .entry)) at (r .aux) (r .at) ⌝ }
+pub(crate) fn read_aux(s: Steps, divider_kind: u8) -> AuxRead
+    ensures { λ r. ⌜ Reads (readAux «divider_kind») cutAux s (r .aux) (r .rest) ⌝ }
 {
-    let divider = ahead(sheet, at, 0);
+    let divider = ahead(s, 0);
     if divider.kind != divider_kind {
         return AuxRead {
             aux: OptionAux::None,
-            at: at + 1,
+            rest: past(s, 1),
         };
     }
-    let control = ahead(sheet, at, 1);
+    let control = ahead(s, 1);
     AuxRead {
         aux: OptionAux::Some(AuxClkConfig {
             src: settings::aux_from(control.f1),
             div: codes::div_from(divider.f0),
             phase: codes::cut8(control.f0),
         }),
-        at: at + 3,
+        rest: past(s, 3),
     }
 }
 
-fn read_rtc(sheet: &[u8], at: usize) -> OptionRtc
-    requires { ⌜ at ≤ 400 ⌝ }
-    ensures { λ r. ⌜ r ≡ cutRtc (readRtc (drop at (stepsIn (now (sheet .entry))))) ⌝ }
+fn read_rtc(s: Steps) -> OptionRtc
+    ensures { λ r. ⌜ r ≡ cutRtc (readRtc (held s)) ⌝ }
 {
-    let divider = ahead(sheet, at, 0);
+    let divider = ahead(s, 0);
     if divider.kind != kind::RTC_DIVIDER {
         return OptionRtc::None;
     }
-    let control = ahead(sheet, at, 1);
+    let control = ahead(s, 1);
     OptionRtc::Some(RtcClkConfig {
         src: settings::aux_from(control.f1),
         div_int: codes::cut32(divider.f0),
@@ -150,24 +145,16 @@ fn read_rtc(sheet: &[u8], at: usize) -> OptionRtc
     })
 }
 
-// The chip's part of a plan; from step at on stands the RTC's part, where the chip has one.
-pub(crate) fn read_config(
-    sheet: &[u8],
-    at: usize,
-    chip: Chip,
-    code: u64,
-    whole: u64,
-    fraction: u64,
-) -> ChipConfig
-    requires { ⌜ at ≤ 400 ⌝ }
-    ensures { λ r. ⌜ r ≡ cutChip (chipFrom chip code whole fraction (readRtc (drop at (stepsIn (now (sheet .entry)))))) ⌝ }
+// The chip's part of a plan; the steps begin with the RTC's part, where the chip has one.
+pub(crate) fn read_config(s: Steps, chip: Chip, code: u64, whole: u64, fraction: u64) -> ChipConfig
+    ensures { λ r. ⌜ r ≡ cutChip (chipFrom chip code whole fraction (readRtc (held s))) ⌝ }
 {
     match chip {
         Chip::Rp2040 => ChipConfig::Rp2040(Rp2040Config {
             core_voltage: codes::voltage_from(code),
             div_int: codes::cut32(whole),
             div_frac: codes::cut8(fraction),
-            rtc_clk: read_rtc(sheet, at),
+            rtc_clk: read_rtc(s),
         }),
         Chip::Rp235x => ChipConfig::Rp235x(Rp235xConfig {
             core_voltage: codes::voltage_from_235(code),

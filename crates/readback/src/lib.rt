@@ -1,78 +1,96 @@
 // A sheet's bytes read back: the plan that gives them.
 mod clocks;
 mod codes;
+mod held;
 mod oscillators;
 mod parse;
 
+use crate::held::Steps;
 use base::Length;
+use chip::Chip;
 use config::ClockConfig;
 use config::Planned;
 use step::MAX_BYTES;
+use step::MAX_STEPS;
 use step::Step;
 use step::Unpacked;
+use step::kind;
 ghost use mathlib.Core.Path.{_≡_};
 ghost use Rattle.text.specs.Ascii.{same};
-ghost use Rattle.sheet_steps.specs.Steps.{step0};
-ghost use Rattle.sheet.specs.Read.{stepAt};
 ghost use Rattle.config.specs.Presets.{plannedIs};
-ghost use Rattle.readback.specs.Steps.{stepsIn, nextPlace, topReading};
+ghost use Rattle.readback.specs.Steps.{takenAt, nextStep, moved, countOf, stepsRead, held, chipIn, topReading};
 ghost use Rattle.readback.specs.Read.{gives, readOf};
 
-// A sheet's bytes, and the step that is next.
+// A sheet's bytes, and the place of the step that is next.
 pub struct Reader<'a> {
     pub sheet: &'a [u8],
     pub at: usize,
 }
 
-// No step has kind 0.
-fn no_step() -> Step
-    ensures { λ r. ⌜ r ≡ step0 0 ⌝ }
-{
-    Step {
-        kind: 0,
-        f0: 0,
-        f1: 0,
-        f2: 0,
-        f3: 0,
-        f4: 0,
-    }
+// A step, and the place behind it.
+pub struct Taken {
+    pub step: Step,
+    pub at: usize,
 }
 
-// The work: a step of the sheet, one of kind 0 where there is none.
-pub fn step_at(sheet: &[u8], at: usize) -> Step
-    ensures { λ r. ⌜ r ≡ stepAt (stepsIn (now (sheet .entry))) at ⌝ }
+// The work: the step at a place of a sheet and the place behind it; at the end one of kind 0, and the place stays.
+pub fn take(sheet: &[u8], at: usize) -> Taken
+    ensures { λ r. ⌜ r ≡ takenAt (now (sheet .entry)) at ⌝ }
 {
     if sheet.len() / 8 <= at {
-        return no_step();
+        return Taken {
+            step: held::no_step(),
+            at,
+        };
     }
     match step::read(sheet, 8 * at) {
-        Unpacked::Step(s) => s,
-        Unpacked::Refused(_) => no_step(),
+        Unpacked::Step(s) => Taken {
+            step: s,
+            at: at + 1,
+        },
+        Unpacked::Refused(_) => Taken {
+            step: held::no_step(),
+            at: at + 1,
+        },
     }
 }
 
-pub fn new<'a>(sheet: &'a [u8], at: usize) -> Reader<'a>
-    ensures { λ r. ⌜ (r .sheet ≡ sheet .entry) × (r .at ≡ at) ⌝ }
+// At the first step.
+pub fn new<'a>(sheet: &'a [u8]) -> Reader<'a>
+    ensures { λ r. ⌜ (r .sheet ≡ sheet .entry) × (r .at ≡ 0) ⌝ }
 {
-    Reader { sheet, at }
+    Reader { sheet, at: 0 }
 }
 
-// The step that is next; the reader moves on to the one behind it. No sheet has 2 ^ 62 steps.
+// The step that is next; the reader moves on to the one behind it, and stops at the end.
 pub fn next<'s, 'a>(r: &'s mut Reader<'a>) -> Step
-    ensures { λ s. ⌜ (s ≡ stepAt (stepsIn (now (now (r .entry) .sheet))) (now (r .entry) .at)) × (now (r .exit) .sheet ≡ now (r .entry) .sheet) × (now (r .exit) .at ≡ nextPlace (now (r .entry) .at)) ⌝ }
+    ensures { λ s. ⌜ (s ≡ nextStep (now (r .entry))) × (now (r .exit) ≡ moved (now (r .entry))) ⌝ }
 {
     let at = r.at;
-    let step = step_at(r.sheet, at);
-    r.at = at % 4611686018427387904 + 1;
-    step
+    let t = take(r.sheet, at);
+    r.at = t.at;
+    t.step
 }
 
-// The step of a sheet at a place.
-pub(crate) fn taken(sheet: &[u8], at: usize) -> Step
-    ensures { λ r. ⌜ r ≡ stepAt (stepsIn (now (sheet .entry))) at ⌝ }
+// How many steps of a sheet are read: no plan's sheet has more.
+fn count_of(sheet: &[u8]) -> usize
+    ensures { λ r. ⌜ r ≡ countOf (now (sheet .entry)) ⌝ }
 {
-    let mut r = new(sheet, at);
-    next(&mut r)
+    base::least(sheet.len() / 8, MAX_STEPS)
+}
+
+// One reader goes over the sheet, from its first step to its last.
+pub fn steps_of(sheet: &[u8]) -> Steps
+    ensures { λ r. ⌜ held r ≡ stepsRead (now (sheet .entry)) ⌝ }
+{
+    let mut r = new(sheet);
+    let count = count_of(sheet);
+    let mut s = held::no_steps();
+    while s.count < count {
+        let step = next(&mut r);
+        s = held::add(s, step);
+    }
+    s
 }
 
 // Whether these bytes are the sheet that was written.
@@ -93,12 +111,25 @@ fn gives(sheet: &[u8], reading: u8, plan: ClockConfig) -> bool
     }
 }
 
+// The chip whose sheet it is, by the six kind bits of the first step.
+fn chip_in(sheet: &[u8]) -> Chip
+    ensures { λ r. ⌜ r ≡ chipIn (now (sheet .entry)) ⌝ }
+{
+    if sheet.len() < 8 {
+        return Chip::Rp2040;
+    }
+    if sheet[0] / 4 == kind::CHIP_MARK {
+        Chip::Rp235x
+    } else {
+        Chip::Rp2040
+    }
+}
+
 // 15, or 31 for a sheet of the RP235x.
 fn top_reading(sheet: &[u8]) -> u8
     ensures { λ r. ⌜ r ≡ topReading (now (sheet .entry)) ⌝ }
 {
-    let mark = oscillators::read_chip(sheet);
-    let chip = mark.chip;
+    let chip = chip_in(sheet);
     let facts = chip.facts();
     facts.top_reading
 }
@@ -112,7 +143,7 @@ pub fn read_sheet(sheet: &[u8], reading: u8) -> Planned
     if top_reading(sheet) < reading {
         return Planned::Refused(18);
     }
-    let plan = least_plan::plan_of(parse::settings_in(sheet, reading));
+    let plan = least_plan::plan_of(parse::settings_in(steps_of(sheet), reading));
     if gives(sheet, reading, plan) {
         Planned::Plan(plan)
     } else {

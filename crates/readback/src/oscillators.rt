@@ -1,6 +1,8 @@
 // The chip, the ring, the voltage and the crystal with its PLLs, as a sheet's steps hold them.
 use crate::codes;
-use crate::parse::ahead;
+use crate::held::Steps;
+use crate::held::ahead;
+use crate::held::past;
 use chip::Chip;
 use config::DriveStrength;
 use config::OptionPll;
@@ -13,61 +15,61 @@ use settings::OptionCycles;
 use step::Step;
 use step::kind;
 ghost use mathlib.Core.Path.{_≡_};
-ghost use Prim.Native.Nat.{_+_, _≤_};
 ghost use Rattle.sheet.specs.Read.{readChip, readRing, readVoltage, readPll, readCrystal};
 ghost use Rattle.readback.specs.Cut.{cutRing, cutPll, cutCrystal};
 ghost use Rattle.readback.specs.Parse.{Reads, ringFrom, pllFrom, voltageAt, Oscillating};
 
-// Each part, and the place of the step behind it.
+// Each part, and the steps behind it.
 pub struct ChipMark {
     pub chip: Chip,
-    pub at: usize,
+    pub rest: Steps,
 }
 
 pub struct RingRead {
     pub rosc: OptionRosc,
-    pub at: usize,
+    pub rest: Steps,
 }
 
 pub struct VoltageSteps {
     pub code: u64,
     pub settling: OptionCycles,
-    pub at: usize,
+    pub rest: Steps,
 }
 
 pub struct PllRead {
     pub pll: OptionPll,
-    pub at: usize,
+    pub rest: Steps,
 }
 
 pub struct CrystalRead {
     pub xosc: OptionCrystal,
-    pub at: usize,
+    pub rest: Steps,
 }
 
 // All of them.
 pub struct Oscillators {
     pub chip: Chip,
     pub rosc: OptionRosc,
-    pub voltage: VoltageSteps,
+    pub code: u64,
+    pub settling: OptionCycles,
     pub xosc: OptionCrystal,
-    pub at: usize,
+    pub rest: Steps,
 }
 
 // 38 is there on the RP235x.
-pub(crate) fn read_chip(sheet: &[u8]) -> ChipMark
-    ensures { λ r. ⌜ Reads readChip (λ c. c) (now (sheet .entry)) 0 (r .chip) (r .at) ⌝ }
+pub(crate) fn read_chip(s: Steps) -> ChipMark
+    ensures { λ r. ⌜ Reads readChip (λ c. c) s (r .chip) (r .rest) ⌝ }
 {
-    let mark = ahead(sheet, 0, 0);
+    let mark = ahead(s, 0);
     if mark.kind == kind::CHIP_MARK {
         ChipMark {
             chip: Chip::Rp235x,
-            at: 1,
+            rest: past(s, 1),
         }
     } else {
         ChipMark {
             chip: Chip::Rp2040,
-            at: 0,
+            rest: s,
         }
     }
 }
@@ -95,53 +97,51 @@ fn ring_of(pass: u16, low: Step, high: Step, divider: Step, range: Step, store: 
     })
 }
 
-fn read_ring(sheet: &[u8], at: usize, pass: u16) -> RingRead
-    requires { ⌜ at ≤ 400 ⌝ }
-    ensures { λ r. ⌜ Reads (readRing pass) cutRing (now (sheet .entry)) at (r .rosc) (r .at) ⌝ }
+fn read_ring(s: Steps, pass: u16) -> RingRead
+    ensures { λ r. ⌜ Reads (readRing pass) cutRing s (r .rosc) (r .rest) ⌝ }
 {
-    let low = ahead(sheet, at, 0);
+    let low = ahead(s, 0);
     if low.kind != kind::STRENGTHS_0_3 {
         return RingRead {
             rosc: OptionRosc::None,
-            at: at + 1,
+            rest: past(s, 1),
         };
     }
-    let high = ahead(sheet, at, 1);
-    let divider = ahead(sheet, at, 2);
-    let range = ahead(sheet, at, 3);
-    let store = ahead(sheet, at, 4);
+    let high = ahead(s, 1);
+    let divider = ahead(s, 2);
+    let range = ahead(s, 3);
+    let store = ahead(s, 4);
     RingRead {
         rosc: ring_of(pass, low, high, divider, range, store),
-        at: at + 5,
+        rest: past(s, 5),
     }
 }
 
 // With no voltage step the code is the reading; the kind of that step is the chip's.
-fn read_voltage(sheet: &[u8], at: usize, voltage: u8, reading: u8) -> VoltageSteps
-    requires { ⌜ at ≤ 400 ⌝ }
-    ensures { λ r. ⌜ Reads (readVoltage voltage reading) (λ v. v) (now (sheet .entry)) at (voltageAt r) (r .at) ⌝ }
+fn read_voltage(s: Steps, voltage: u8, reading: u8) -> VoltageSteps
+    ensures { λ r. ⌜ Reads (readVoltage voltage reading) (λ v. v) s (voltageAt r) (r .rest) ⌝ }
 {
-    let set = ahead(sheet, at, 0);
+    let set = ahead(s, 0);
     if set.kind != voltage {
         return VoltageSteps {
             code: reading as u64,
             settling: OptionCycles::None,
-            at,
+            rest: s,
         };
     }
     let code = set.f0;
-    let delay = ahead(sheet, at, 1);
+    let delay = ahead(s, 1);
     if delay.kind != kind::DELAY {
         return VoltageSteps {
             code,
             settling: OptionCycles::None,
-            at: at + 2,
+            rest: past(s, 2),
         };
     }
     VoltageSteps {
         code,
         settling: OptionCycles::Some(delay.f0),
-        at: at + 3,
+        rest: past(s, 3),
     }
 }
 
@@ -158,43 +158,42 @@ fn pll_of(reference: Step, feedback: Step, posts: Step) -> OptionPll
 }
 
 // Which PLL: 0 system, 1 USB.
-fn read_pll(sheet: &[u8], at: usize, which: u64) -> PllRead
-    requires { ⌜ at ≤ 500 ⌝ }
-    ensures { λ r. ⌜ Reads (readPll which) cutPll (now (sheet .entry)) at (r .pll) (r .at) × (r .at ≤ at + 9) ⌝ }
+fn read_pll(s: Steps, which: u64) -> PllRead
+    ensures { λ r. ⌜ Reads (readPll which) cutPll s (r .pll) (r .rest) ⌝ }
 {
-    let power = ahead(sheet, at, 0);
+    let power = ahead(s, 0);
     if (power.kind == kind::PLL_POWER) & (power.f0 == which) {
-        let reference = ahead(sheet, at, 2);
-        let feedback = ahead(sheet, at, 3);
-        let posts = ahead(sheet, at, 6);
+        let reference = ahead(s, 2);
+        let feedback = ahead(s, 3);
+        let posts = ahead(s, 6);
         return PllRead {
             pll: pll_of(reference, feedback, posts),
-            at: at + 9,
+            rest: past(s, 9),
         };
     }
     PllRead {
         pll: OptionPll::None,
-        at,
+        rest: s,
     }
 }
 
 // The crystal's Hz are in the store behind its part.
-fn read_crystal(sheet: &[u8], at: usize) -> CrystalRead
-    requires { ⌜ at ≤ 400 ⌝ }
-    ensures { λ r. ⌜ Reads readCrystal cutCrystal (now (sheet .entry)) at (r .xosc) (r .at) ⌝ }
+fn read_crystal(s: Steps) -> CrystalRead
+    ensures { λ r. ⌜ Reads readCrystal cutCrystal s (r .xosc) (r .rest) ⌝ }
 {
-    let startup = ahead(sheet, at, 0);
+    let startup = ahead(s, 0);
     if startup.kind != kind::STARTUP {
         return CrystalRead {
             xosc: OptionCrystal::None,
-            at,
+            rest: s,
         };
     }
-    let sys_read = read_pll(sheet, at + 3, 0);
-    let usb_read = read_pll(sheet, sys_read.at, 1);
+    let sys_read = read_pll(past(s, 3), 0);
+    let usb_read = read_pll(sys_read.rest, 1);
     let sys = sys_read.pll;
     let usb = usb_read.pll;
-    let stored = ahead(sheet, usb_read.at, 0);
+    let rest = usb_read.rest;
+    let stored = ahead(rest, 0);
     CrystalRead {
         xosc: OptionCrystal::Some(Crystal {
             hz: codes::cut32(stored.f1),
@@ -202,27 +201,31 @@ fn read_crystal(sheet: &[u8], at: usize) -> CrystalRead
             sys,
             usb,
         }),
-        at: usb_read.at,
+        rest,
     }
 }
 
 // Past the nine steps of the head.
-pub(crate) fn oscillators_in(sheet: &[u8], reading: u8) -> Oscillators
-    ensures { λ r. ⌜ Oscillating (now (sheet .entry)) reading r ⌝ }
+pub(crate) fn oscillators_in(s: Steps, reading: u8) -> Oscillators
+    ensures { λ r. ⌜ Oscillating s reading r ⌝ }
 {
-    let mark = read_chip(sheet);
+    let mark = read_chip(s);
     let chip = mark.chip;
     let facts = chip.facts();
-    let ring = read_ring(sheet, mark.at + 9, facts.pass);
-    let voltage = read_voltage(sheet, ring.at, facts.voltage, reading);
-    let crystal = read_crystal(sheet, voltage.at);
+    let ring = read_ring(past(mark.rest, 9), facts.pass);
+    let voltage = read_voltage(ring.rest, facts.voltage, reading);
+    let crystal = read_crystal(voltage.rest);
     let rosc = ring.rosc;
+    let code = voltage.code;
+    let settling = voltage.settling;
     let xosc = crystal.xosc;
+    let rest = crystal.rest;
     Oscillators {
         chip,
         rosc,
-        voltage,
+        code,
+        settling,
         xosc,
-        at: crystal.at,
+        rest,
     }
 }

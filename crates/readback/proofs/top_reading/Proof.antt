@@ -1,11 +1,10 @@
 -- `readback::top_reading` meets its contract.
-use mathlib.Core.Path.{refl}
 use borrow.Author.Needs.{needs}
 use Rattle.readback.specs.Steps.{topReading}
-use Rattle.readback.proofs.{Parts.goes-on, top_reading.Statement.statement}
+use Rattle.readback.proofs.top_reading.Statement.{statement}
 use Rattle.readback.proofs.top_reading.Tie as tie
 
 pub top-reading-spec : {M : Type 1} → statement M
 unfolding topReading
 top-reading-spec = tie.close (tie.spec (λ c κs. search needs) (λ c κs. search needs)
-    (λ c. rw (c .facts .ensures, goes-on (c .before .read-chip .ensures) refl .value)))
+    (λ c. rw (c .facts .ensures, c .before .chip-in .ensures)))

@@ -1,52 +1,33 @@
 -- `readback::parse::settings_in` meets its contract.
-use mathlib.Core.{Path._≡_, List.List}
-use Prim.Native.Nat.{_+_}
-use denote.Ref.{now}
-use lib.{ListN.drop, Seq.drop-drop}
-use native.Mathlib.Omega.{arith}
+use mathlib.Core.{Path._≡_, Path.sym, List.List}
+use lib.ListN.{drop}
+use borrow.Author.Needs.{needs}
 use Rattle.step.specs.declared.Step.{Step}
-use Rattle.sheet.specs.Read.{pastTick}
-use Rattle.readback.specs.{Steps.stepsIn, Steps.valueIn, Steps.restIn, Cut.cutSettings}
+use Rattle.sheet.specs.Read.{pastTick, readRef, readSys, readPeri, readAux}
+use Rattle.readback.specs.{Steps.held, Steps.valueIn, Steps.restIn, Cut.cutRef, Cut.cutAux, Cut.cutSettings}
 use Rattle.readback.specs.Parse.{chipTaken, crystalTaken, refTaken, sysTaken, periTaken, usbTaken, adcTaken}
 use Rattle.readback.proofs.Parts.{goes-on, past-tick, settings-there}
 use Rattle.readback.proofs.parse.settings_in.Statement.{statement}
-use borrow.Author.Needs.{needs}
 use Rattle.readback.proofs.parse.settings_in.Tie as tie
 
-read-config-requires : tie.Need-read-config-requires
-read-config-requires c κs =
-    let usb = c .before in let peri = usb .before in let sys = peri .before in let ticks = sys .before .before in
-    let ref = ticks .before .before in let o = ref .before .before .before in
-    omega (
-      arith,
-      o .oscillators-in .ensures .near,
-      ref .read-ref .ensures .near,
-      ticks .ticks .ensures .1,
-      sys .read-sys .ensures .near,
-      peri .read-peri .ensures .near,
-      usb .read-aux .ensures .near,
-      c .read-aux2 .ensures .near,
-    )
-
-returns : tie.Need-returns
-unfolding cutSettings refTaken sysTaken periTaken usbTaken adcTaken
-returns c =
-    let config = c .before in let at-adc = config .before in let at-usb = at-adc .before in let at-peri = at-usb .before in
-    let at-sys = at-peri .before in let at-ticks = at-sys .before .before in let at-ref = at-ticks .before .before in
-    let at-o = at-ref .before .before .before in let a = at-o .before .before .args in let o = at-o .oscillators-in in
-    let is = o .ensures in let ref-at = at-ref .read-ref .result .at in
-    let xs : List Step = stepsIn (now (a .sheet)) in let stores : drop 3 (restIn (crystalTaken (a .reading) xs)) ≡ drop
-    (o .result .at + 3) xs = rw (is .rest, drop-drop) in let ref = goes-on (at-ref .read-ref .ensures) stores in
-    let tick : pastTick (valueIn (chipTaken xs)) (restIn (refTaken (a .reading) xs)) ≡ drop
-    (ref-at + at-ticks .ticks .result) xs = rw (ref .rest, ← is .chip, at-ticks .ticks .ensures .0)
-    (past-tick (o .result .chip) ref-at xs) in let sys = goes-on (at-sys .read-sys .ensures) tick in
-    let peri = goes-on (at-peri .read-peri .ensures) (sys .rest) in
-    let usb = goes-on (at-usb .read-aux .ensures) (peri .rest) in
-    let adc = goes-on (at-adc .read-aux2 .ensures) (usb .rest) in
-    rw (settings-there (a .reading) xs, adc .rest, ← adc .value, ← usb .value, ← peri .value, ← sys .value)
-    (rw (← ref .value, ← is .xosc, ← is .voltage, ← is .rosc, ← is .chip, c .board .ensures .0, ← config .read-config .ensures))
-
 pub settings-in-spec : {M : Type 1} → statement M
-settings-in-spec = tie.close (tie.spec (λ c κs. search needs) (λ c. search needs) (λ c κs. search needs)
-    (λ c κs. search needs) (λ c. search needs) (λ c κs. search needs) (λ c κs. search needs) (λ c κs. search needs)
-    (λ c κs. search needs) read-config-requires (λ c κs. search needs) returns)
+unfolding cutSettings refTaken sysTaken periTaken usbTaken adcTaken
+settings-in-spec = tie.close (tie.spec (λ c κs. search needs) (λ c κs. search needs) (λ c κs. search needs)
+    (λ c κs. search needs) (λ c κs. search needs) (λ c κs. search needs) (λ c κs. search needs) (λ c κs. search needs)
+    (λ c κs. search needs) (λ c κs. search needs) (λ c κs. search needs)
+    (λ c. let config = c .before in let at-adc = config .before in let at-usb = at-adc .before in
+    let at-peri = at-usb .before in let at-sys = at-peri .before in let at-past2 = at-sys .before in
+    let at-ticks = at-past2 .before in let at-ref = at-ticks .before .before in let at-past = at-ref .before in
+    let at-o = at-past .before in let a = at-o .before .args in let o = at-o .oscillators-in in let is = o .ensures in
+    let xs : List Step = held (a .steps) in
+    let stores : drop 3 (restIn (crystalTaken (a .reading) xs)) ≡ held (at-past .past .result) = rw (is .rest)
+    (sym (at-past .past .ensures)) in let ref = goes-on readRef cutRef _ _ _ (at-ref .read-ref .ensures) stores in
+    let tick : pastTick (valueIn (chipTaken xs)) (restIn (refTaken (a .reading) xs)) ≡ held (at-past2 .past2 .result) =
+    rw (ref .rest, ← is .chip, past-tick, ← at-ticks .ticks .ensures) (sym (at-past2 .past2 .ensures)) in
+    let sys = goes-on readSys (λ s. s) _ _ _ (at-sys .read-sys .ensures) tick in
+    let peri = goes-on readPeri (λ p. p) _ _ _ (at-peri .read-peri .ensures) (sys .rest) in
+    let usb = goes-on (readAux 31) cutAux _ _ _ (at-usb .read-aux .ensures) (peri .rest) in
+    let adc = goes-on (readAux 33) cutAux _ _ _ (at-adc .read-aux2 .ensures) (usb .rest) in
+    rw (settings-there (a .reading) xs, adc .rest, ← adc .value, ← usb .value, ← peri .value)
+    (rw (← sys .value, ← ref .value, ← is .xosc, ← is .code, ← is .settling, ← is .rosc, ← is .chip)
+    (rw (c .board .ensures .0, ← config .read-config .ensures)))))

@@ -1,0 +1,10 @@
+-- `readback::held::past` meets its contract.
+use borrow.Author.Needs.{needs}
+use Rattle.readback.specs.Steps.{held}
+use Rattle.readback.proofs.{Gathered.held-past, held.past.Statement.statement}
+use Rattle.readback.proofs.held.past.Tie as tie
+
+pub past-spec : {M : Type 1} → statement M
+unfolding held
+past-spec = tie.close (tie.spec (λ c κs. search needs) (λ c. search needs)
+    (λ c. rw (c .least .ensures) (held-past (c .before .args .s) (c .before .args .n))))
