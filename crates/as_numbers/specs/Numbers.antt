@@ -7,7 +7,6 @@ use Rattle.pll.specs.declared.PllConfig.{PllConfig}
 use Rattle.margin.specs.Margin.{Sides}
 use Rattle.chip.specs.declared.{Chip.Chip, Chip.the-variants.Rp2040, Chip.the-variants.Rp235x}
 use Rattle.voltage.specs.Voltage.{codeOf, bodOf, coreVoltageOf}
-use Rattle.voltage.specs.Voltage235.{code235Of, bod235Of, coreVoltage235Of}
 use Rattle.divider.specs.declared.GpoutDiv.{GpoutDiv}
 use Rattle.divider.specs.declared.GpoutDiv.the-variants.{Rp2040 as on2040, Rp235x as on235x}
 use Rattle.divider.specs.Gpout.{gpoutIn}
@@ -46,9 +45,8 @@ onChip f none = malformed
 abbrev pub levelNumber : ℕ → ℕ → ℕ
 levelNumber code brownout = code * 256 + brownout
 
-abbrev pub voltageNumber : Chip → ℕ → ℕ
-voltageNumber Rp2040 reading = answerNumber (λ v. levelNumber (codeOf v) (bodOf v)) (coreVoltageOf reading)
-voltageNumber Rp235x reading = answerNumber (λ v. levelNumber (code235Of v) (bod235Of v)) (coreVoltage235Of reading)
+unfoldable pub voltageNumber : Chip → ℕ → ℕ
+voltageNumber chip reading = answerNumber (λ v. levelNumber (codeOf chip v) (bodOf chip v)) (coreVoltageOf chip reading)
 
 -- a Gpout's divider: a fraction of the RP2040 has 8 bits
 abbrev pub dividerOf : ℕ → ℕ → Chip → Option GpoutDiv

@@ -8,9 +8,8 @@ use voltage::VoltageRead235;
 ghost use mathlib.Core.Path.{_≡_};
 ghost use Prim.Native.Nat.{_+_};
 ghost use Rattle.base.specs.Answer.{numberIs, lengthIs};
-ghost use Rattle.voltage.specs.Voltage.{codeOf, bodOf};
-ghost use Rattle.voltage.specs.Voltage235.{code235Of, bod235Of};
-ghost use Rattle.voltage.specs.Answers.{voltageReadIs, voltageRead235Is};
+ghost use Rattle.chip.specs.declared.Chip.the-variants.{Rp2040, Rp235x};
+ghost use Rattle.voltage.specs.Voltage.{codeOf, bodOf, readIs};
 ghost use Rattle.pll.specs.Search.{foundIs};
 ghost use Rattle.margin.specs.Margin.{limitIs};
 ghost use Rattle.as_numbers.specs.Numbers.{answerNumber, itself, settingNumber, levelNumber, voltageNumber, limitNumber};
@@ -73,7 +72,7 @@ pub fn chip(number: u8) -> OptionChip
 }
 
 fn voltage_read(answer: VoltageRead) -> u64
-    ensures { λ r. ⌜ r ≡ answerNumber (λ v. levelNumber (codeOf v) (bodOf v)) (voltageReadIs answer) ⌝ }
+    ensures { λ r. ⌜ r ≡ answerNumber (λ v. levelNumber (codeOf Rp2040 v) (bodOf Rp2040 v)) (readIs Rp2040 answer) ⌝ }
 {
     match answer {
         VoltageRead::Voltage(v) => v.code() as u64 * 256 + v.recommended_bod() as u64,
@@ -82,7 +81,7 @@ fn voltage_read(answer: VoltageRead) -> u64
 }
 
 fn voltage_read_235(answer: VoltageRead235) -> u64
-    ensures { λ r. ⌜ r ≡ answerNumber (λ v. levelNumber (code235Of v) (bod235Of v)) (voltageRead235Is answer) ⌝ }
+    ensures { λ r. ⌜ r ≡ answerNumber (λ v. levelNumber (codeOf Rp235x v) (bodOf Rp235x v)) (readIs Rp235x answer) ⌝ }
 {
     match answer {
         VoltageRead235::Voltage(v) => v.code() as u64 * 256 + v.recommended_bod() as u64,

@@ -3,7 +3,7 @@ use Prim.Native.Nat.{ℕ, _<_}
 use Rattle.chip.specs.declared.{Chip.Chip, Chip.the-variants.Rp2040, Chip.the-variants.Rp235x}
 use Rattle.chip.specs.Chips.{factsOf}
 use Rattle.voltage.specs.declared.Volts.{Volts}
-use Rattle.voltage.specs.{Voltage.voltsOf, Voltage235.volts235Of}
+use Rattle.voltage.specs.Voltage.{voltsOf}
 use Rattle.config.specs.declared.{OptionRtc.OptionRtc, ChipConfig.ChipConfig, Board.Board}
 
 abbrev pub boardWith : Chip → Volts → ℕ → ℕ → OptionRtc → Board
@@ -20,9 +20,9 @@ boardWith chip volts whole fraction clock =
 
 abbrev pub boardOf : ChipConfig → Board
 boardOf (ChipConfig.Rp2040 c) =
-    boardWith Rp2040 (voltsOf (c .«core_voltage»)) (c .«div_int») (c .«div_frac») (c .«rtc_clk»)
+    boardWith Rp2040 (voltsOf Rp2040 (c .«core_voltage»)) (c .«div_int») (c .«div_frac») (c .«rtc_clk»)
 boardOf (ChipConfig.Rp235x c) =
-    boardWith Rp235x (volts235Of (c .«core_voltage»)) (c .«div_int») (c .«div_frac») OptionRtc.None
+    boardWith Rp235x (voltsOf Rp235x (c .«core_voltage»)) (c .«div_int») (c .«div_frac») OptionRtc.None
 
 -- the fraction of the system divider is one of the chip's
 abbrev pub FractionFits : Board → Type 0

@@ -4,7 +4,6 @@ use Prim.Native.Nat.{ℕ}
 use Rattle.text.specs.{Decimal.decimalOf, Ascii.ascii}
 use Rattle.chip.specs.declared.{Chip.Chip, Chip.the-variants.Rp2040, Chip.the-variants.Rp235x}
 use Rattle.voltage.specs.Voltage.{codeOf, bodOf, coreVoltageOf}
-use Rattle.voltage.specs.Voltage235.{code235Of, bod235Of, coreVoltage235Of}
 use Rattle.divider.specs.declared.GpoutDiv.{GpoutDiv}
 use Rattle.divider.specs.declared.GpoutDiv.the-variants.{Rp2040 as on2040, Rp235x as on235x}
 use Rattle.divider.specs.{Gpout.gpoutIn, Pio.pioOf}
@@ -54,9 +53,8 @@ marginText n = answerText sidesText (marginOf (nth n 0) (nth n 1))
 abbrev pub levelText : ℕ → ℕ → List ℕ
 levelText code brownout = rowText code (brownout ∷ [])
 
-abbrev pub voltageText : Chip → List ℕ → List ℕ
-voltageText Rp2040 n = answerText (λ v. levelText (codeOf v) (bodOf v)) (coreVoltageOf (byteAt n 0))
-voltageText Rp235x n = answerText (λ v. levelText (code235Of v) (bod235Of v)) (coreVoltage235Of (byteAt n 0))
+unfoldable pub voltageText : Chip → List ℕ → List ℕ
+voltageText chip n = answerText (λ v. levelText (codeOf chip v) (bodOf chip v)) (coreVoltageOf chip (byteAt n 0))
 
 -- VALUE
 abbrev pub pioText : List ℕ → List ℕ

@@ -16,9 +16,8 @@ ghost use Rattle.margin.specs.Margin.{limitIs, marginIs};
 ghost use Rattle.text.specs.Decimal.{decimalOf};
 ghost use Rattle.replies.specs.Reply.{answerText};
 ghost use Rattle.number_cases.specs.Numbers.{limitText, limitsText, sidesText, marginText};
-ghost use Rattle.voltage.specs.Voltage.{codeOf, bodOf};
-ghost use Rattle.voltage.specs.Voltage235.{code235Of, bod235Of};
-ghost use Rattle.voltage.specs.Answers.{voltageReadIs, voltageRead235Is};
+ghost use Rattle.chip.specs.declared.Chip.the-variants.{Rp2040, Rp235x};
+ghost use Rattle.voltage.specs.Voltage.{codeOf, bodOf, readIs};
 ghost use Rattle.number_cases.specs.Numbers.{pllText, validText, outputText, searchText, usbPllText, bookText};
 ghost use Rattle.number_cases.specs.Numbers.{levelText, voltageText, pioText, dividerAt, gpoutText};
 
@@ -117,7 +116,7 @@ fn put_level(out: &mut [u8], code: u8, brownout: u8) -> usize
 }
 
 fn put_read(out: &mut [u8], read: VoltageRead) -> usize
-    ensures { λ r. ⌜ Placed (now (out .entry)) 0 (answerText (λ v. levelText (codeOf v) (bodOf v)) (voltageReadIs read)) r (now (out .exit)) ⌝ }
+    ensures { λ r. ⌜ Placed (now (out .entry)) 0 (answerText (λ v. levelText (codeOf Rp2040 v) (bodOf Rp2040 v)) (readIs Rp2040 read)) r (now (out .exit)) ⌝ }
 {
     match read {
         VoltageRead::Voltage(v) => put_level(out, v.code(), v.recommended_bod()),
@@ -126,7 +125,7 @@ fn put_read(out: &mut [u8], read: VoltageRead) -> usize
 }
 
 fn put_read_235(out: &mut [u8], read: VoltageRead235) -> usize
-    ensures { λ r. ⌜ Placed (now (out .entry)) 0 (answerText (λ v. levelText (code235Of v) (bod235Of v)) (voltageRead235Is read)) r (now (out .exit)) ⌝ }
+    ensures { λ r. ⌜ Placed (now (out .entry)) 0 (answerText (λ v. levelText (codeOf Rp235x v) (bodOf Rp235x v)) (readIs Rp235x read)) r (now (out .exit)) ⌝ }
 {
     match read {
         VoltageRead235::Voltage(v) => put_level(out, v.code(), v.recommended_bod()),

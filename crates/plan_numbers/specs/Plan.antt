@@ -6,7 +6,7 @@ use lib.{Dec.eqb, Dec.leb, ListN.length}
 use Rattle.base.specs.{Answer.Answer, Answer.value, Answer.refusal, Choice.pick}
 use Rattle.chip.specs.declared.{Chip.Chip, Chip.the-variants.Rp2040, Chip.the-variants.Rp235x}
 use Rattle.voltage.specs.declared.{CoreVoltage.CoreVoltage, CoreVoltage235.CoreVoltage235}
-use Rattle.voltage.specs.{Voltage.coreVoltageOf, Voltage235.coreVoltage235Of}
+use Rattle.voltage.specs.Voltage.{coreVoltageOf}
 use Rattle.config.specs.declared.OptionPll.{OptionPll}
 use Rattle.config.specs.declared.OptionPll.the-variants.{Some as pll, None as noPll}
 use Rattle.config.specs.declared.OptionRosc.{OptionRosc}
@@ -136,8 +136,8 @@ with235x (refusal m) n = none
 
 -- the chip's part: voltage, system divider and RTC; none for a number that is no voltage code of the chip
 unfoldable pub chipAt : Chip → List ℕ → Option ChipConfig
-chipAt Rp2040 n = with2040 (coreVoltageOf (byteAt n 25)) n
-chipAt Rp235x n = with235x (coreVoltage235Of (byteAt n 25)) n
+chipAt Rp2040 n = with2040 (coreVoltageOf Rp2040 (byteAt n 25)) n
+chipAt Rp235x n = with235x (coreVoltageOf Rp235x (byteAt n 25)) n
 
 unfoldable pub planAt : ChipConfig → List ℕ → ClockConfig
 planAt c n =

@@ -24,7 +24,8 @@ use voltage::VoltageRead;
 use voltage::VoltageRead235;
 ghost use mathlib.Core.Path.{_≡_};
 ghost use Rattle.plan_numbers.specs.Plan.{strengthsAt, ringAt, optionPllAt, crystalAt, settlingAt};
-ghost use Rattle.voltage.specs.Answers.{voltageReadIs, voltageRead235Is};
+ghost use Rattle.chip.specs.declared.Chip.the-variants.{Rp2040, Rp235x};
+ghost use Rattle.voltage.specs.Voltage.{readIs};
 ghost use Rattle.plan_numbers.specs.Plan.{referenceAt, peripheralAt, dividedAt, rtcAt};
 ghost use Rattle.plan_numbers.specs.Plan.{with2040, with235x, chipAt, chipReadIs};
 
@@ -139,7 +140,7 @@ fn rtc(n: &[u32]) -> OptionRtc
 }
 
 fn with_2040(voltage: VoltageRead, n: &[u32]) -> ChipRead
-    ensures { λ r. ⌜ chipReadIs r ≡ with2040 (voltageReadIs voltage) (now (n .entry)) ⌝ }
+    ensures { λ r. ⌜ chipReadIs r ≡ with2040 (readIs Rp2040 voltage) (now (n .entry)) ⌝ }
 {
     match voltage {
         VoltageRead::Voltage(core_voltage) => {
@@ -155,7 +156,7 @@ fn with_2040(voltage: VoltageRead, n: &[u32]) -> ChipRead
 }
 
 fn with_235x(voltage: VoltageRead235, n: &[u32]) -> ChipRead
-    ensures { λ r. ⌜ chipReadIs r ≡ with235x (voltageRead235Is voltage) (now (n .entry)) ⌝ }
+    ensures { λ r. ⌜ chipReadIs r ≡ with235x (readIs Rp235x voltage) (now (n .entry)) ⌝ }
 {
     match voltage {
         VoltageRead235::Voltage(core_voltage) => {

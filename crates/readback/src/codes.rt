@@ -7,8 +7,8 @@ ghost use mathlib.Core.Path.{_≡_};
 ghost use Prim.Native.Nat.{_%_, _^_};
 ghost use Rattle.voltage.specs.declared.CoreVoltage.{CoreVoltage};
 ghost use Rattle.voltage.specs.declared.CoreVoltage235.{CoreVoltage235};
+ghost use Rattle.chip.specs.declared.Chip.the-variants.{Rp2040, Rp235x};
 ghost use Rattle.voltage.specs.Voltage.{coreVoltageOf};
-ghost use Rattle.voltage.specs.Voltage235.{coreVoltage235Of};
 ghost use Rattle.settings.specs.Codes.{divFrom, valueOr};
 
 pub(crate) fn cut8(x: u64) -> u8
@@ -38,7 +38,7 @@ pub(crate) fn div_from(code: u64) -> u8
 
 // 1.10 V for a number that is no code, as 255 is none.
 pub(crate) fn voltage_from(code: u64) -> CoreVoltage
-    ensures { λ r. ⌜ r ≡ valueOr CoreVoltage.V1_10 (coreVoltageOf code) ⌝ }
+    ensures { λ r. ⌜ r ≡ valueOr CoreVoltage.V1_10 (coreVoltageOf Rp2040 code) ⌝ }
 {
     match voltage::core_voltage(base::least(code as usize, 255) as u8) {
         VoltageRead::Voltage(v) => v,
@@ -47,7 +47,7 @@ pub(crate) fn voltage_from(code: u64) -> CoreVoltage
 }
 
 pub(crate) fn voltage_from_235(code: u64) -> CoreVoltage235
-    ensures { λ r. ⌜ r ≡ valueOr CoreVoltage235.V1_10 (coreVoltage235Of code) ⌝ }
+    ensures { λ r. ⌜ r ≡ valueOr CoreVoltage235.V1_10 (coreVoltageOf Rp235x code) ⌝ }
 {
     match voltage::core_voltage_235(base::least(code as usize, 255) as u8) {
         VoltageRead235::Voltage(v) => v,

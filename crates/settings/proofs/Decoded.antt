@@ -5,7 +5,8 @@ use native.Mathlib.Omega.{arith}
 use lib.Dec.{eqb}
 use borrow.Author.Tests.{eqb-true, eqb-false}
 use Rattle.base.specs.Choice.{pick}
-use Rattle.voltage.proofs.Codes.{core-voltage-code, code-small, bod-small, core-voltage-code-235, code-small-235, bod-small-235}
+use Rattle.chip.specs.declared.Chip.the-variants.{Rp2040, Rp235x}
+use Rattle.voltage.proofs.Codes.{core-voltage-code, code-small, bod-small}
 use Rattle.config.specs.declared.ChipConfig.{ChipConfig}
 use Rattle.config.specs.declared.ChipConfig.the-variants.{Rp2040 as on2040, Rp235x as on235x}
 use Rattle.config.specs.declared.RoscRange.{RoscRange}
@@ -60,12 +61,12 @@ sys-code sysXosc = omega arith
 -- the chip's part of a plan is read back from its numbers
 pub chip-back : (c : ChipConfig)
     → chipFrom (boardOf c .chip) (boardOf c .code) (boardOf c .whole) (boardOf c .fraction) (boardOf c .rtc) ≡ c
-chip-back (on2040 c) = rw (core-voltage-code (c .«core_voltage»))
-chip-back (on235x c) = rw (core-voltage-code-235 (c .«core_voltage»))
+chip-back (on2040 c) = rw (core-voltage-code Rp2040 (c .«core_voltage»))
+chip-back (on235x c) = rw (core-voltage-code Rp235x (c .«core_voltage»))
 
 pub board-small : (c : ChipConfig) → (boardOf c .code < 16) × (boardOf c .brownout < 16)
-board-small (on2040 c) = (code-small (c .«core_voltage»), bod-small (c .«core_voltage»))
-board-small (on235x c) = (code-small-235 (c .«core_voltage»), bod-small-235 (c .«core_voltage»))
+board-small (on2040 c) = (code-small Rp2040 (c .«core_voltage»), bod-small Rp2040 (c .«core_voltage»))
+board-small (on235x c) = (code-small Rp235x (c .«core_voltage»), bod-small Rp235x (c .«core_voltage»))
 
 -- a divider from 1 to 4 is read back from its two bits
 abbrev pub Small : ℕ → Type 0

@@ -4,7 +4,7 @@ use lib.Dec.{eqb}
 use Rattle.base.specs.{Choice.pick, Answer.Answer, Answer.value, Answer.refusal}
 use Rattle.chip.specs.declared.{Chip.Chip, Chip.the-variants.Rp2040, Chip.the-variants.Rp235x}
 use Rattle.voltage.specs.declared.{CoreVoltage.CoreVoltage, CoreVoltage235.CoreVoltage235}
-use Rattle.voltage.specs.{Voltage.coreVoltageOf, Voltage235.coreVoltage235Of}
+use Rattle.voltage.specs.Voltage.{coreVoltageOf}
 use Rattle.config.specs.declared.{RoscRange.RoscRange, RefClkSrc.RefClkSrc, SysClkSrc.SysClkSrc, PeriClkSrc.PeriClkSrc}
 use Rattle.config.specs.declared.{AuxClkSrc.AuxClkSrc, OptionRtc.OptionRtc, ChipConfig.ChipConfig}
 
@@ -93,7 +93,7 @@ abbrev pub chipFrom : Chip → ℕ → ℕ → ℕ → OptionRtc → ChipConfig
 chipFrom Rp2040 code whole fraction clock =
     ChipConfig.Rp2040
     (record {
-      «core_voltage» = valueOr CoreVoltage.V1_10 (coreVoltageOf code);
+      «core_voltage» = valueOr CoreVoltage.V1_10 (coreVoltageOf Rp2040 code);
       «div_int» = whole;
       «div_frac» = fraction;
       «rtc_clk» = clock;
@@ -101,7 +101,7 @@ chipFrom Rp2040 code whole fraction clock =
 chipFrom Rp235x code whole fraction clock =
     ChipConfig.Rp235x
     (record {
-      «core_voltage» = valueOr CoreVoltage235.V1_10 (coreVoltage235Of code);
+      «core_voltage» = valueOr CoreVoltage235.V1_10 (coreVoltageOf Rp235x code);
       «div_int» = whole;
       «div_frac» = fraction;
     })

@@ -3,7 +3,7 @@ use mathlib.Core.{List.List, Option.Option, Option.none, Option.some}
 use Prim.Native.Nat.{ℕ}
 use lib.ListN.{take, drop, replicate}
 use Rattle.base.specs.Answer.{Answer, value, refusal}
-use Rattle.chip.specs.declared.Chip.{Chip}
+use Rattle.chip.specs.declared.{Chip.Chip, Chip.the-variants.Rp2040}
 use Rattle.voltage.specs.declared.CoreVoltage.{CoreVoltage}
 use Rattle.voltage.specs.Voltage.{coreVoltageOf}
 use Rattle.config.specs.declared.ClockConfig.{ClockConfig}
@@ -49,7 +49,7 @@ manualWith n (refusal m) = badCase
 
 -- HZ REFDIV FBDIV POST1 POST2 CODE
 abbrev pub manualText : List ℕ → List ℕ
-manualText n = manualWith n (coreVoltageOf (byteAt n 7))
+manualText n = manualWith n (coreVoltageOf Rp2040 (byteAt n 7))
 
 abbrev pub givenPlanText : List ℕ → Option ClockConfig → List ℕ
 givenPlanText n (some plan) = sheetText n plan

@@ -1,3 +1,1 @@
 pub mod Voltage
-pub mod Voltage235
-pub mod Answers

@@ -1,8 +1,7 @@
 // The core voltage: its register codes, brownout levels and default settling times.
 ghost use mathlib.Core.Path.{_≡_};
-ghost use Rattle.voltage.specs.Voltage.{voltsOf, codeOf, bodOf, settlingOf, coreVoltageOf};
-ghost use Rattle.voltage.specs.Voltage235.{volts235Of, code235Of, bod235Of, settling235Of, coreVoltage235Of};
-ghost use Rattle.voltage.specs.Answers.{voltageReadIs, voltageRead235Is};
+ghost use Rattle.chip.specs.declared.Chip.the-variants.{Rp2040, Rp235x};
+ghost use Rattle.voltage.specs.Voltage.{voltsOf, codeOf, bodOf, settlingOf, coreVoltageOf, readIs};
 
 // A voltage's register code, brownout level and default settling time in µs.
 pub struct Volts(pub u8, pub u8, pub u32);
@@ -30,7 +29,7 @@ pub enum VoltageRead {
 
 impl CoreVoltage {
     pub fn volts(self) -> Volts
-        ensures { λ r. ⌜ r ≡ voltsOf self ⌝ }
+        ensures { λ r. ⌜ r ≡ voltsOf Rp2040 self ⌝ }
     {
         match self {
             CoreVoltage::V0_80 => Volts(0, 4, 0),
@@ -49,21 +48,21 @@ impl CoreVoltage {
 
     // The register code, the Rust's `as u8`.
     pub fn code(self) -> u8
-        ensures { λ r. ⌜ r ≡ codeOf self ⌝ }
+        ensures { λ r. ⌜ r ≡ codeOf Rp2040 self ⌝ }
     {
         self.volts().0
     }
 
     // The brownout detector's level.
     pub fn recommended_bod(self) -> u8
-        ensures { λ r. ⌜ r ≡ bodOf self ⌝ }
+        ensures { λ r. ⌜ r ≡ bodOf Rp2040 self ⌝ }
     {
         self.volts().1
     }
 
     // Microseconds to wait after a change to this voltage, where a plan gives no time.
     pub fn default_settling_us(self) -> u32
-        ensures { λ r. ⌜ r ≡ settlingOf self ⌝ }
+        ensures { λ r. ⌜ r ≡ settlingOf Rp2040 self ⌝ }
     {
         self.volts().2
     }
@@ -71,7 +70,7 @@ impl CoreVoltage {
 
 // The voltage whose code was read; 18 where the code is unknown.
 pub fn core_voltage(reading: u8) -> VoltageRead
-    ensures { λ r. ⌜ voltageReadIs r ≡ coreVoltageOf reading ⌝ }
+    ensures { λ r. ⌜ readIs Rp2040 r ≡ coreVoltageOf Rp2040 reading ⌝ }
 {
     match reading {
         0 => VoltageRead::Voltage(CoreVoltage::V0_80),
@@ -116,7 +115,7 @@ pub enum VoltageRead235 {
 
 impl CoreVoltage235 {
     pub fn volts(self) -> Volts
-        ensures { λ r. ⌜ r ≡ volts235Of self ⌝ }
+        ensures { λ r. ⌜ r ≡ voltsOf Rp235x self ⌝ }
     {
         match self {
             CoreVoltage235::V0_55 => Volts(0, 1, 0),
@@ -140,28 +139,28 @@ impl CoreVoltage235 {
 
     // The register code, the Rust's `as u8`.
     pub fn code(self) -> u8
-        ensures { λ r. ⌜ r ≡ code235Of self ⌝ }
+        ensures { λ r. ⌜ r ≡ codeOf Rp235x self ⌝ }
     {
         self.volts().0
     }
 
     // The brownout detector's level.
     pub fn recommended_bod(self) -> u8
-        ensures { λ r. ⌜ r ≡ bod235Of self ⌝ }
+        ensures { λ r. ⌜ r ≡ bodOf Rp235x self ⌝ }
     {
         self.volts().1
     }
 
     // Microseconds to wait after a change to this voltage, where a plan gives no time.
     pub fn default_settling_us(self) -> u32
-        ensures { λ r. ⌜ r ≡ settling235Of self ⌝ }
+        ensures { λ r. ⌜ r ≡ settlingOf Rp235x self ⌝ }
     {
         self.volts().2
     }
 }
 
 pub fn core_voltage_235(reading: u8) -> VoltageRead235
-    ensures { λ r. ⌜ voltageRead235Is r ≡ coreVoltage235Of reading ⌝ }
+    ensures { λ r. ⌜ readIs Rp235x r ≡ coreVoltageOf Rp235x reading ⌝ }
 {
     match reading {
         0 => VoltageRead235::Voltage(CoreVoltage235::V0_55),

@@ -1,5 +1,6 @@
 -- `voltage::core_voltage_235` meets its contract.
-use Rattle.voltage.specs.Voltage235.{code235Of, voltages235}
+use Rattle.chip.specs.declared.Chip.the-variants.{Rp235x}
+use Rattle.voltage.specs.Voltage.{codeOf, voltages}
 use Rattle.voltage.proofs.{Codes.none-read, core_voltage_235.Statement.statement}
 use Rattle.voltage.proofs.core_voltage_235.Tie as tie
 
@@ -9,4 +10,4 @@ core-voltage-235-spec = tie.close (tie.spec (λ c. rw (c .match .keys1)) (λ c. 
     (λ c. rw (c .match .keys7)) (λ c. rw (c .match .keys8)) (λ c. rw (c .match .keys9)) (λ c. rw (c .match .keys10))
     (λ c. rw (c .match .keys11)) (λ c. rw (c .match .keys12)) (λ c. rw (c .match .keys13))
     (λ c. rw (c .match .keys14)) (λ c. rw (c .match .keys15)) (λ c. rw (c .match .keys16))
-    (λ c. none-read code235Of _ voltages235 (c .match .rest)))
+    (λ c. none-read (codeOf Rp235x) _ (voltages Rp235x) (c .match .rest)))

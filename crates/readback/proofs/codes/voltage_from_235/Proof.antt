@@ -1,6 +1,5 @@
 -- `readback::codes::voltage_from_235` meets its contract.
-use Rattle.voltage.specs.Voltage235.{code235Of, voltages235}
-use Rattle.voltage.proofs.Codes.{code-small-235}
+use Rattle.chip.specs.declared.Chip.the-variants.{Rp235x}
 use Rattle.readback.proofs.{Voltages.least-code, codes.voltage_from_235.Statement.statement}
 use borrow.Author.Needs.{needs}
 use Rattle.readback.proofs.codes.voltage_from_235.Tie as tie
@@ -9,8 +8,8 @@ pub voltage-from-235-spec : {M : Type 1} → statement M
 voltage-from-235-spec = tie.close (tie.spec (λ c κs. search needs) (λ c. search needs) (λ c κs. search needs)
     (λ c. search needs) (λ c. search needs)
     (λ c. let read = c .before .before .before in let least = read .before in
-    rw (← least-code code235Of code-small-235 voltages235 (least .before .args .code), ← least .least .ensures)
+    rw (← least-code Rp235x (least .before .args .code), ← least .least .ensures)
     (rw (← read .core-voltage-235 .ensures, c .before .v .given .1)))
     (λ c. let read = c .before .before in let least = read .before in
-    rw (← least-code code235Of code-small-235 voltages235 (least .before .args .code), ← least .least .ensures)
+    rw (← least-code Rp235x (least .before .args .code), ← least .least .ensures)
     (rw (← read .core-voltage-235 .ensures, c .enum-told .given .1))))
