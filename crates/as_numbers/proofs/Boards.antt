@@ -45,14 +45,14 @@ module _ (ns kept : List ℕ) (n : ℕ) (sheet : List ℕ) (ready : Bool) where
       unfolding benchLeaves
       bad-leaves = rw (le-ltb 7 n few, lt-leb _ _ bad) refl
 
-    board-at : boardAt (benchIn ns kept) n ≡ stepperAt ns n
+    pub board-at : boardAt (benchIn ns kept) n ≡ stepperAt ns n
     board-at = board-from 8 0 n ns (omega arith) ∙ ap (stepperAt ns) (omega arith)
 
     -- what the board does
-    abbrev call : Outcome Stepper
+    abbrev pub call : Outcome Stepper
     call = stepperOf (stepperAt ns n) (nth ns 112) kept sheet ready
 
-    of-board : benchOf (benchIn ns kept) n sheet ready ≡ inBench (benchIn ns kept) n call
+    pub of-board : benchOf (benchIn ns kept) n sheet ready ≡ inBench (benchIn ns kept) n call
     of-board =
         sym (of-eight (benchIn ns kept) n sheet ready few)
         ∙ ap (λ (s : Stepper). inBench (benchIn ns kept) n (stepperOf s (nth ns 112) kept sheet ready)) board-at
@@ -62,7 +62,7 @@ module _ (ns kept : List ℕ) (n : ℕ) (sheet : List ℕ) (ready : Bool) where
       unfolding runNumber benchNumber advanceOf
       board-number = rw (le-ltb 7 n few, le-leb _ _ good, of-board) refl
 
-      next-board : boardAt (benchOf (benchIn ns kept) n sheet ready .next) n ≡ call .next
+      pub next-board : boardAt (benchOf (benchIn ns kept) n sheet ready .next) n ≡ call .next
       next-board =
           ap (λ (x : Outcome Bench). boardAt (x .next) n) of-board
           ∙ getD-set-same (benchIn ns kept .boards) n (call .next) noBoard (omega arith)

@@ -1,2 +1,5 @@
 pub mod Demand3
 pub mod Ranges
+pub mod Calls
+pub mod Benches
+pub mod Refused

@@ -15,7 +15,7 @@ is-true true t = refl
 is-true false t = absurd t
 
 -- a step's kind, from 1 on, stands in the word's upper 6 bits
-word-from : (s : Step) → WellFormed s → 2 ^ 58 ≤ packOf s
+pub word-from : (s : Step) → WellFormed s → 2 ^ 58 ≤ packOf s
 unfolding kindIn known
 word-from s w =
     let kind = kind-in s w in

@@ -1,3 +1,4 @@
 pub mod Sheet
 pub mod Demand3
 pub mod Ranges
+pub mod Calls

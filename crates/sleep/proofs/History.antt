@@ -7,8 +7,8 @@ use lib.{Dec.ltb, Dec.eqb, ListN.length, ListN.length-set, Seq.getD-set-same, Se
 use borrow.Author.Tests.{le-ltb, ltb-false, eqb-true, eqb-false}
 use Rattle.base.specs.Choice.{pick}
 use Rattle.sleep.specs.declared.Slot.{Slot}
-use Rattle.sleep.specs.Sleep.{unsaved, saved, freshSlots, slotAt, refusedCall, woken, sleepOf, wakeOf}
-use Rattle.sleep.specs.History.{answerSteps, SleepEvent, sleeps, wakes, writes, happens, boardAfter}
+use Rattle.sleep.specs.Sleep.{answerSteps, unsaved, saved, freshSlots, slotAt, refusedCall, woken, sleepOf, wakeOf}
+use Rattle.sleep.specs.History.{SleepEvent, sleeps, wakes, writes, happens, boardAfter}
 use Rattle.sleep.specs.History.{lastSleep, wakeFrom, Restores}
 use Rattle.sleep.proofs.Replay.{either-way, length-replayed, wake-restores}
 

@@ -7,8 +7,8 @@ use Rattle.sleep.specs.declared.steps.Step.{Step}
 use Rattle.sleep.specs.declared.steps.Step.the-variants.{Write, RingStable, CrystalStable, Locked}
 use Rattle.sleep.specs.declared.Slot.{Slot}
 use Rattle.sleep.specs.{Bits.pllRuns, Bits.crystalRuns, Words.wordIn, Words.asleep}
-use Rattle.sleep.specs.Sleep.{waitIf, sleepSteps, wakeStepsBy, wakeSteps, slotAt, sleepOf, wakeOf}
-use Rattle.sleep.specs.History.{answerSteps, written, replayed, order, waitSteps}
+use Rattle.sleep.specs.Sleep.{answerSteps, waitIf, sleepSteps, wakeStepsBy, wakeSteps, slotAt, sleepOf, wakeOf}
+use Rattle.sleep.specs.History.{written, replayed, order, waitSteps}
 
 -- a test, either way
 pub either-way : {C : Type 0} (t : Bool) → (t ≡ true → C) → (t ≡ false → C) → C

@@ -6,14 +6,9 @@ use Rattle.base.specs.{Answer.Answer, Answer.value, Answer.refusal, Choice.pick
 use Rattle.sleep.specs.declared.steps.Step.{Step}
 use Rattle.sleep.specs.declared.steps.Step.the-variants.{Write, RingStable, CrystalStable, Locked}
 use Rattle.sleep.specs.declared.Slot.{Slot}
-use Rattle.sleep.specs.Sleep.{SleepOutcome, freshSlots, refusedCall, woken, sleepOf, wakeOf}
+use Rattle.sleep.specs.Sleep.{SleepOutcome, answerSteps, freshSlots, refusedCall, woken, sleepOf, wakeOf}
 
 -- ---- the steps of an answer
-
--- a refusal has none
-abbrev pub answerSteps : Answer (List Step) → List Step
-answerSteps (value steps) = steps
-answerSteps (refusal n) = []
 
 -- the registers after a step: a write sets one, a wait none
 abbrev pub written : Step → List ℕ → List ℕ

@@ -1,7 +1,7 @@
 -- What sleep and wake answer, and the words and slots after them.
 use Prim.Native.Nat.{ℕ, zero, suc, min}
-use mathlib.Core.{Bool.Bool, Bool.true, Bool.false, List.List, List.[], List._∷_, List._++_}
-use lib.{Dec.ltb, ListN.getD, ListN.set, ListN.replicate}
+use mathlib.Core.{Path._≡_, Bool.Bool, Bool.true, Bool.false, List.List, List.[], List._∷_, List._++_}
+use lib.{Dec.ltb, ListN.length, ListN.getD, ListN.set, ListN.replicate}
 use Rattle.base.specs.{Answer.Answer, Answer.value, Answer.refusal, Choice.pick}
 use Rattle.sleep.specs.declared.steps.Step.{Step}
 use Rattle.sleep.specs.declared.steps.Step.the-variants.{Write, RingStable, CrystalStable, Locked}
@@ -32,6 +32,21 @@ answerIs (Refused n) steps = refusal n
 
 abbrev pub changeIs : Change → SleepOutcome
 changeIs c = record { answer = answerIs (c .answer) (stepList (c .steps)); words = c .words; slots = c .slots }
+
+-- the steps of an answer; a refusal has none
+abbrev pub answerSteps : Answer (List Step) → List Step
+answerSteps (value steps) = steps
+answerSteps (refusal n) = []
+
+-- so many steps as the list has, and these
+pub record StepsAre (s : Steps) (xs : List Step) : Type 0 where
+  pub list : stepList s ≡ xs
+  pub exact : s .len ≡ length xs
+
+-- what a call promises of all that it answers: after a refusal there is no step
+pub record Changed (c : Change) (o : SleepOutcome) : Type 0 where
+  pub outcome : changeIs c ≡ o
+  pub exact : c .steps .len ≡ length (answerSteps (o .answer))
 
 -- ---- the steps, to the words ws
 

@@ -7,7 +7,7 @@ use bits::with_field;
 use steps::Steps;
 ghost use mathlib.Core.Path.{_≡_};
 ghost use Rattle.sleep.specs.Words.{asleep};
-ghost use Rattle.sleep.specs.Sleep.{changeIs, freshSlots, refusedCall, sleepOf, wakeOf};
+ghost use Rattle.sleep.specs.Sleep.{Changed, freshSlots, refusedCall, sleepOf, wakeOf};
 
 // Whether a sleep was saved here, and the words handed to the last one.
 pub struct Slot {
@@ -40,7 +40,7 @@ pub fn fresh_slots() -> [Slot; 4]
 }
 
 fn refused(slots: [Slot; 4], words: [u32; 11], number: u8) -> Change
-    ensures { λ r. ⌜ changeIs r ≡ refusedCall slots words number ⌝ }
+    ensures { λ r. ⌜ Changed r (refusedCall slots words number) ⌝ }
 {
     Change {
         answer: Answer::Refused(number),
@@ -72,7 +72,7 @@ fn asleep(words: [u32; 11]) -> [u32; 11]
 
 // Saves the words in the slot, and puts the chip to sleep.
 pub fn sleep(slots: [Slot; 4], slot: u8, words: [u32; 11]) -> Change
-    ensures { λ r. ⌜ changeIs r ≡ sleepOf slots slot words ⌝ }
+    ensures { λ r. ⌜ Changed r (sleepOf slots slot words) ⌝ }
 {
     if slot > 3 {
         return refused(slots, words, 29);
@@ -91,7 +91,7 @@ pub fn sleep(slots: [Slot; 4], slot: u8, words: [u32; 11]) -> Change
 
 // Restores the words of the last sleep saved in the slot, which keeps them.
 pub fn wake(slots: [Slot; 4], slot: u8, words: [u32; 11]) -> Change
-    ensures { λ r. ⌜ changeIs r ≡ wakeOf slots slot words ⌝ }
+    ensures { λ r. ⌜ Changed r (wakeOf slots slot words) ⌝ }
 {
     if slot > 3 {
         return refused(slots, words, 29);

@@ -2,7 +2,7 @@
 use crate::bits;
 ghost use mathlib.Core.Path.{_≡_};
 ghost use Prim.Native.Nat.{_<_};
-ghost use Rattle.sleep.specs.Sleep.{stepList, write, sleepSteps, wakeSteps};
+ghost use Rattle.sleep.specs.Sleep.{StepsAre, write, sleepSteps, wakeSteps};
 ghost use Rattle.sleep.specs.Inside.{empty, stepPushed, pushedIf};
 ghost use Rattle.sleep.specs.declared.steps.Step.the-variants.{Write};
 
@@ -85,7 +85,7 @@ impl Steps {
 
 // The steps to the words of a sleeping chip.
 pub(crate) fn to_sleep(words: [u32; 11]) -> Steps
-    ensures { λ r. ⌜ stepList r ≡ sleepSteps words ⌝ }
+    ensures { λ r. ⌜ StepsAre r (sleepSteps words) ⌝ }
 {
     none().write3(words, 0, 1, 2)
         .write(3, words[3])
@@ -97,7 +97,7 @@ pub(crate) fn to_sleep(words: [u32; 11]) -> Steps
 
 // The steps back to the words of a chip that was awake.
 pub(crate) fn to_wake(words: [u32; 11]) -> Steps
-    ensures { λ r. ⌜ stepList r ≡ wakeSteps words ⌝ }
+    ensures { λ r. ⌜ StepsAre r (wakeSteps words) ⌝ }
 {
     let crystal = bits::crystal_runs(words[9]);
     let usb = bits::pll_runs(words[8]);

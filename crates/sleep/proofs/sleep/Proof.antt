@@ -9,4 +9,6 @@ unfolding sleepOf
 sleep-spec = tie.close (tie.spec (λ c κs. search needs)
     (λ c. rw (lt-ltb _ _ (c .before .if1 .taken)) (c .refused .ensures)) (λ c. search needs) (λ c. search needs)
     (λ c κs. search needs) (λ c κs. search needs)
-    (λ c. rw (le-ltb _ _ (c .before .before .if1 .left), c .to-sleep .ensures, c .before .asleep .ensures)))
+    (λ c. let steps = c .to-sleep .ensures in
+    rw (le-ltb _ _ (c .before .before .if1 .left), ← c .before .asleep .ensures)
+    (record { outcome = rw (steps .list); exact = steps .exact })))

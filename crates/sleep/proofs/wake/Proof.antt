@@ -10,6 +10,8 @@ wake-spec = tie.close (tie.spec (λ c κs. search needs)
     (λ c. rw (lt-ltb _ _ (c .before .if1 .taken)) (c .refused .ensures)) (λ c. search needs) (λ c. search needs)
     (λ c κs. search needs)
     (λ c.
-    rw (le-ltb _ _ (c .before .before .before .before .if1 .left), c .before .before .if2 .taken, c .to-wake .ensures))
+    let steps = c .to-wake .ensures in
+    rw (le-ltb _ _ (c .before .before .before .before .if1 .left), c .before .before .if2 .taken)
+    (record { outcome = rw (steps .list); exact = steps .exact }))
     (λ c κs. search needs)
     (λ c. rw (le-ltb _ _ (c .before .before .before .if1 .left), c .before .if2 .left) (c .refused2 .ensures)))

@@ -8,7 +8,7 @@ returns c =
     let put-change = c .before .before in let wake = put-change .before in let words-at = wake .before in
     let byte-at = words-at .before .before in
     rw (
-      wake .wake .ensures,
+      wake .wake .ensures .outcome,
       words-at .words-at .ensures,
       byte-at .byte-at .ensures,
       byte-at .before .before .slots-at .ensures,

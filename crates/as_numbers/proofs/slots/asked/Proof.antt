@@ -4,5 +4,5 @@ use Rattle.as_numbers.proofs.slots.asked.Statement.{statement}
 use Rattle.as_numbers.proofs.slots.asked.Tie as tie
 
 pub asked-spec : {M : Type 1} → statement M
-asked-spec = tie.close (tie.spec (λ c κs. search needs) (λ c. rw (c .before .if1 .taken) (c .wake .ensures))
-    (λ c κs. search needs) (λ c. rw (c .before .if1 .left) (c .sleep .ensures)))
+asked-spec = tie.close (tie.spec (λ c κs. search needs) (λ c. rw (c .before .if1 .taken) (c .wake .ensures .outcome))
+    (λ c κs. search needs) (λ c. rw (c .before .if1 .left) (c .sleep .ensures .outcome)))

@@ -1,0 +1,8 @@
+-- `sleep::refused` meets its contract.
+use mathlib.Core.Path.{refl}
+use borrow.Author.Needs.{needs}
+use Rattle.sleep.proofs.refused.Statement.{statement}
+use Rattle.sleep.proofs.refused.Tie as tie
+
+pub refused-spec : {M : Type 1} → statement M
+refused-spec = tie.close (tie.spec (λ c κs. search needs) (λ c. record { outcome = refl; exact = rw (c .none .ensures) }))
