@@ -1,7 +1,7 @@
 -- The laws of the score, of the order as one number, and of the rank.
 use mathlib.Core.{Path._≡_, Path.refl, Logic._⊎_, Logic.inl, Logic.inr, Logic.⊎-elim, Bool.Bool, Bool.true, Bool.false}
 use Prim.Native.Nat.{ℕ, _+_, _-_, _*_, _/_, _≤_, _<_}
-use native.Mathlib.{Omega.arith, Nat.div-le-self}
+use native.Mathlib.{Omega.arith, Nat.div-le-self, Nat.le-div-iff-mul-le, Nat.div-lt-iff-lt-mul, Nat.div-mul-le-self, Nat.add-mul}
 use lib.Dec.{eqb}
 use borrow.Author.Tests.{eqb-true, eqb-false}
 use Rattle.base.specs.Choice.{pick}
@@ -31,6 +31,19 @@ module _ (v t d : ℕ) where
 
   pub score-most : scoreOf v t d ≤ apart (v / d) t + 1
   score-most = ⊎-elim (λ k. omega (arith, k .1)) (λ k. omega (arith, k .1)) score-cases
+
+  -- more than e over the target, and more than e under it
+  pub score-high : (e : ℕ) → 0 < d → (t + e + 1) * d ≤ v → e < scoreOf v t d
+  score-high e p h =
+      let o : t + e + 1 ≤ v / d = le-div-iff-mul-le {k = d} {x = t + e + 1} {y = v} p .1 h in
+      omega (arith, score-other (λ x. omega (arith, x, add-mul (t + e) 1 d, add-mul t e d)))
+
+  pub score-low : (e : ℕ) → 0 < d → v + e * d < t * d → e < scoreOf v t d
+  score-low e p h =
+      let o : (v + e * d) / d < t = div-lt-iff-lt-mul {k = d} {x = v + e * d} {y = t} p .1 h in
+      let l : v / d + e ≤ (v + e * d) / d
+      = le-div-iff-mul-le {k = d} {x = v / d + e} {y = v + e * d} p .1 (omega (arith, add-mul (v / d) e d, div-mul-le-self v d)) in
+      omega (arith, score-other (λ x. omega (arith, x)))
 
 -- what stands before has the greater key
 pub before-key : (c d : PllConfig) → c .«post_div1» ≤ 7 → c .«post_div2» ≤ c .«post_div1» → Before d c → key c < key d

@@ -3,15 +3,15 @@ pub mod feedback;
 pub mod usb;
 
 use base::Number;
-ghost use mathlib.Core.Path.{_≡_};
-ghost use Prim.Native.Nat.{_*_, _≤_, _<_, min};
+ghost use mathlib.Core.{Path._≡_, Bool.true};
+ghost use Prim.Native.Nat.{_*_, _/_, _≤_, _<_, min};
 ghost use Rattle.base.specs.Answer.{numberIs};
 ghost use Rattle.pll.specs.Ranges.{referenceMin, feedbackMax, vcoMax};
 ghost use Rattle.pll.specs.Setting.{postsOf, vcoOf, outputHz, dividersOf, validOf, validHz, outputOf};
 ghost use Rattle.pll.specs.Search.{searchOf, foundIs};
 ghost use Rattle.pll.specs.Law.{VcoPermits, LowestPermitted};
-ghost use Rattle.pll.specs.Walk.{PostCode, WantedProduct, NearestPosts, scoreOf, codeRankOf, settingOf};
-ghost use Rattle.pll.specs.Walk.{keys, noRank, LowestRank, CandidatesAt, CandidatesTo};
+ghost use Rattle.pll.specs.Walk.{PostCode, product, WantedProduct, NearestPosts, scoreOf, codeRankOf, settingOf};
+ghost use Rattle.pll.specs.Walk.{keys, noRank, LowestRank, Lowered, CandidatesAt, CandidatesTo};
 
 pub const REFERENCE_MIN: u64 = 5000000;
 
@@ -114,62 +114,6 @@ impl PllConfig {
     }
 }
 
-// For 0, 1, .., 49 the post dividers with the greatest product up to it, and those with the least above it: at 11
-// stands 0o5262, for 5 and 2, and 6 and 2. Of equal products it has the one with the greater post 1. No product is
-// up to 0 and none above 49: 0o11 and 0o77 stand there.
-const NEAREST_POSTS: [u16; 50] = [
-    0o1111,
-    0o1121,
-    0o2131,
-    0o3141,
-    0o4151,
-    0o5161,
-    0o6171,
-    0o7142,
-    0o4233,
-    0o3352,
-    0o5262,
-    0o5262,
-    0o6272,
-    0o6272,
-    0o7253,
-    0o5344,
-    0o4463,
-    0o4463,
-    0o6354,
-    0o6354,
-    0o5473,
-    0o7364,
-    0o7364,
-    0o7364,
-    0o6455,
-    0o5574,
-    0o5574,
-    0o5574,
-    0o7465,
-    0o7465,
-    0o6575,
-    0o6575,
-    0o6575,
-    0o6575,
-    0o6575,
-    0o7566,
-    0o6676,
-    0o6676,
-    0o6676,
-    0o6676,
-    0o6676,
-    0o6676,
-    0o7677,
-    0o7677,
-    0o7677,
-    0o7677,
-    0o7677,
-    0o7677,
-    0o7677,
-    0o7777,
-];
-
 // Keys are below this number. So a rank below it has score 0: a setting that meets the target with no remainder.
 const KEYS: u64 = 65536;
 
@@ -210,6 +154,33 @@ fn lower(a: u64, b: u64) -> u64
     if a <= b { a } else { b }
 }
 
+// Whether an output is more than d over the target, and whether it is more than d under it. Neither divides.
+fn too_high(d: u64, vco: u32, target: u32, product: u32) -> bool
+    requires { ⌜ (d ≤ 140737488355328) × (0 < product) × (product ≤ 49) ⌝ }
+    ensures { λ r. ⌜ (r ≡ true → d < scoreOf vco target product) ⌝ }
+{
+    (target as u64 + d + 1) * (product as u64) <= vco as u64
+}
+
+fn too_low(d: u64, vco: u32, target: u32, product: u32) -> bool
+    requires { ⌜ (d ≤ 140737488355328) × (0 < product) × (product ≤ 49) ⌝ }
+    ensures { λ r. ⌜ (r ≡ true → d < scoreOf vco target product) ⌝ }
+{
+    vco as u64 + d * (product as u64) < target as u64 * product as u64
+}
+
+// The lower of `best` and the rank of a setting, which is not calculated where it is known to be higher.
+fn nearer(higher: bool, best: u64, vco: u32, target: u32, fbdiv: u32, posts: u32) -> u64
+    requires { ⌜ (higher ≡ true → best / keys < scoreOf vco target (product posts)) ⌝ }
+    requires { ⌜ (49 ≤ vco) × (vco ≤ vcoMax) × (fbdiv ≤ feedbackMax) × PostCode posts ⌝ }
+    ensures { λ r. ⌜ r ≡ min best (codeRankOf vco target fbdiv posts) ⌝ }
+{
+    if higher {
+        return best;
+    }
+    lower(best, rank(vco, target, fbdiv, posts))
+}
+
 // How often the target goes into the VCO frequency, up to 49.
 fn wanted_product(vco: u32, target: u32) -> usize
     ensures { λ r. ⌜ WantedProduct vco target r ⌝ }
@@ -221,27 +192,92 @@ fn wanted_product(vco: u32, target: u32) -> usize
     if q < 49 { q as usize } else { 49 }
 }
 
-// The entry of the table: two pairs of post dividers, three bits for each divider.
+// For 0, 1, .., 49 the post dividers with the greatest product up to it, and those with the least above it, three bits
+// for each divider: at 11 stands 0o5262, for 5 and 2, and 6 and 2. Of equal products it has the one with the greater
+// post 1. No product is up to 0 and none above 49: 0o11 and 0o77 stand there. A `match`, since a constant array would
+// be stored to the stack at each read.
 fn posts_near(product: usize) -> u16
     requires { ⌜ product ≤ 49 ⌝ }
     ensures { λ r. ⌜ NearestPosts product r ⌝ }
 {
-    NEAREST_POSTS[product]
+    match product {
+        0 => 0o1111,
+        1 => 0o1121,
+        2 => 0o2131,
+        3 => 0o3141,
+        4 => 0o4151,
+        5 => 0o5161,
+        6 => 0o6171,
+        7 => 0o7142,
+        8 => 0o4233,
+        9 => 0o3352,
+        10 => 0o5262,
+        11 => 0o5262,
+        12 => 0o6272,
+        13 => 0o6272,
+        14 => 0o7253,
+        15 => 0o5344,
+        16 => 0o4463,
+        17 => 0o4463,
+        18 => 0o6354,
+        19 => 0o6354,
+        20 => 0o5473,
+        21 => 0o7364,
+        22 => 0o7364,
+        23 => 0o7364,
+        24 => 0o6455,
+        25 => 0o5574,
+        26 => 0o5574,
+        27 => 0o5574,
+        28 => 0o7465,
+        29 => 0o7465,
+        30 => 0o6575,
+        31 => 0o6575,
+        32 => 0o6575,
+        33 => 0o6575,
+        34 => 0o6575,
+        35 => 0o7566,
+        36 => 0o6676,
+        37 => 0o6676,
+        38 => 0o6676,
+        39 => 0o6676,
+        40 => 0o6676,
+        41 => 0o6676,
+        42 => 0o7677,
+        43 => 0o7677,
+        44 => 0o7677,
+        45 => 0o7677,
+        46 => 0o7677,
+        47 => 0o7677,
+        48 => 0o7677,
+        _ => 0o7777,
+    }
 }
 
-// The lowest rank at one feedback divider. Where the target goes q times into the VCO frequency, post dividers with
-// a product up to q give the target or more, and the greatest such product is nearest. Those with a product above q
-// give less, and there the least is nearest.
-fn best_posts(input_hz: u32, target: u32, fbdiv: u32) -> u64
-    requires { ⌜ (referenceMin ≤ «input_hz») × VcoPermits «input_hz» fbdiv ⌝ }
-    ensures { λ r. ⌜ LowestRank «input_hz» target (CandidatesAt «input_hz» fbdiv) noRank r ⌝ }
+// The product of two post dividers.
+fn product(posts: u32) -> u32
+    requires { ⌜ PostCode posts ⌝ }
+    ensures { λ r. ⌜ (r ≡ product posts) × (0 < r) × (r ≤ 49) ⌝ }
+{
+    posts / 8 * (posts % 8)
+}
+
+// The lowest of `best` and the ranks at one feedback divider. Where the target goes q times into the VCO frequency, post
+// dividers with a product up to q give the target or more, and the greatest such product is nearest. Those with a
+// product above q give less, and there the least is nearest. Most are told to be farther than `best` by a product alone.
+fn best_posts(input_hz: u32, target: u32, fbdiv: u32, best: u64) -> u64
+    requires { ⌜ (referenceMin ≤ «input_hz») × VcoPermits «input_hz» fbdiv × (best ≤ noRank) ⌝ }
+    ensures { λ r. ⌜ Lowered «input_hz» target (CandidatesAt «input_hz» fbdiv) best r ⌝ }
 {
     let vco = input_hz * fbdiv;
-    let posts = posts_near(wanted_product(vco, target)) as u32;
-    lower(
-        rank(vco, target, fbdiv, posts / 64),
-        rank(vco, target, fbdiv, posts % 64),
-    )
+    let pair = posts_near(wanted_product(vco, target)) as u32;
+    let more = pair / 64;
+    let less = pair % 64;
+    let d = best / KEYS;
+    let high = too_high(d, vco, target, product(more));
+    let now = nearer(high, best, vco, target, fbdiv, more);
+    let low = too_low(d, vco, target, product(less));
+    nearer(low, now, vco, target, fbdiv, less)
 }
 
 // The lowest of `best` and the ranks at the feedback dividers from fbdiv down to `low`: it calls itself with the next
@@ -252,7 +288,7 @@ fn walk(input_hz: u32, target: u32, fbdiv: u32, low: u32, best: u64) -> u64
     requires { ⌜ (keys ≤ best) × (best ≤ noRank) ⌝ }
     ensures { λ r. ⌜ LowestRank «input_hz» target (CandidatesTo «input_hz» fbdiv) best r ⌝ }
 {
-    let now = lower(best, best_posts(input_hz, target, fbdiv));
+    let now = best_posts(input_hz, target, fbdiv, best);
     if now < KEYS {
         return now;
     }

@@ -9,7 +9,6 @@ use Rattle.pll.proofs.walk.Reads as walk
 use Rattle.pll.proofs.walk.Kinds as walk-kinds
 use Rattle.pll.proofs.+walk.Lts-walk as walk-lts
 use Rattle.pll.proofs.best_posts.Reads as best
-use Rattle.pll.proofs.lower.Reads as lower
 
 abbrev μ-walk : Measures 0 walk-kinds.ps ℕ
 μ-walk κs a = a .1 .1 .0
@@ -22,34 +21,34 @@ walk-below t = and 0 walk-kinds.ps (falls 0 walk-kinds.ps _<_ μ-walk t) walk.Pr
 
 -- what each callee asks and gives
 abbrev claims : ℕ → walk-lts.Claims
-claims t = (best.Asked, best.Learnt, lower.Asked, lower.Learnt, walk-below t, walk.Post)
+claims t = (best.Asked, best.Learnt, walk-below t, walk.Post)
 
 walk-returns : (t : ℕ) → walk-lts.Need-returns (claims t) (walk-at t) walk.Post
 walk-returns t c =
-    let lowered = c .before in
-    rw (lowered .lower .ensures) (stop-exact _ _ _ _ _ (lowered .before .best-posts .ensures) (omega arith)
-    (omega arith) (omega arith))
+    let now = c .before .best-posts .ensures in
+    rw (now .lower) (stop-exact _ _ _ _ _ (now .found) (omega arith) (omega (arith, now .lower)) (omega arith))
 
 walk-returns-2 : (t : ℕ) → walk-lts.Need-returns-2 (claims t) (walk-at t) walk.Post
 walk-returns-2 t c =
     let lowered = c .before .before in
-    rw (lowered .lower .ensures) (stop-last _ _ _ _ _ (lowered .before .best-posts .ensures) (omega arith) _
-    (lowered .before .before .pre .1 .0 .2) (omega arith) (omega arith))
+    let now = lowered .best-posts .ensures in
+    rw (now .lower) (stop-last _ _ _ _ _ (now .found) (omega arith) _ (lowered .before .pre .1 .0 .2) (omega arith)
+    (omega arith))
 
 walk-requires : (t : ℕ) → walk-lts.Need-walk-requires (claims t) (walk-at t) walk.Post
 walk-requires t c κs =
-    let asked = c .before .before .before .before .pre .1 in let here = asked .0 .1 in let low = asked .0 .2 in (
+    let asked = c .before .before .before .pre .1 in let here = asked .0 .1 in let low = asked .0 .2 in
+    let now = c .before .before .best-posts .ensures in (
       omega arith,
-      ((asked .0 .0, permits-between _ _ _ _ (low .one) here (omega arith) (omega arith), low), omega arith),
+      ((asked .0 .0, permits-between _ _ _ _ (low .one) here (omega arith) (omega arith), low), (omega arith, omega (arith, now .lower))),
     )
 
 walk-returns-3 : (t : ℕ) → walk-lts.Need-returns-3 (claims t) (walk-at t) walk.Post
 walk-returns-3 t c =
-    let lowered = c .before .before .before in
-    walk-on _ _ _ _ _ (lowered .before .best-posts .ensures) (omega arith) _
-    (rw (lowered .lower .ensures) at (c .walk .ensures))
+    let now = c .before .before .before .best-posts .ensures in
+    walk-on _ _ _ _ _ (now .found) (omega arith) _ (rw (now .lower) at (c .walk .ensures))
 
 pub +walk-spec : {M : Type 1} → statement M
 +walk-spec =
-    close μ-walk λ t. walk-lts.spec (claims t) (walk-at t) walk.Post (λ c κs. search needs) (λ c κs. search needs)
+    close μ-walk λ t. walk-lts.spec (claims t) (walk-at t) walk.Post (λ c κs. search needs)
     (walk-returns t) (walk-returns-2 t) (λ c. search needs) (walk-requires t) (walk-returns-3 t)
