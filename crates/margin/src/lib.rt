@@ -2,6 +2,7 @@
 use pll::Found;
 use pll::PllConfig;
 ghost use mathlib.Core.Path.{_≡_};
+ghost use Prim.Native.Nat.{_≤_};
 ghost use Rattle.margin.specs.Margin.{limitIs, marginIs, marginOf};
 ghost use Rattle.pll.specs.Setting.{sameSetting};
 ghost use Rattle.margin.specs.Walk.{Has, Tells, Lowest, Highest, JustBelow, JustAbove};
@@ -31,30 +32,62 @@ fn same_setting(c: PllConfig, d: PllConfig) -> bool
         & (c.post_div2 == d.post_div2)
 }
 
-// Whether the search gives the setting c for a target.
-fn gives(input_hz: u32, target_hz: u32, c: PllConfig) -> bool
-    ensures { λ r. ⌜ Tells «input_hz» «target_hz» c r ⌝ }
+// What the search gives for a target: whether it is the setting that is asked about, and its output.
+struct Probe {
+    same: bool,
+    hz: u32,
+}
+
+fn gives(input_hz: u32, target_hz: u32, c: PllConfig) -> Probe
+    ensures { λ r. ⌜ Tells «input_hz» «target_hz» c (r .same) ⌝ }
 {
     match pll::find_pll_params(input_hz, target_hz) {
-        Found::Params(d) => same_setting(d, c),
-        Found::Refused(_) => false,
+        Found::Params(d) => Probe {
+            same: same_setting(d, c),
+            hz: d.valid_hz(input_hz),
+        },
+        Found::Refused(_) => Probe { same: false, hz: 0 },
     }
 }
 
+fn half_way(a: u32, b: u32) -> u64 {
+    (a as u64 + b as u64) / 2
+}
+
+// A guess, or the end past which it lies.
+fn within(low: u32, high: u32, guess: u64) -> u32
+    requires { ⌜ low ≤ high ⌝ }
+    ensures { λ r. ⌜ (low ≤ r) × (r ≤ high) ⌝ }
+{
+    if guess <= low as u64 {
+        return low;
+    }
+    if high as u64 <= guess {
+        return high;
+    }
+    guess as u32
+}
+
 // The lowest target for which the search gives c, at or below one that has it. The targets that have it lie side by
-// side.
+// side, so any target between tells on which side of it the lowest is. It is half way between two outputs: that is the
+// guess, once there is another.
 fn lowest_with(input_hz: u32, target_hz: u32, c: PllConfig) -> u32
     requires { ⌜ Has «input_hz» c «target_hz» ⌝ }
     ensures { λ r. ⌜ Lowest «input_hz» «target_hz» c r ⌝ }
 {
+    let own = c.valid_hz(input_hz);
     let mut low: u32 = 0;
     let mut high = target_hz;
+    let mut guess = target_hz as u64 * 63 / 64;
     while low < high {
-        let middle = low + (high - low) / 2;
-        if gives(input_hz, middle, c) {
-            high = middle;
+        let at = within(low, high - 1, guess);
+        let found = gives(input_hz, at, c);
+        if found.same {
+            high = at;
+            guess = half_way(low, at);
         } else {
-            low = middle + 1;
+            low = at + 1;
+            guess = half_way(found.hz, own);
         }
     }
     low
@@ -65,14 +98,19 @@ fn highest_with(input_hz: u32, target_hz: u32, c: PllConfig) -> u32
     requires { ⌜ Has «input_hz» c «target_hz» ⌝ }
     ensures { λ r. ⌜ Highest «input_hz» «target_hz» c r ⌝ }
 {
+    let own = c.valid_hz(input_hz);
     let mut low = target_hz;
     let mut high: u32 = TARGET_MAX;
+    let mut guess = target_hz as u64 * 65 / 64;
     while low < high {
-        let middle = high - (high - low) / 2;
-        if gives(input_hz, middle, c) {
-            low = middle;
+        let at = within(low + 1, high, guess);
+        let found = gives(input_hz, at, c);
+        if found.same {
+            low = at;
+            guess = half_way(at, high);
         } else {
-            high = middle - 1;
+            high = at - 1;
+            guess = half_way(own, found.hz);
         }
     }
     low
