@@ -35,7 +35,8 @@ pub fn words(bytes: &[u8]) -> Vec<u64> {
 
 pub fn read(reading: u32, bytes: &[u8]) -> String {
     let words = words(bytes);
-    let sheet = Sheet { rp235x: words.first() == Some(&(38 << 58)), words };
+    // The six kind bits of the first step tell the chip, whatever its spare bits.
+    let sheet = Sheet { rp235x: words.first().is_some_and(|word| word >> 58 == 38), words };
     if reading > if sheet.rp235x { 31 } else { 15 } {
         return "refused 18".to_string();
     }

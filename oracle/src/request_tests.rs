@@ -76,3 +76,23 @@ fn a_refused_start_leaves_an_empty_sheet() {
     assert_eq!(calls(512), format!("{} / {boards}", "d".repeat(512)));
     assert_eq!(calls(513), "bad case");
 }
+
+#[test]
+fn six_kind_bits_tell_the_chip() {
+    let rows = [
+        ("read 31 9800000000000000", "refused 26"),
+        ("read 32 9800000000000000", "refused 18"),
+        ("read 16 9800000000000001", "refused 26"),
+        ("read 31 9bffffffffffffff", "refused 26"),
+        ("read 32 9800000000000001", "refused 18"),
+        ("read 16 9c00000000000000", "refused 18"),
+        ("read 16 9400000000000000", "refused 18"),
+        ("read 15 9400000000000000", "refused 26"),
+        // Fewer than 8 bytes are no step.
+        ("read 16 98000000000000", "refused 18"),
+        ("read 16 980000000000000000", "refused 26"),
+    ];
+    for (case, answer) in rows {
+        assert_eq!(answer_line(case), answer, "{case}");
+    }
+}
