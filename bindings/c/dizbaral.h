@@ -149,7 +149,7 @@ uint32_t dizbaral_longest_wait(uint32_t k);
 /* Sleep (docs/SLEEP.md): saves the eleven register words in a slot from 0 to 3, and makes them the words of the sleeping
  * chip. The four slots are 48 numbers, a flag (1 where it is saved, else 0; any other is malformed) and eleven words
  * each; with nothing saved they are zeros. The steps are written as two numbers each: a register and the value to be
- * written to it, or one of the waits below and 0. How many numbers of steps were written; those past them keep their
+ * written to it, or one of the waits above and 0. How many numbers of steps were written; those past them keep their
  * values. Refusal 29. */
 uint64_t dizbaral_sleep(uint32_t slots[48], uint8_t slot, uint32_t words[11], uint32_t steps[28]);
 

@@ -1,4 +1,4 @@
--- How a target is looked up in a table: by halving. In the book this is the search (`lookup-searches`, proofs/Choice).
+-- How a target is looked up in a table: by halving. In the book this is the search (`lookup-searches`, proofs/Lookups).
 use mathlib.Core.{List.List, Bool.Bool, Bool._&&_, Bool._||_}
 use Prim.Native.Nat.{ℕ, zero, suc, _+_, _-_, _*_, _/_, _%_}
 use lib.{Dec.ltb, Dec.eqb, ListN.getD}
