@@ -1,4 +1,4 @@
--- The example of docs/FORMAT.md, Program clocks: the report of `125000000`.
+-- The example of docs/PROGRAMS.md, Program clocks: the report of `125000000`.
 use mathlib.Core.{List.List, List.[], List._∷_, List._++_, Path._≡_}
 use Prim.Native.{Nat.ℕ, String.String}
 use borrow.Author.Tests.{eq-eqb}
