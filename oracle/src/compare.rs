@@ -95,9 +95,7 @@ pub fn class(case: &Case, rust: &Answer, ours: &str) -> Option<Class> {
         (Answer::Says(_), _) if under_minimum(case) => (refused == Some(15)).then_some(Class::UnderMinimum),
         (Answer::Unknown(_), _) => None,
         _ if rust.to_string() != ours => None,
-        (Answer::Ruled(_), None) if [Kind::Sleep, Kind::Wake].contains(&case.kind) => {
-            Some(Class::CrystalCode)
-        }
+        (Answer::Ruled(_), None) if sleeps(case) => Some(Class::CrystalCode),
         (Answer::Ruled(_), _) => Some(Class::SameByRule(case.word())),
         (Answer::Settled(_), _) => Some(Class::SameSettling),
         (Answer::Scaled(_), _) => Some(Class::SameScale),
@@ -109,6 +107,11 @@ pub fn class(case: &Case, rust: &Answer, ours: &str) -> Option<Class> {
 /// Over what the datasheet's field holds, 0xAA0 included.
 pub fn ring_divider(case: &Case) -> bool {
     case.kind == Kind::Sheet && case.numbers[PLAN + at::RING + 11] > 0xfff - 0xaa0
+}
+
+/// One of `sleep` or `wake`: where a rule answers it without a refusal, the crystal's enable code is none.
+pub fn sleeps(case: &Case) -> bool {
+    [Kind::Sleep, Kind::Wake].contains(&case.kind)
 }
 
 pub fn under_minimum(case: &Case) -> bool {

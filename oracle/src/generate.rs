@@ -25,13 +25,26 @@ pub fn lines(seed: u64, count: usize) -> impl Iterator<Item = String> {
     fixed.map(|case| case.text()).chain(random).take(count)
 }
 
-/// Those that stored files are made from: the cases that rest on the Rust.
+/// Those that stored files are made from, the cases that rest on the Rust: so many of them, then those of `sleep` and `wake`.
 pub fn stored_lines(seed: u64, count: usize) -> impl Iterator<Item = String> {
     let fixed = limits::all().into_iter().chain(rp235x::limits());
     let (mut of_rust, mut of_rp235x) = (random_lines(seed, case), random_lines(seed ^ RP235X, rp235x::case));
     let random = (0..).map(move |at: usize| if at.is_multiple_of(2) { of_rust() } else { of_rp235x() });
-    fixed.map(|case| case.text()).chain(random).take(count)
+    fixed.map(|case| case.text()).chain(random).take(count).chain(sleeps(seed))
 }
+
+/// Random cases of `sleep` and `wake` in stored files, half of them of each.
+const SLEEPS: usize = 600;
+
+fn sleeps(seed: u64) -> impl Iterator<Item = String> {
+    let mut kinds = [Kind::Sleep, Kind::Wake].into_iter().cycle();
+    let random = random_lines(seed ^ SLEEP, move |r| of_kind(r, kinds.next().unwrap()));
+    let fixed = sleep::limits().into_iter().map(|case| case.text());
+    fixed.chain(std::iter::repeat_with(random).take(SLEEPS))
+}
+
+/// Sets the seed of the stored sleeps apart.
+const SLEEP: u64 = 11 << 32;
 
 /// Sets the seed of the RP235x's cases apart.
 const RP235X: u64 = 235 << 32;

@@ -1,5 +1,5 @@
 //! Cases of requests, some of which rest on rules of the port's own, as `generate` has those that rest on the Rust:
-//! first the limits, then random ones. Stored files hold none of these.
+//! first the limits, then random ones. Of these, stored files hold those of `sleep` and `wake` that the Rust answers.
 
 use crate::book;
 use crate::case::{Case, Kind};

@@ -7,7 +7,7 @@ use std::path::Path;
 
 use crate::answer::{Answer, answer};
 use crate::case::Case;
-use crate::compare::{gpout_ruled, named, ring_divider, under_minimum};
+use crate::compare::{gpout_ruled, named, ring_divider, sleeps, under_minimum};
 use crate::generate;
 
 /// Why a case is left out; nothing where it stays.
@@ -20,6 +20,9 @@ fn left_out(case: &Case, rust: &Answer) -> Option<String> {
         Answer::Drops(3) => "the Rust settles for a shorter time, refusal 3".to_string(),
         Answer::Settled(_) => "the Rust settles for a shorter time".to_string(),
         Answer::Drops(number) => format!("the Rust loses bits, refusal {number}"),
+        Answer::Ruled(text) if sleeps(case) && !text.starts_with("refused") => {
+            "the Rust takes a crystal's enable code otherwise".to_string()
+        }
         Answer::Ruled(_) => "no counterpart, a rule of our own".to_string(),
         Answer::Sheet(steps) if case.room() < steps.len() * 8 => {
             "buffer too short, no counterpart".to_string()
