@@ -1,3 +1,4 @@
 pub mod Changed
 pub mod Benches
 pub mod History
+pub mod Untouched

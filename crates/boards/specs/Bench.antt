@@ -6,6 +6,7 @@ use Rattle.base.specs.{Answer.Answer, Answer.value, Answer.refusal, Choice.pick
 use Rattle.runner.specs.declared.{Stepper.Stepper, Runner.Runner}
 use Rattle.boards.specs.declared.{Bench.Bench, Benched.Benched, AllOpened.AllOpened}
 use Rattle.runner.specs.Run.{Outcome, outcome, replyIs, fresh, stepperOf, Begun, begun, started, openingIs, startedWith}
+use Rattle.runner.specs.Calls.{stepperTimedOut}
 use Rattle.kept.specs.Kept.{badSize}
 
 abbrev pub benchedIs : Benched → Outcome Bench
@@ -32,6 +33,11 @@ boardAt b n = getD (b .boards) n noBoard
 abbrev pub inBench : Bench → ℕ → Outcome Stepper → Outcome Bench
 inBench b n x =
     outcome (x .answer) (record { boards = set (b .boards) n (x .next); kept = b .kept; len = b .len })
+
+-- the bench where the lock of board n timed out
+abbrev pub boardTimedOut : Bench → ℕ → Bench
+boardTimedOut b n =
+    record { boards = set (b .boards) n (stepperTimedOut (boardAt b n)); kept = b .kept; len = b .len }
 
 -- the frequency that a board holds for a clock, by the clock's number; over 9 there is no clock
 unfoldable pub boardHz : Bench → ℕ → ℕ → Answer ℕ
