@@ -1,9 +1,12 @@
--- Will it come up? The sheet of an accepted plan, at its reading, under a runner that was started with it.
-use Prim.Native.Nat.{ℕ, _+_, _*_, _≤_, _<_}
+-- Will it come up? The sheet of an accepted plan, at its reading, under a runner that was started with it; and the bytes that
+-- a call of `init` wrote.
+use Prim.Native.Nat.{ℕ, _+_, _*_, _/_, _≤_, _<_}
 use native.Mathlib.{Omega.arith, Nat.mul-le-mul-left, Nat.lt-of-not-le, Decide.decLe}
 use mathlib.Core.{Bool.Bool, List.List, Path._≡_, Path.refl}
-use lib.ListN.{length}
-use Rattle.step.specs.Sheet.{encoded}
+use lib.{ListN.length, ListN.take, ListN.drop, Seq.take-append-seam}
+use borrow.Author.Tests.{lt-ltb, le-ltb}
+use Rattle.step.specs.Sheet.{maxSteps, encoded}
+use Rattle.step.proofs.Sheets.{length-encoded}
 use Rattle.chip.specs.declared.{Chip.Chip, Chip.the-variants.Rp2040, Chip.the-variants.Rp235x}
 use Rattle.divider.specs.{Delay.cyclesPerUs, Delay.settlingCycles, Clock.dividedHz}
 use Rattle.config.specs.declared.ClockConfig.{ClockConfig}
@@ -14,11 +17,11 @@ use Rattle.refusals.specs.Refusals.{Accepted}
 use Rattle.sheet_steps.specs.Steps.{headPart, ringPart, voltagePart, crystalPart, switchSteps, sysPart, periPart, auxPart}
 use Rattle.sheet_steps.specs.Steps.{rtcPart, clocksPart, stepsOf, mostSteps}
 use Rattle.sheet.specs.Writer.{sheetBytes}
-use Rattle.sheet.proofs.{Counts.chip-few, Counts.steps-few, Sheets.steps-formed}
+use Rattle.sheet.proofs.{Counts.chip-few, Counts.steps-few, Sheets.steps-formed, Demand3.answered}
 use Rattle.sheet.proofs.Examples.{Gives, longestPlan, longest-steps, longest235, longest-steps-235}
 use Rattle.up.specs.{Up.planSteps, Wait.HearsAtMost, Wait.waitsIn, Wait.UpAfter, Wait.UpWithin, Slow.slowest}
-use Rattle.up.specs.ComesUp.{maxWaits, mostCalls, ComesUp, ComesUpReady}
-use Rattle.up.proofs.{Stored.steps-store, Wait.steps-come-up, Wait.steps-come-up-ready}
+use Rattle.up.specs.ComesUp.{maxWaits, mostCalls, ComesUp, ComesUpReady, InitComesUp, longestWait, LongestCovers}
+use Rattle.up.proofs.{Stored.steps-store, Run.sheet-starts, Wait.steps-come-up, Wait.steps-come-up-ready}
 use Rattle.up.proofs.{Slow.slow-few, Slow.steps-come-up-slowest, Waits.waits-ten}
 
 module _ (p : ClockConfig) (reading : ℕ) (ok : Accepted p reading) (t : Typed (settingsOf p reading)) where
@@ -41,6 +44,34 @@ module _ (p : ClockConfig) (reading : ℕ) (ok : Accepted p reading) (t : Typed 
       let s = settingsOf p reading in
       rw (steps-store reading p) at
       (steps-come-up-ready (planSteps p reading) (steps-formed p reading ok t) (steps-few reading s) ready hears)
+
+-- the sheet of a call of `init`, from what it promises alone: a length is answered for an accepted plan, and the buffer then
+-- starts with the plan's sheet
+pub init-comes-up : InitComesUp
+unfolding sheetBytes
+init-comes-up p reading before after r n call e =
+    let a = answered p reading before after r call n e in
+    let sheet : take n after ≡ sheetBytes p reading =
+    rw (a .bytes, a .count) (take-append-seam (sheetBytes p reading) (drop (length (sheetBytes p reading)) before)) in
+    let steps : n / 8 ≡ length (planSteps p reading) = omega (arith, a .count, length-encoded (planSteps p reading)) in
+    rw sheet
+    (record {
+      starts = sheet-starts p reading;
+      in-time = comes-up p reading (a .ok) (call .typed);
+      at-once = rw steps (comes-up-ready p reading (a .ok) (call .typed));
+    })
+
+-- `longest_wait` covers both chips
+chip-covered : (chip : Chip) (k : ℕ) → mostCalls chip k ≤ maxSteps + maxWaits * k
+chip-covered Rp2040 k = omega arith
+chip-covered Rp235x k = omega arith
+
+pub longest-covers : LongestCovers
+unfolding longestWait
+longest-covers chip k = (
+  (λ small. rw (lt-ltb k 1000000 small) (chip-covered chip k)),
+  λ over. rw (le-ltb k 1000000 over),
+)
 
 -- the bound is reached: the longest plan of each chip at reading 11, kept waiting by the slowest stream
 abbrev pub longest : Chip → ClockConfig
