@@ -1,6 +1,7 @@
--- The two ends of the feedback dividers that the search may take at an input.
-use mathlib.Core.List.{List, [], _∷_}
-use Prim.Native.Nat.{ℕ}
+-- The two ends of the feedback dividers that the search may take at an input, and the walk between them.
+use mathlib.Core.{Path._≡_, Logic._⊎_, List.List, List.[], List._∷_}
+use Prim.Native.Nat.{ℕ, zero, suc}
+use lib.Dec.{leb}
 use Rattle.base.specs.{Choice.pick, Answer.Answer, Answer.value, Answer.refusal}
 use Rattle.pll.specs.{Ranges.feedbackMax, Search.falling, Search.rising, Search.setting, Search.permitted}
 
@@ -16,3 +17,23 @@ highestOf input = firstPermitted input (falling feedbackMax)
 -- the lowest
 unfoldable pub lowestOf : ℕ → Answer ℕ
 lowestOf input = firstPermitted input (rising feedbackMax 1)
+
+-- the dividers that the walk takes from fb down to `low`: after each that is above `low` the next lower one. A setting with
+-- no remainder may end it before.
+unfoldable pub walkDown : ℕ → ℕ → List ℕ
+walkDown low zero = []
+walkDown low (suc n) = suc n ∷ pick (leb (suc n) low) [] (walkDown low n)
+
+-- those at an input: from the highest down to the lowest; none where there is no end
+abbrev pub walkedBetween : Answer ℕ → Answer ℕ → List ℕ
+walkedBetween (value high) (value low) = walkDown low high
+walkedBetween (value high) (refusal n) = []
+walkedBetween (refusal n) low = []
+
+unfoldable pub walkedOf : ℕ → List ℕ
+walkedOf input = walkedBetween (highestOf input) (lowestOf input)
+
+-- fb is one of the list
+abbrev pub Among : ℕ → List ℕ → Type 0
+Among fb [] = ⊥
+Among fb (k ∷ ks) = (fb ≡ k) ⊎ Among fb ks

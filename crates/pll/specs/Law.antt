@@ -1,9 +1,9 @@
 -- What the search answers, said without its order of work; proved of `searchOf` in `proofs/Right.antt`.
-use mathlib.Core.{Path._≡_, Logic._⊎_}
+use mathlib.Core.{Path._≡_, Logic._⊎_, Logic._↔_}
 use Prim.Native.Nat.{ℕ, _*_, _≤_, _<_}
 use Rattle.base.specs.Answer.{Answer, value, refusal}
 use Rattle.pll.specs.Ranges.{referenceMin, feedbackMin, feedbackMax, vcoMin, vcoMax}
-use Rattle.pll.specs.{Setting.vcoOf, Setting.postsOf, Search.distance}
+use Rattle.pll.specs.{Setting.vcoOf, Setting.postsOf, Search.distance, Ends.walkedOf, Ends.Among}
 use Rattle.pll.specs.declared.PllConfig.{PllConfig}
 
 -- a VCO frequency of 750 to 1600 MHz
@@ -25,6 +25,11 @@ pub record HighestPermitted (input fb : ℕ) : Type 0 where
 pub record LowestPermitted (input fb : ℕ) : Type 0 where
   pub one : VcoPermits input fb
   pub last : (k : ℕ) → VcoPermits input k → fb ≤ k
+
+-- Every feedback divider that the walk takes at an input, which is from 5 MHz on, is one of 16 to 320 that the VCO permits,
+-- and none of those lies beyond its two ends.
+abbrev pub WalkTakesPermitted : Type 0
+WalkTakesPermitted = (input fb : ℕ) → Among fb (walkedOf input) ↔ ((referenceMin ≤ input) × VcoPermits input fb)
 
 -- what the search chooses from: the reference is the input
 pub record Candidate (input : ℕ) (c : PllConfig) : Type 0 where

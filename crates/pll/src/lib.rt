@@ -5,11 +5,11 @@ pub mod usb;
 use base::Number;
 ghost use mathlib.Core.{Path._≡_, Bool.true};
 ghost use Prim.Native.Nat.{_*_, _/_, _≤_, _<_, min};
-ghost use Rattle.base.specs.Answer.{numberIs};
+ghost use Rattle.base.specs.Answer.{value, numberIs};
 ghost use Rattle.pll.specs.Ranges.{referenceMin, feedbackMax, vcoMax};
 ghost use Rattle.pll.specs.Setting.{postsOf, vcoOf, outputHz, dividersOf, validOf, validHz, outputOf};
 ghost use Rattle.pll.specs.Search.{searchOf, foundIs};
-ghost use Rattle.pll.specs.Law.{VcoPermits, LowestPermitted};
+ghost use Rattle.pll.specs.{Ends.lowestOf, Ends.walkedOf, Ends.Among, Law.VcoPermits};
 ghost use Rattle.pll.specs.Walk.{PostCode, product, WantedProduct, NearestPosts, scoreOf, codeRankOf, settingOf};
 ghost use Rattle.pll.specs.Walk.{keys, noRank, LowestRank, Lowered, CandidatesAt, CandidatesTo};
 
@@ -281,10 +281,10 @@ fn best_posts(input_hz: u32, target: u32, fbdiv: u32, best: u64) -> u64
 }
 
 // The lowest of `best` and the ranks at the feedback dividers from fbdiv down to `low`: it calls itself with the next
-// lower one. Each that it takes is one that the VCO permits. A rank with no remainder ends the walk, since nothing after
-// it is lower.
+// lower one. Those that it takes are those that the VCO permits: `walk-takes-permitted` (proofs/Walked). A rank with no
+// remainder ends the walk, since nothing after it is lower.
 fn walk(input_hz: u32, target: u32, fbdiv: u32, low: u32, best: u64) -> u64
-    requires { ⌜ (referenceMin ≤ «input_hz») × VcoPermits «input_hz» fbdiv × LowestPermitted «input_hz» low ⌝ }
+    requires { ⌜ Among fbdiv (walkedOf «input_hz») × (lowestOf «input_hz» ≡ value low) ⌝ }
     requires { ⌜ (keys ≤ best) × (best ≤ noRank) ⌝ }
     ensures { λ r. ⌜ LowestRank «input_hz» target (CandidatesTo «input_hz» fbdiv) best r ⌝ }
 {

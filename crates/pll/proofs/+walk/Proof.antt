@@ -1,9 +1,11 @@
 -- The proof of the cycle of calls {walk}. The measure is the feedback divider.
 use native.Mathlib.Omega.{arith}
-use Prim.Native.Nat.{ℕ, _<_}
+use Prim.Native.Nat.{ℕ, _≤_, _<_}
 use borrow.{Author.Needs.needs, Fn.Kinds.In}
 use borrow.Fn.PlainCycle.{Measures, is, falls, and}
-use Rattle.pll.proofs.{Ends.permits-between, Steps.stop-exact, Steps.stop-last, Steps.walk-on, +walk.statement}
+use Rattle.pll.specs.{Ranges.referenceMin, Law.VcoPermits, Ends.walkedOf, Ends.Among}
+use Rattle.pll.proofs.{Ends.permits-between, Ends.lowest-right, Walked.walk-takes-permitted, Steps.stop-exact, Steps.stop-last}
+use Rattle.pll.proofs.{Steps.walk-on, +walk.statement}
 use Rattle.pll.proofs.+walk.Tie.{close}
 use Rattle.pll.proofs.walk.Reads as walk
 use Rattle.pll.proofs.walk.Kinds as walk-kinds
@@ -23,6 +25,13 @@ walk-below t = and 0 walk-kinds.ps (falls 0 walk-kinds.ps _<_ μ-walk t) walk.Pr
 abbrev claims : ℕ → walk-lts.Claims
 claims t = (best.Asked, best.Learnt, walk-below t, walk.Post)
 
+-- a divider that the walk takes is permitted
+taken : {input fb : ℕ} → Among fb (walkedOf input) → (referenceMin ≤ input) × VcoPermits input fb
+taken {input} {fb} m = walk-takes-permitted input fb .0 m
+
+walk-posts : (t : ℕ) → walk-lts.Need-best-posts-requires (claims t) (walk-at t) walk.Post
+walk-posts t c κs = let here = taken (c .pre .1 .0 .0) in (here .0, here .1, omega arith)
+
 walk-returns : (t : ℕ) → walk-lts.Need-returns (claims t) (walk-at t) walk.Post
 walk-returns t c =
     let now = c .before .best-posts .ensures in
@@ -32,15 +41,20 @@ walk-returns-2 : (t : ℕ) → walk-lts.Need-returns-2 (claims t) (walk-at t) wa
 walk-returns-2 t c =
     let lowered = c .before .before in
     let now = lowered .best-posts .ensures in
-    rw (now .lower) (stop-last _ _ _ _ _ (now .found) (omega arith) _ (lowered .before .pre .1 .0 .2) (omega arith)
-    (omega arith))
+    let asked = lowered .before .pre .1 .0 in
+    rw (now .lower) (stop-last _ _ _ _ _ (now .found) (omega arith) _ (lowest-right _ _ (asked .1)) (omega arith)
+    (omega (arith, taken (asked .0) .1 .low)))
 
 walk-requires : (t : ℕ) → walk-lts.Need-walk-requires (claims t) (walk-at t) walk.Post
 walk-requires t c κs =
-    let asked = c .before .before .before .pre .1 in let here = asked .0 .1 in let low = asked .0 .2 in
+    let asked = c .before .before .before .pre .1 in let here = taken (asked .0 .0) in
+    let low = lowest-right _ _ (asked .0 .1) in
     let now = c .before .before .best-posts .ensures in (
       omega arith,
-      ((asked .0 .0, permits-between _ _ _ _ (low .one) here (omega arith) (omega arith), low), (omega arith, omega (arith, now .lower))),
+      (
+        (walk-takes-permitted _ _ .1 (here .0, permits-between _ _ _ _ (low .one) (here .1) (omega arith) (omega arith)), asked .0 .1),
+        (omega arith, omega (arith, now .lower)),
+      ),
     )
 
 walk-returns-3 : (t : ℕ) → walk-lts.Need-returns-3 (claims t) (walk-at t) walk.Post
@@ -50,5 +64,5 @@ walk-returns-3 t c =
 
 pub +walk-spec : {M : Type 1} → statement M
 +walk-spec =
-    close μ-walk λ t. walk-lts.spec (claims t) (walk-at t) walk.Post (λ c κs. search needs)
+    close μ-walk λ t. walk-lts.spec (claims t) (walk-at t) walk.Post (walk-posts t)
     (walk-returns t) (walk-returns-2 t) (λ c. search needs) (walk-requires t) (walk-returns-3 t)

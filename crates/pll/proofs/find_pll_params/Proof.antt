@@ -3,7 +3,7 @@ use mathlib.Core.{Path.sym, Path.ap, Path._∙_, Logic.inl, Logic.inr}
 use native.Mathlib.Omega.{arith}
 use borrow.Author.Needs.{needs}
 use Rattle.base.specs.Answer.{refusal, numberIs}
-use Rattle.pll.proofs.{Candidates.a-candidate, Ends.highest-right, Ends.lowest-right, Inputs.none-to-walk}
+use Rattle.pll.proofs.{Candidates.a-candidate, Ends.highest-right, Walked.walk-takes-permitted, Inputs.none-to-walk}
 use Rattle.pll.proofs.{Joined.lowest-found, Steps.all-walked, find_pll_params.Statement.statement}
 use Rattle.pll.proofs.find_pll_params.Tie as tie
 
@@ -12,8 +12,8 @@ walk-requires c κs =
     let low = c .before in let lowest = low .before .before in let high = lowest .before .before in
     let from = highest-right _ _ (sym (high .before .before .highest .ensures) ∙ ap numberIs
     (high .high .given .1)) in
-    let to = lowest-right _ _ (sym (lowest .lowest .ensures) ∙ ap numberIs (low .low .given .1)) in
-    ((from .0 .0, from .1 .one, to), omega arith)
+    let to = sym (lowest .lowest .ensures) ∙ ap numberIs (low .low .given .1) in
+    ((walk-takes-permitted _ _ .1 (from .0 .0, from .1 .one), to), omega arith)
 
 returns : tie.Need-returns
 returns c =
