@@ -1,7 +1,11 @@
 -- What reading a sheet back answers, in the request's words. The law leaves no choice: `readback-one` in the proofs.
-use mathlib.Core.{Path._≡_, List.List}
-use Prim.Native.Nat.{ℕ, _≤_, _<_}
-use Rattle.base.specs.Answer.{Answer, value, refusal}
+use mathlib.Core.{Path._≡_, Bool._&&_, List.List}
+use Prim.Native.Nat.{ℕ, _/_, _≤_, _<_}
+use lib.{ListN.length, ListN.getD, Dec.leb, Dec.eqb}
+use Rattle.base.specs.{Choice.pick, Answer.Answer, Answer.value, Answer.refusal}
+use Rattle.chip.specs.declared.{Chip.Chip, Chip.the-variants.Rp2040, Chip.the-variants.Rp235x}
+use Rattle.chip.specs.Chips.{factsOf}
+use Rattle.step.specs.Kinds as kind
 use Rattle.config.specs.declared.{ClockConfig.ClockConfig, OptionXosc.OptionXosc}
 use Rattle.config.specs.declared.OptionXosc.the-variants.{Some as xosc, None as noXosc}
 use Rattle.config.specs.declared.OptionU32.the-variants.{Some as given}
@@ -10,7 +14,15 @@ use Rattle.config.specs.Board.{boardOf}
 use Rattle.settings.specs.{Settings.settlingTime, Settings.settingsOf, Typed.Typed}
 use Rattle.refusals.specs.Refusals.{Accepted}
 use Rattle.sheet.specs.Writer.{sheetBytes}
-use Rattle.readback.specs.Steps.{topReading}
+
+-- The chip whose sheet the bytes are: a first step of kind 38 means the RP235x, anything else the RP2040. A step has 8 bytes,
+-- and its kind is the first six bits of the first byte, whatever bits follow
+abbrev pub chipIn : List ℕ → Chip
+chipIn sheet = pick (leb 8 (length sheet) && eqb (getD sheet 0 0 / 4) kind.chip-mark) Rp235x Rp2040
+
+-- the greatest reading of that chip, 15 or 31
+unfoldable pub topReading : List ℕ → ℕ
+topReading sheet = factsOf (chipIn sheet) .«top_reading»
 
 -- a plan, with numbers of their types, that is accepted at the reading and written to exactly these bytes
 pub record Gives (sheet : List ℕ) (reading : ℕ) (p : ClockConfig) : Type 0 where
@@ -39,7 +51,7 @@ pub record Back (sheet : List ℕ) (reading : ℕ) (p : ClockConfig) : Type 0 wh
   pub is-given : p .«voltage_stabilization_delay_us» ≡ given (timeOf p)
   pub still : settingsOf p reading .settling ≡ noCycles → timeOf p ≡ 0
 
--- 18: reading over the greatest of the sheet's chip, 15 or 31; 26: no accepted plan gives these bytes for this reading; else the plan
+-- 18: reading over the greatest of the sheet's chip; 26: no accepted plan gives these bytes for this reading; else the plan
 pub data ReadBack (sheet : List ℕ) (reading : ℕ) : Answer ClockConfig → Type 0 where
   over : topReading sheet < reading → ReadBack sheet reading (refusal 18)
   none : reading ≤ topReading sheet → ((p : ClockConfig) → Gives sheet reading p → ⊥) → ReadBack sheet reading (refusal 26)

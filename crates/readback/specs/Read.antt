@@ -8,7 +8,7 @@ use Rattle.text.specs.Ascii.{same}
 use Rattle.config.specs.declared.ClockConfig.{ClockConfig}
 use Rattle.sheet.specs.{Read.settingsFrom, Writer.sheetBytes, Writer.refusalIn}
 use Rattle.least_plan.specs.Plan.{planOf}
-use Rattle.readback.specs.{Steps.stepsRead, Steps.topReading, Cut.cutSettings}
+use Rattle.readback.specs.{Steps.stepsRead, Cut.cutSettings, Law.topReading}
 
 -- the plan made of what the bytes hold
 unfoldable pub planIn : List ℕ → ℕ → ClockConfig

@@ -1,12 +1,9 @@
 -- The steps that a sheet's bytes hold, one for each eight bytes.
-use mathlib.Core.{Bool._&&_, List.List, List.[], List._∷_}
+use mathlib.Core.List.{List, [], _∷_}
 use Prim.Native.Nat.{ℕ, zero, suc, _+_, _*_, _/_, min}
-use lib.{ListN.length, ListN.take, ListN.drop, ListN.set, ListN.replicate, ListN.getD, Dec.ltb, Dec.leb, Dec.eqb}
+use lib.{ListN.length, ListN.take, ListN.drop, ListN.set, ListN.replicate, Dec.ltb}
 use denote.Ref.{now}
 use Rattle.base.specs.{Answer.Answer, Answer.value, Answer.refusal, Choice.pick}
-use Rattle.chip.specs.declared.{Chip.Chip, Chip.the-variants.Rp2040, Chip.the-variants.Rp235x}
-use Rattle.chip.specs.Chips.{factsOf}
-use Rattle.step.specs.Kinds as kind
 use Rattle.step.specs.declared.Step.{Step}
 use Rattle.step.specs.Access.{readAt}
 use Rattle.sheet_steps.specs.Steps.{step0}
@@ -68,11 +65,3 @@ valueIn (part a rest) = a
 
 abbrev pub restIn : {A : Type 0} → Part A → List Step
 restIn (part a rest) = rest
-
--- the six kind bits of a first step, 38, mean RP235x, anything else RP2040; fewer than 8 bytes have no first step
-abbrev pub chipIn : List ℕ → Chip
-chipIn sheet = pick (leb 8 (length sheet) && eqb (getD sheet 0 0 / 4) kind.chip-mark) Rp235x Rp2040
-
--- the greatest reading of that chip, 15 or 31
-unfoldable pub topReading : List ℕ → ℕ
-topReading sheet = factsOf (chipIn sheet) .«top_reading»

@@ -18,7 +18,8 @@ use step::kind;
 ghost use mathlib.Core.Path.{_≡_};
 ghost use Rattle.text.specs.Ascii.{same};
 ghost use Rattle.config.specs.Presets.{plannedIs};
-ghost use Rattle.readback.specs.Steps.{takenAt, nextStep, moved, countOf, stepsRead, held, chipIn, topReading};
+ghost use Rattle.readback.specs.Steps.{takenAt, nextStep, moved, countOf, stepsRead, held};
+ghost use Rattle.readback.specs.Law.{chipIn, topReading};
 ghost use Rattle.readback.specs.Read.{gives, readOf};
 
 // A sheet's bytes, and the place of the step that is next.

@@ -1,6 +1,6 @@
 -- `readback::top_reading` meets its contract.
 use borrow.Author.Needs.{needs}
-use Rattle.readback.specs.Steps.{topReading}
+use Rattle.readback.specs.Law.{topReading}
 use Rattle.readback.proofs.top_reading.Statement.{statement}
 use Rattle.readback.proofs.top_reading.Tie as tie
 
