@@ -1,4 +1,5 @@
-/* Clock sheets for the RP2040 and the RP235x, from the proved library libexport.a.
+/* Clock sheets for the RP2040 and the RP235x, from the proved library libexport.a. libfirmware.a, for a board, has
+ * dizbaral_start, dizbaral_run and dizbaral_access of it.
  *
  * Every function is total: it answers every input, and its answer is one number.
  *   below DIZBARAL_REFUSAL   the value, as each function says
@@ -8,14 +9,14 @@
  * After a refusal or DIZBARAL_MALFORMED all that was lent is as it was before, but for the lock timeout of
  * these two.
  *
- * A pointer with a length behind it is a buffer of that many elements; no function keeps it. No pointer may be NULL,
+ * A pointer with a length behind it is a buffer of that many elements; no function keeps it. Lengths are 64 bits wide on
+ * every machine, as in the proofs. No pointer may be NULL,
  * also where the length is 0. Two buffers of one call may not overlap, and nobody else may change a buffer during the
  * call, nor read one that is written (those without const). */
 #ifndef DIZBARAL_H
 #define DIZBARAL_H
 
 #include <stdbool.h>
-#include <stddef.h>
 #include <stdint.h>
 
 #define DIZBARAL_REFUSAL ((uint64_t)1 << 48)
@@ -31,6 +32,13 @@
 /* The chips; any other number is malformed. */
 #define DIZBARAL_RP2040 ((uint8_t)0)
 #define DIZBARAL_RP235X ((uint8_t)1)
+
+/* What dizbaral_access answers. */
+#define DIZBARAL_NOTHING ((uint64_t)0)
+#define DIZBARAL_WRITE ((uint64_t)1)
+#define DIZBARAL_CHANGE ((uint64_t)2)
+#define DIZBARAL_WAIT ((uint64_t)3)
+#define DIZBARAL_DELAY ((uint64_t)4)
 
 /* A sheet has at most this many bytes. */
 #define DIZBARAL_SHEET_BYTES 528
@@ -90,34 +98,34 @@ uint64_t dizbaral_gpout_frequency(uint8_t chip, uint8_t source, uint32_t whole, 
 
 /* Writes the sheet of the chip's system_freq plan (12 MHz crystal) at a reading of the regulator to the start of the
  * buffer. The length in bytes; bytes past it keep their values. Refusals 18, 1 to 14, 19. */
-uint64_t dizbaral_system_sheet(uint8_t chip, uint32_t hz, uint8_t reading, uint8_t *sheet, size_t length);
+uint64_t dizbaral_system_sheet(uint8_t chip, uint32_t hz, uint8_t reading, uint8_t *sheet, uint64_t length);
 
 /* The same for a crystal of crystal_hz, with the PLLs that dizbaral_search and dizbaral_usb_pll find. Before the other
  * refusals 15, then 25. */
 uint64_t dizbaral_system_sheet_from(uint8_t chip, uint32_t crystal_hz, uint32_t hz, uint8_t reading, uint8_t *sheet,
-                                    size_t length);
+                                    uint64_t length);
 
 /* The same for a plan of 48 numbers, 43 for the RP235x: docs/CASES.md, A plan in numbers. Malformed where they are of
  * no plan. */
-uint64_t dizbaral_plan_sheet(uint8_t chip, const uint32_t *plan, size_t numbers, uint8_t reading, uint8_t *sheet,
-                             size_t length);
+uint64_t dizbaral_plan_sheet(uint8_t chip, const uint32_t *plan, uint64_t numbers, uint8_t reading, uint8_t *sheet,
+                             uint64_t length);
 
 /* read_sheet: writes the numbers of the plan whose sheet at this reading is exactly these bytes, with the smallest delay
  * multiplier and the smallest settling time, which is given. The plan's chip: DIZBARAL_RP2040 with 48 numbers,
  * DIZBARAL_RP235X with 43; numbers past them keep their values. Refusals 18, 26. */
-uint64_t dizbaral_read_sheet(const uint8_t *sheet, size_t length, uint8_t reading, uint32_t plan[48]);
+uint64_t dizbaral_read_sheet(const uint8_t *sheet, uint64_t length, uint8_t reading, uint32_t plan[48]);
 
 /* Writes every setting that gives the target with no remainder, each once, two bytes each, most significant first:
  * feedback divider (9 bits), post dividers (3)(3), a zero bit. The lowest feedback divider comes first, then the
  * greatest post 1, then the greatest post 2. The length in bytes. Refusal 19. */
-uint64_t dizbaral_list(uint32_t input_hz, uint32_t target_hz, uint8_t *list, size_t length);
+uint64_t dizbaral_list(uint32_t input_hz, uint32_t target_hz, uint8_t *list, uint64_t length);
 
 /* Starts a runner with a sheet: 0, and the runner is fresh, with the sheet and its length kept and zeros past it. It may
  * have been anything before, zeros or a run that stopped. Refusal 20 for the length, where nothing changes.
  * The caller lends a runner as 15 numbers (position, lock polls, total of unready polls, stopped mark, kept length, ten
  * frequencies) and its kept bytes, and leaves both alone between the calls. All zeros are a runner before any start,
  * whose kept sheet is empty. */
-uint64_t dizbaral_start(uint32_t runner[15], uint8_t kept[DIZBARAL_SHEET_BYTES], const uint8_t *sheet, size_t length);
+uint64_t dizbaral_start(uint32_t runner[15], uint8_t kept[DIZBARAL_SHEET_BYTES], const uint8_t *sheet, uint64_t length);
 
 /* One call of the runner over the sheet that it was started with: DIZBARAL_DONE, DIZBARAL_PASSED, DIZBARAL_WAITING, or
  * the word of the step that is handed out (its kind in the six highest bits). ready says whether what the step waits
@@ -127,19 +135,28 @@ uint64_t dizbaral_start(uint32_t runner[15], uint8_t kept[DIZBARAL_SHEET_BYTES],
  * The lock timeout, the first refusal 22 of a run, sets the stopped mark and adds 1 to the total; position, lock polls
  * and frequencies stay. */
 uint64_t dizbaral_run(uint32_t runner[15], const uint8_t kept[DIZBARAL_SHEET_BYTES], const uint8_t *sheet,
-                      size_t length, bool ready);
+                      uint64_t length, bool ready);
+
+/* What the step at a position of a sheet, from 0 on, does to the chip, and the address of a register, a mask and a value:
+ *   DIZBARAL_NOTHING   no register (a store, the chip mark): all 0
+ *   DIZBARAL_WRITE     the whole register becomes the value
+ *   DIZBARAL_CHANGE    its bits in the mask become the value's, the others stay
+ *   DIZBARAL_WAIT      wait until its bits in the mask are the value
+ *   DIZBARAL_DELAY     let as many processor cycles pass as the value says; address and mask are 0
+ * Refusals 20 (no step stands at this position), 32 (the chip has no step of this kind). */
+uint64_t dizbaral_access(uint8_t chip, const uint8_t *sheet, uint64_t length, uint32_t position, uint32_t access[3]);
 
 /* Starts eight boards with one sheet: 0, and all are fresh. They may have been anything before. Refusal 20 for the
  * length, where nothing changes.
  * The caller lends a bench as 113 numbers (of each board from 0 to 7 position, lock polls, total of unready polls, stopped
  * mark, ten frequencies; then the kept length) and its kept bytes, and leaves both alone between the calls. */
 uint64_t dizbaral_bench_start(uint32_t bench[DIZBARAL_BENCH_NUMBERS], uint8_t kept[DIZBARAL_SHEET_BYTES],
-                              const uint8_t *sheet, size_t length);
+                              const uint8_t *sheet, uint64_t length);
 
 /* One call for a board: refusal 28 where the number is over 7, else what dizbaral_run does for a runner of its own that
  * was started with the same sheet. Nothing of another board is looked at or changed. */
 uint64_t dizbaral_bench_run(uint32_t bench[DIZBARAL_BENCH_NUMBERS], const uint8_t kept[DIZBARAL_SHEET_BYTES],
-                            uint8_t board, const uint8_t *sheet, size_t length, bool ready);
+                            uint8_t board, const uint8_t *sheet, uint64_t length, bool ready);
 
 /* How long to wait for a sheet of this library: where no wait of a started runner's run hears more than k unready
  * polls, at most this many calls of dizbaral_run come before the first that answers DIZBARAL_DONE, and none is refused.

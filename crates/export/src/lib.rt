@@ -1,7 +1,6 @@
 // The product for programs in C and Rust: numbers and slices alone. Each answer is one number, by as_numbers/specs/Numbers.
 mod bench;
 mod read;
-mod run;
 mod slots;
 
 use as_numbers::numbers;
@@ -12,8 +11,6 @@ use config::Planned;
 use margin::Margin;
 use plan_numbers::PlanRead;
 use pll::PllConfig;
-use runner::Opening;
-use runner::Runner;
 use step::MAX_BYTES;
 ghost use mathlib.Core.Path.{_≡_};
 ghost use lib.ListN.{length};
@@ -34,6 +31,7 @@ ghost use Rattle.as_numbers.specs.Numbers.{answerNumber, itself, settingNumber,
 ghost use Rattle.as_numbers.specs.Numbers.{voltageNumber, dividerNumbered, gpoutNumber};
 ghost use Rattle.export.specs.Sheet.{SheetCall, presetOn, given, planOn};
 ghost use Rattle.as_numbers.specs.Run.{runNumber, runLeaves, StartCall};
+ghost use Rattle.board_calls.specs.Access.{AccessCall};
 
 #[no_mangle]
 pub extern "C" fn dizbaral_search(input_hz: u32, target_hz: u32) -> u64
@@ -240,18 +238,7 @@ pub extern "C" fn dizbaral_start(
 ) -> u64
     ensures { λ r. ⌜ StartCall (now (runner .entry)) (now (kept .entry)) (now (sheet .entry)) r (now (runner .exit)) (now (kept .exit)) ⌝ }
 {
-    let o = runner::restarted(Runner::new(), sheet);
-    let reply = o.reply;
-    let next = o.runner;
-    match reply {
-        Opening::Started => {
-            run::put_started(runner, next.len as u32);
-            let bytes = next.kept;
-            let _n = bytes::copy(&bytes, kept);
-            0
-        }
-        Opening::Refused(number) => numbers::refused(number),
-    }
+    board_calls::start(runner, kept, sheet)
 }
 
 #[no_mangle]
@@ -264,18 +251,20 @@ pub extern "C" fn dizbaral_run(
     ensures { λ r. ⌜ r ≡ runNumber (now (runner .entry)) (now (kept .entry)) (now (sheet .entry)) ready ⌝ }
     ensures { λ _. ⌜ now (runner .exit) ≡ runLeaves (now (runner .entry)) (now (kept .entry)) (now (sheet .entry)) ready ⌝ }
 {
-    if 1 < runner[3] {
-        return numbers::MALFORMED;
-    }
-    let before = run::state(runner);
-    let word = step::word(sheet, 8 * before.position);
-    let len = base::wide(runner[4]) as usize;
-    let t = runner::turn(before, len, kept, sheet, ready);
-    let after = t.state;
-    let reply = t.reply;
-    let number = run::answer(runner, reply, word);
-    run::put_state(runner, after);
-    number
+    board_calls::call(runner, kept, sheet, ready)
+}
+
+// What the step at a position of a sheet does to the chip.
+#[no_mangle]
+pub extern "C" fn dizbaral_access(
+    chip: u8,
+    sheet: &[u8],
+    position: u32,
+    access: &mut [u32; 3],
+) -> u64
+    ensures { λ r. ⌜ AccessCall (chipNumbered chip) (now (sheet .entry)) position (now (access .entry)) r (now (access .exit)) ⌝ }
+{
+    board_calls::access(chip, sheet, position, access)
 }
 
 #[no_mangle]

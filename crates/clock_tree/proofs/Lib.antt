@@ -1,0 +1,9 @@
+pub mod Addresses
+pub mod Parts
+pub mod Sheet
+pub mod Set
+pub mod Hz
+pub mod Carried
+pub mod Times
+pub mod Waits
+pub mod Presets

@@ -1,0 +1,51 @@
+-- No wait is for something that cannot come: at each wait of a sheet what was set before it brings its condition about.
+use mathlib.Core.{Bool.Bool, Bool.true, Bool.false, Bool._&&_, Bool.not, Path._≡_, List.List, List.[], List._∷_}
+use Prim.Native.Nat.{ℕ, _^_}
+use lib.{Dec.eqb, Bits.bitAnd}
+use Rattle.base.specs.{Choice.pick, Choice.inRange, Answer.Answer, Answer.value, Answer.refusal}
+use Rattle.chip.specs.declared.Chip.{Chip}
+use Rattle.step.specs.declared.Step.{Step}
+use Rattle.pll.specs.{Ranges.referenceMin, Ranges.referenceMax, Ranges.vcoMin, Ranges.vcoMax, Setting.referenceOf, Setting.vcoOf}
+use Rattle.config.specs.declared.ClockConfig.{ClockConfig}
+use Rattle.settings.specs.{Settings.settingsOf, Frequencies.sourcesIn}
+use Rattle.refusals.specs.Refusals.{Accepted}
+use Rattle.registers.specs.declared.Access.{Access}
+use Rattle.registers.specs.Access.{accessOf}
+use Rattle.registers.specs.Map.{RESET, RESET-DONE, CLK-REF-CTRL, CLK-REF-SELECTED, CLK-SYS-CTRL, CLK-SYS-SELECTED}
+use Rattle.registers.specs.Map.{XOSC-CTRL, XOSC-STATUS, PLL-CS}
+use Rattle.sheet_steps.specs.Steps.{stepsOf}
+use Rattle.clock_tree.specs.{Machine.bitsAt, Machine.done, Tree.oscillates, Tree.pllAt, Tree.vcoOn}
+
+-- a PLL locks that is powered, whose crystal oscillates, and whose dividers give a reference and a VCO within their ranges
+abbrev pub locks : Chip → ℕ → ℕ → (ℕ → ℕ) → Bool
+locks c w crystal file =
+    oscillates (file (XOSC-CTRL c))
+    && (vcoOn c w file
+    && (inRange referenceMin referenceMax (referenceOf (pllAt c w file) crystal)
+    && inRange vcoMin vcoMax (vcoOf (pllAt c w file) crystal)))
+
+-- what a wait waits for, by the register that it reads; a wait for another register would be for nothing that is set
+abbrev pub canCome : Chip → ℕ → Access → (ℕ → ℕ) → Bool
+canCome c crystal a file =
+    pick (not (eqb (a .op) 3)) true
+    (pick (eqb (a .address) (RESET-DONE c)) (eqb (bitAnd (file (RESET c)) (a .mask)) 0)
+    (pick (eqb (a .address) (CLK-SYS-SELECTED c)) (eqb (a .value) (2 ^ bitsAt 0 1 (file (CLK-SYS-CTRL c))))
+    (pick (eqb (a .address) (CLK-REF-SELECTED c)) (eqb (a .value) (2 ^ bitsAt 0 2 (file (CLK-REF-CTRL c))))
+    (pick (eqb (a .address) (XOSC-STATUS c)) (oscillates (file (XOSC-CTRL c)))
+    (pick (eqb (a .address) (PLL-CS c 0)) (locks c 0 crystal file)
+    (pick (eqb (a .address) (PLL-CS c 1)) (locks c 1 crystal file) false))))))
+
+abbrev pub comes : Chip → ℕ → Answer Access → (ℕ → ℕ) → Bool
+comes c crystal (value a) file = canCome c crystal a file
+comes c crystal (refusal n) file = false
+
+-- at every step, as the steps go on
+abbrev pub allCome : Chip → ℕ → List Step → (ℕ → ℕ) → Bool
+allCome c crystal [] file = true
+allCome c crystal (s ∷ ss) file =
+    comes c crystal (accessOf c s) file && allCome c crystal ss (done c (accessOf c s) file)
+
+abbrev pub NoEndlessWait : Type 0
+NoEndlessWait =
+    (p : ClockConfig) (reading : ℕ) → Accepted p reading → (before : ℕ → ℕ)
+    → let s = settingsOf p reading in allCome (s .board .chip) (sourcesIn s .xosc) (stepsOf reading s) before ≡ true

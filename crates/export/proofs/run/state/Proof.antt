@@ -1,8 +1,0 @@
--- `export::run::state` meets its contract.
-use borrow.Author.Needs.{needs}
-use Rattle.export.proofs.run.state.Statement.{statement}
-use Rattle.export.proofs.run.state.Tie as tie
-
-pub state-spec : {M : Type 1} → statement M
-state-spec = tie.close (tie.spec (λ c. search needs) (λ c κs. search needs) (λ c. search needs) (λ c. search needs)
-    (λ c. search needs) (λ c. let w = c .before .before .before .wide .ensures in (rw (w .0), w .1)))
