@@ -219,13 +219,18 @@ fn clock_write(name: Name, value: u32) -> Perhaps {
 /// The password of the RP235x's power registers, in their top 16 bits.
 const PASSWORD: u32 = 0x5afe;
 
+/// A divider as the step has it, 4 as 0. Of a greater one the field has told the recorder.
+fn two_bits(divider: u8) -> (u32, u32) {
+    (divider as u32 & 3, 2)
+}
+
 /// What the RP235x has otherwise.
 fn rp235x_write(name: Name, value: u32) -> Perhaps {
     let enabled = rp235x::TickControl(value).enable();
     match name {
-        Name::Rp235xRefDivider => step(26, &[(rp235x::ClkRefDiv(value).int() as u32, 2)]),
-        Name::Rp235xUsbDivider => step(31, &[(rp235x::ClkUsbDiv(value).int() as u32, 2)]),
-        Name::Rp235xAdcDivider => step(33, &[(rp235x::ClkAdcDiv(value).int() as u32, 2)]),
+        Name::Rp235xRefDivider => step(26, &[two_bits(rp235x::ClkRefDiv(value).int())]),
+        Name::Rp235xUsbDivider => step(31, &[two_bits(rp235x::ClkUsbDiv(value).int())]),
+        Name::Rp235xAdcDivider => step(33, &[two_bits(rp235x::ClkAdcDiv(value).int())]),
         Name::TimerCycles => step(39, &[(value, 9)]),
         Name::TimerControl => step_if(enabled, 40, &[]),
         Name::WatchdogCycles => step(41, &[(value, 9)]),

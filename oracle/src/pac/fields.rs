@@ -25,12 +25,13 @@ impl Register for u32 {
 pub enum Loss {
     /// It is refused with this number.
     Refused(u8),
-    /// The same, but a divider of two bits holds 4 as 0 and loses nothing.
-    RefusedUnlessFour(u8),
+    /// A divider of 1 to 4, which the step and the RP2040 have in two bits, 4 as 0: a greater one is refused with this
+    /// number.
+    RefusedOverFour(u8),
     /// No refusal is known for it.
     Unknown,
 }
-use Loss::{Refused, RefusedUnlessFour, Unknown};
+use Loss::{Refused, RefusedOverFour, Unknown};
 
 pub(super) const fn ones(width: u32) -> u32 {
     u32::MAX >> (32 - width)
@@ -38,7 +39,11 @@ pub(super) const fn ones(width: u32) -> u32 {
 
 pub(super) fn insert(word: u32, low: u32, width: u32, value: u32, loss: Loss, name: &str) -> u32 {
     let held = value & ones(width);
-    if held != value {
+    let lost = match loss {
+        RefusedOverFour(_) => value > 4,
+        _ => held != value,
+    };
+    if lost {
         recorder::cut(value, loss, name);
     }
     (word & !(ones(width) << low)) | (held << low)
@@ -98,7 +103,7 @@ registers! {
         auxsrc set_auxsrc: ClkRefCtrlAuxsrc, 5, 2, Unknown;
     }
     ClkRefDiv {
-        int set_int: u8, 8, 2, RefusedUnlessFour(7);
+        int set_int: u8, 8, 2, RefusedOverFour(7);
     }
     ClkSysCtrl {
         src set_src: ClkSysCtrlSrc, 0, 1, Unknown;
@@ -113,7 +118,7 @@ registers! {
         enable set_enable: bool, 11, 1, Unknown;
     }
     ClkUsbDiv {
-        int set_int: u8, 8, 2, RefusedUnlessFour(12);
+        int set_int: u8, 8, 2, RefusedOverFour(12);
     }
     ClkUsbCtrl {
         auxsrc set_auxsrc: ClkUsbCtrlAuxsrc, 5, 3, Unknown;
@@ -121,7 +126,7 @@ registers! {
         phase set_phase: u8, 16, 2, Refused(12);
     }
     ClkAdcDiv {
-        int set_int: u8, 8, 2, RefusedUnlessFour(13);
+        int set_int: u8, 8, 2, RefusedOverFour(13);
     }
     ClkAdcCtrl {
         auxsrc set_auxsrc: ClkAdcCtrlAuxsrc, 5, 3, Unknown;
@@ -160,7 +165,7 @@ registers! {
         ds7 set_ds7: u8, 12, 3, Refused(1);
         passwd set_passwd: rosc::Passwd, 16, 16, Unknown;
     }
-    // The step holds the 16 bits that the code hands over; the datasheet's field has 12.
+    // The step holds the 16 bits that the code hands over; the datasheet's field has 12 (`accesses`).
     RoscDiv {
         div set_div: rosc::Div, 0, 16, Unknown;
     }

@@ -34,7 +34,7 @@ pub mod values {
 }
 
 pub mod fields {
-    use super::super::fields::Loss::{Refused, RefusedUnlessFour, Unknown};
+    use super::super::fields::Loss::{Refused, RefusedOverFour, Unknown};
     pub use super::super::fields::{
         ClkAdcCtrl, ClkPeriCtrl, ClkRefCtrl, ClkSysCtrl, ClkSysResusCtrl, ClkUsbCtrl, Freqa, Freqb, RoscCtrl,
     };
@@ -61,15 +61,15 @@ pub mod fields {
         // CLOCKS
         ClkRefSelected {}
         ClkSysSelected {}
-        // The step holds 2 bits, with 4 as 0; the datasheet's fields of these three dividers have 8, 4 and 4.
+        // Of these three dividers the step holds 2 bits, with 4 as 0.
         ClkRefDiv {
-            int set_int: u8, 16, 2, RefusedUnlessFour(7);
+            int set_int: u8, 16, 8, RefusedOverFour(7);
         }
         ClkUsbDiv {
-            int set_int: u8, 16, 2, RefusedUnlessFour(12);
+            int set_int: u8, 16, 4, RefusedOverFour(12);
         }
         ClkAdcDiv {
-            int set_int: u8, 16, 2, RefusedUnlessFour(13);
+            int set_int: u8, 16, 4, RefusedOverFour(13);
         }
         ClkSysDiv {
             int set_int: u16, 16, 16, Unknown;
