@@ -1,5 +1,5 @@
-/* Clock sheets for the RP2040 and the RP235x, from the proved library libexport.a. libfirmware.a, for a board, has
- * dizbaral_start, dizbaral_run and dizbaral_access of it.
+/* Clock sheets for the RP2040 and the RP235x, from the proved library libexport.a. libfirmware.a, for a board
+ * (docs/BOARD.md), has dizbaral_start, dizbaral_run and dizbaral_access alone.
  *
  * Every function is total: it answers every input, and its answer is one number.
  *   below DIZBARAL_REFUSAL   the value, as each function says
@@ -10,9 +10,8 @@
  * these two.
  *
  * A pointer with a length behind it is a buffer of that many elements; no function keeps it. Lengths are 64 bits wide on
- * every machine, as in the proofs. No pointer may be NULL,
- * also where the length is 0. Two buffers of one call may not overlap, and nobody else may change a buffer during the
- * call, nor read one that is written (those without const). */
+ * every machine, as in the proofs. No pointer may be NULL, also where the length is 0. Two buffers of one call may not
+ * overlap, and nobody else may change a buffer during the call, nor read one that is written (those without const). */
 #ifndef DIZBARAL_H
 #define DIZBARAL_H
 
@@ -137,13 +136,14 @@ uint64_t dizbaral_start(uint32_t runner[15], uint8_t kept[DIZBARAL_SHEET_BYTES],
 uint64_t dizbaral_run(uint32_t runner[15], const uint8_t kept[DIZBARAL_SHEET_BYTES], const uint8_t *sheet,
                       uint64_t length, bool ready);
 
-/* What the step at a position of a sheet, from 0 on, does to the chip, and the address of a register, a mask and a value:
+/* What the step at a position of a sheet, from 0 on, does to the chip; in access the address of a register, a mask and a
+ * value:
  *   DIZBARAL_NOTHING   no register (a store, the chip mark): all 0
  *   DIZBARAL_WRITE     the whole register becomes the value
  *   DIZBARAL_CHANGE    its bits in the mask become the value's, the others stay
  *   DIZBARAL_WAIT      wait until its bits in the mask are the value
  *   DIZBARAL_DELAY     let as many processor cycles pass as the value says; address and mask are 0
- * Refusals 20 (no step stands at this position), 32 (the chip has no step of this kind). */
+ * Refusal 20: at this position is no step, or none that the chip has. */
 uint64_t dizbaral_access(uint8_t chip, const uint8_t *sheet, uint64_t length, uint32_t position, uint32_t access[3]);
 
 /* Starts eight boards with one sheet: 0, and all are fresh. They may have been anything before. Refusal 20 for the
