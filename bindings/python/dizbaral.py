@@ -16,7 +16,10 @@ from typing import NamedTuple, Optional, Union
 _U8, _U16, _U32, _U64, _BOOL = ctypes.c_uint8, ctypes.c_uint16, ctypes.c_uint32, ctypes.c_uint64, ctypes.c_bool
 
 _DEFAULT = pathlib.Path(__file__).resolve().parents[2] / "target" / "libdizbaral.so"
-_library = ctypes.CDLL(os.environ.get("DIZBARAL_LIBRARY", str(_DEFAULT)))
+try:
+    _library = ctypes.CDLL(os.environ.get("DIZBARAL_LIBRARY", str(_DEFAULT)))
+except OSError as why:
+    raise ImportError(f"{why}; bindings/README.md says how the library is made") from why
 
 _REFUSAL, _MALFORMED, _ABSENT, _STEP = 1 << 48, 1 << 49, 1 << 32, 1 << 58
 
