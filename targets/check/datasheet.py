@@ -1,5 +1,5 @@
-"""Compares what dizbaral_access says of each kind of step with the register headers of the Pico SDK, which the vendor generates
-from the tables of the datasheets: addresses, bits and codes of both chips, by the names of docs/FORMAT.md, Kinds of steps.
+"""Compares what dizbaral_access says of each kind of step with the register headers of the Pico SDK, the vendor's own: addresses,
+bits and codes of both chips, by the names of docs/FORMAT.md, Kinds of steps.
 
 PICO_SDK_PATH is the folder of the SDK, PYTHONPATH has bindings/python.
 """
