@@ -21,8 +21,6 @@ pub struct Line<'a> {
     pub name: &'static str,
     /// How many calls one round is.
     pub calls: usize,
-    /// The most that is allowed of the Rust's instructions.
-    pub goal: f64,
     pub proved: Side<'a>,
     pub rust: Side<'a>,
 }
@@ -33,6 +31,9 @@ const READING: u8 = 11;
 /// The chip of the calls that are measured.
 const RP2040: u8 = Chip::Rp2040 as u8;
 const MHZ: u32 = 1_000_000;
+
+/// Room for more settings than any target has here.
+const LIST_BYTES: usize = 256;
 
 /// The inputs, made once.
 pub struct Inputs {
@@ -86,18 +87,20 @@ impl Inputs {
 
     pub fn lines(&self) -> Vec<Line<'_>> {
         vec![
-            search("search, exact hit", 0.13, &self.exact),
-            search("search, no exact hit", 0.055, &self.inexact),
-            search("search, random inputs", 0.055, &self.random),
+            search("search, exact hit", &self.exact),
+            search("search, no exact hit", &self.inexact),
+            search("search, random inputs", &self.random),
             self.lookup(),
             self.lookup_in(),
             self.margin(),
+            self.list(),
             self.crystal_sheet(),
             self.plan_sheets(),
-            self.pio(),
-            self.gpout(),
+            self.start(),
             self.runner(),
             self.bench(),
+            self.pio(),
+            self.gpout(),
         ]
     }
 
@@ -105,13 +108,12 @@ impl Inputs {
     fn lookup(&self) -> Line<'_> {
         Line {
             name: "book, one lookup",
-            goal: 0.045,
             proved: Box::new(|| {
                 for &(_, target) in &self.inexact {
                     black_box(unsafe { raw::dizbaral_lookup(black_box(target)) });
                 }
             }),
-            ..search("", 0.0, &self.inexact)
+            ..search("", &self.inexact)
         }
     }
 
@@ -120,13 +122,12 @@ impl Inputs {
         let book = dizbaral::Book::open();
         Line {
             name: "book, lookup in an open one",
-            goal: 0.005,
             proved: Box::new(move || {
                 for &(_, target) in &self.inexact {
                     let _ = black_box(black_box(&book).lookup(black_box(target)));
                 }
             }),
-            ..search("", 0.0, &self.inexact)
+            ..search("", &self.inexact)
         }
     }
 
@@ -135,7 +136,6 @@ impl Inputs {
         Line {
             name: "margin",
             calls: self.inexact.len(),
-            goal: 0.1,
             proved: Box::new(|| {
                 for &(input, target) in &self.inexact {
                     let _ = black_box(dizbaral::target_margin(black_box(input), black_box(target)));
@@ -149,12 +149,35 @@ impl Inputs {
         }
     }
 
+    /// The list of the settings of a target, beside one that tries every setting of a feedback divider in range.
+    fn list(&self) -> Line<'_> {
+        let (mut ours, mut plain) = ([0; LIST_BYTES], [0; LIST_BYTES]);
+        Line {
+            name: "list",
+            calls: self.exact.len(),
+            proved: Box::new(move || {
+                for &(input, target) in &self.exact {
+                    let list = ours.as_mut_ptr();
+                    black_box(unsafe {
+                        raw::dizbaral_list(black_box(input), black_box(target), list, LIST_BYTES as u64)
+                    });
+                    black_box(&ours);
+                }
+            }),
+            rust: Box::new(move || {
+                for &(input, target) in &self.exact {
+                    black_box(plain_list(black_box(input), black_box(target), &mut plain));
+                    black_box(&plain);
+                }
+            }),
+        }
+    }
+
     fn crystal_sheet(&self) -> Line<'_> {
         let mut sheet = [0; 528];
         Line {
             name: "sheet, crystal preset",
             calls: 1,
-            goal: 0.70,
             proved: Box::new(move || {
                 black_box(unsafe {
                     raw::dizbaral_system_sheet(RP2040, black_box(125 * MHZ), READING, sheet.as_mut_ptr(), 528)
@@ -174,7 +197,6 @@ impl Inputs {
         Line {
             name: "sheet, random plans",
             calls: self.plans.len(),
-            goal: 0.95,
             proved: Box::new(move || {
                 for plan in &self.plans {
                     let plan = black_box(plan);
@@ -199,7 +221,6 @@ impl Inputs {
         Line {
             name: "PIO divider",
             calls: self.pio.len(),
-            goal: 1.0,
             proved: Box::new(|| {
                 for &(system, target) in &self.pio {
                     black_box(unsafe { raw::dizbaral_pio_divider(black_box(system), black_box(target)) });
@@ -219,7 +240,6 @@ impl Inputs {
         Line {
             name: "Gpout",
             calls: self.gpout.len(),
-            goal: 1.0,
             proved: Box::new(|| {
                 for &(source, whole, fraction) in &self.gpout {
                     let frequencies = black_box(&self.frequencies);
@@ -237,14 +257,31 @@ impl Inputs {
         }
     }
 
+    fn start(&self) -> Line<'_> {
+        let (mut numbers, mut kept) = ([0; 15], [0; SHEET_BYTES]);
+        let mut runner = Runner::fresh();
+        Line {
+            name: "start of a runner",
+            calls: 1,
+            proved: Box::new(move || {
+                let (sheet, length) = (self.sheet.as_ptr(), self.sheet.len() as u64);
+                black_box(unsafe { raw::dizbaral_start(&mut numbers, &mut kept, black_box(sheet), length) });
+                black_box((&numbers, &kept));
+            }),
+            rust: Box::new(move || {
+                black_box(start(&mut runner, black_box(&self.sheet)));
+                black_box(&runner);
+            }),
+        }
+    }
+
     fn runner(&self) -> Line<'_> {
         Line {
             name: "runner, a whole sheet",
             calls: self.sheet.len() / 8 + 1,
-            goal: 1.0,
             proved: Box::new(|| {
                 let (mut runner, mut kept) = ([0; 15], [0; SHEET_BYTES]);
-                let (sheet, length) = (self.sheet.as_ptr(), self.sheet.len());
+                let (sheet, length) = (self.sheet.as_ptr(), self.sheet.len() as u64);
                 black_box(unsafe { raw::dizbaral_start(&mut runner, &mut kept, sheet, length) });
                 while black_box(unsafe { raw::dizbaral_run(&mut runner, &kept, sheet, length, true) }) != 0 {}
                 black_box(&runner);
@@ -264,10 +301,9 @@ impl Inputs {
         Line {
             name: "bench, eight whole sheets",
             calls,
-            goal: 1.0,
             proved: Box::new(move || {
                 let (mut bench, mut kept) = ([0; BENCH_NUMBERS], [0; SHEET_BYTES]);
-                let (sheet, length) = (self.sheet.as_ptr(), self.sheet.len());
+                let (sheet, length) = (self.sheet.as_ptr(), self.sheet.len() as u64);
                 black_box(unsafe { raw::dizbaral_bench_start(&mut bench, &mut kept, sheet, length) });
                 for call in 0..calls {
                     let board = call as u8 & 7;
@@ -308,6 +344,11 @@ impl Inputs {
             let margin = dizbaral::Margin { lower: low.checked_sub(1), higher: high.checked_add(1) };
             assert_eq!(dizbaral::target_margin(input, target), Ok(margin));
         }
+        for &(input, target) in self.exact.iter().chain(&self.inexact) {
+            let (mut ours, mut plain) = ([0; LIST_BYTES], [0; LIST_BYTES]);
+            let length = dizbaral::list(input, target, &mut ours).ok();
+            assert_eq!((length, ours), (plain_list(input, target, &mut plain), plain));
+        }
         let mut sheet = [0; 528];
         for numbers in &self.plans {
             let length = dizbaral::plan_sheet(Chip::Rp2040, numbers, READING, &mut sheet).unwrap();
@@ -347,11 +388,10 @@ impl Inputs {
     }
 }
 
-fn search<'a>(name: &'static str, goal: f64, inputs: &'a [(u32, u32)]) -> Line<'a> {
+fn search<'a>(name: &'static str, inputs: &'a [(u32, u32)]) -> Line<'a> {
     Line {
         name,
         calls: inputs.len(),
-        goal,
         proved: Box::new(move || {
             for &(input, target) in inputs {
                 black_box(unsafe { raw::dizbaral_search(black_box(input), black_box(target)) });
@@ -381,6 +421,29 @@ fn halved_margin(input: u32, target: u32) -> (u32, u32) {
     (low, high)
 }
 
+/// Writes the settings of a target without remainder as `dizbaral_list` does. Each feedback divider whose VCO is in range is
+/// tried with each pair of post dividers; `None` where they do not fit.
+#[inline(never)]
+fn plain_list(input: u32, target: u32, list: &mut [u8]) -> Option<usize> {
+    let mut length = 0;
+    for feedback in 16..=320 {
+        let vco = input as u64 * feedback as u64;
+        if !(750_000_000..=1_600_000_000).contains(&vco) {
+            continue;
+        }
+        for post1 in (1..=7).rev() {
+            for post2 in (1..=post1).rev() {
+                if vco == target as u64 * (post1 * post2) as u64 {
+                    let bytes = ((feedback << 7 | post1 << 4 | post2 << 1) as u16).to_be_bytes();
+                    list.get_mut(length..length + 2)?.copy_from_slice(&bytes);
+                    length += 2;
+                }
+            }
+        }
+    }
+    Some(length)
+}
+
 /// Whether a setting gives the target with no remainder.
 fn is_exact(&(input, target): &(u32, u32)) -> bool {
     let Ok(found) = dizbaral::find_pll_params(input, target) else { return false };
@@ -394,6 +457,11 @@ fn accepted(plan: &[u32; 48]) -> bool {
     let settles = code != READING as u32 && if given == 1 { time != 0 } else { code > 11 };
     let alike = !settles || ring_hz != 0 && ring_hz.is_multiple_of(MHZ);
     alike && dizbaral::plan_sheet(Chip::Rp2040, plan, READING, &mut [0; 528]).is_ok()
+}
+
+#[inline(never)]
+fn start(runner: &mut Runner, sheet: &[u8]) -> Option<u8> {
+    runner.start(sheet)
 }
 
 #[inline(never)]

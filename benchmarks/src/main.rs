@@ -2,6 +2,7 @@
 
 #[allow(dead_code, unused_imports, static_mut_refs, clippy::all)]
 mod clocks;
+mod goals;
 mod lines;
 mod measure;
 mod recorder;
@@ -52,13 +53,12 @@ mod pio_programs {
 fn main() {
     let words: Vec<String> = std::env::args().skip(1).collect();
     let words: Vec<&str> = words.iter().map(String::as_str).collect();
+    let number = |word: &str| word.parse().unwrap();
     match words[..] {
-        [] => measure::table(),
-        [line, side, rounds] => {
-            let (line, side, rounds) =
-                (line.parse().unwrap(), side.parse().unwrap(), rounds.parse().unwrap());
-            measure::only(line, side, rounds);
-        }
-        _ => panic!("bench, or bench LINE SIDE ROUNDS"),
+        ["tables", default, best] => measure::tables([default, best]),
+        ["check"] => lines::Inputs::new().check(),
+        ["run", line, side, rounds] => measure::only(number(line), number(side), number(rounds)),
+        ["time", line, side] => println!("{}", measure::time(number(line), number(side))),
+        _ => panic!("benchmarks tables DEFAULT BEST, check, run LINE SIDE ROUNDS, or time LINE SIDE"),
     }
 }
