@@ -3,6 +3,7 @@
 #[allow(dead_code, unused_imports, static_mut_refs, clippy::all)]
 mod clocks;
 mod goals;
+mod growth;
 mod lines;
 mod measure;
 mod recorder;
@@ -56,9 +57,10 @@ fn main() {
     let number = |word: &str| word.parse().unwrap();
     match words[..] {
         ["tables", default, best] => measure::tables([default, best]),
+        ["growth"] => growth::run(),
         ["check"] => lines::Inputs::new().check(),
         ["run", line, side, rounds] => measure::only(number(line), number(side), number(rounds)),
         ["time", line, side] => println!("{}", measure::time(number(line), number(side))),
-        _ => panic!("benchmarks tables DEFAULT BEST, check, run LINE SIDE ROUNDS, or time LINE SIDE"),
+        _ => panic!("benchmarks tables DEFAULT BEST, growth, check, run LINE SIDE ROUNDS, or time LINE SIDE"),
     }
 }
