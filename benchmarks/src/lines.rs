@@ -2,17 +2,22 @@
 
 use std::hint::black_box;
 
-use dizbaral::{BENCH_NUMBERS, Chip, GpoutDiv, Progress, SHEET_BYTES, raw};
+use dizbaral::{BENCH_NUMBERS, Chip, SHEET_BYTES, raw};
 
 use crate::clocks::{self, ClockConfig, Gpout};
+use crate::inputs::{Inputs, MHZ, READING};
 use crate::peripherals::PIN_21;
-use crate::pio_programs::clock_divider::calculate_pio_clock_divider_value;
+use crate::plain::{gpout, halved_margin, pio, plain_list, start};
 use crate::plain_runner::{Reply, Runner};
 use crate::plan;
-use crate::random::Random;
-use crate::random_plan;
 use crate::recorder;
 use crate::standins::Peri;
+
+/// The chip of the calls that are measured.
+const RP2040: u8 = Chip::Rp2040 as u8;
+
+/// Room for more settings than any target has here.
+pub const LIST_BYTES: usize = 256;
 
 /// One side of a line: goes once over the inputs.
 pub type Side<'a> = Box<dyn FnMut() + 'a>;
@@ -25,66 +30,7 @@ pub struct Line<'a> {
     pub rust: Side<'a>,
 }
 
-const SEED: u64 = 1;
-const READING: u8 = 11;
-
-/// The chip of the calls that are measured.
-const RP2040: u8 = Chip::Rp2040 as u8;
-const MHZ: u32 = 1_000_000;
-
-/// Room for more settings than any target has here.
-const LIST_BYTES: usize = 256;
-
-/// The inputs, made once.
-pub struct Inputs {
-    exact: Vec<(u32, u32)>,
-    inexact: Vec<(u32, u32)>,
-    random: Vec<(u32, u32)>,
-    plans: Vec<[u32; 48]>,
-    pio: Vec<(u32, u32)>,
-    gpout: Vec<(u8, u32, u8)>,
-    frequencies: [u32; 10],
-    sheet: Vec<u8>,
-}
-
 impl Inputs {
-    pub fn new() -> Inputs {
-        let mut r = Random::new(SEED);
-        let mut sheet = vec![0; dizbaral::SHEET_BYTES];
-        let length = dizbaral::system_sheet(Chip::Rp2040, 125 * MHZ, READING, &mut sheet).unwrap();
-        sheet.truncate(length);
-        Inputs {
-            exact: (16..=133).map(|mhz| (12 * MHZ, mhz * MHZ)).filter(is_exact).collect(),
-            inexact: (16..=133).map(|mhz| (12 * MHZ, mhz * MHZ + 1)).filter(|x| !is_exact(x)).collect(),
-            random: (0..100)
-                .map(|_| (r.between(5 * MHZ, 50 * MHZ), r.between(10 * MHZ, 300 * MHZ)))
-                .collect(),
-            plans: std::iter::repeat_with(|| random_plan::plan(&mut r).try_into().unwrap())
-                .filter(accepted)
-                .take(200)
-                .collect(),
-            pio: std::iter::repeat_with(|| (r.between(100 * MHZ, 200 * MHZ), r.between(10_000, 16 * MHZ)))
-                .take(200)
-                .collect(),
-            gpout: (0..200)
-                .map(|_| (r.pick(&[0, 3, 4, 5, 6, 7, 8, 10]), r.between(1, 70_000), r.between(0, 255) as u8))
-                .collect(),
-            frequencies: [
-                6_500_000,
-                12_000_000,
-                125_000_000,
-                48_000_000,
-                12_000_000,
-                125_000_000,
-                125_000_000,
-                48_000_000,
-                48_000_000,
-                46_875,
-            ],
-            sheet,
-        }
-    }
-
     pub fn lines(&self) -> Vec<Line<'_>> {
         vec![
             search("search, exact hit", &self.exact),
@@ -325,67 +271,6 @@ impl Inputs {
             }),
         }
     }
-
-    /// Both sides say the same to every input.
-    pub fn check(&self) {
-        for &(input, target) in self.exact.iter().chain(&self.inexact).chain(&self.random) {
-            let ours = dizbaral::find_pll_params(input, target).ok();
-            let rust = clocks::search(input, target);
-            let dividers = |c: dizbaral::PllConfig| (c.refdiv, c.fbdiv, c.post_div1, c.post_div2);
-            assert_eq!(ours.map(dividers), rust.map(|c| (c.refdiv, c.fbdiv, c.post_div1, c.post_div2)));
-        }
-        let book = dizbaral::Book::open();
-        for &(input, target) in self.exact.iter().chain(&self.inexact) {
-            let found = dizbaral::find_pll_params(input, target);
-            assert_eq!((book.lookup(target), dizbaral::lookup(target)), (found, found));
-        }
-        for &(input, target) in &self.inexact {
-            let (low, high) = halved_margin(input, target);
-            let margin = dizbaral::Margin { lower: low.checked_sub(1), higher: high.checked_add(1) };
-            assert_eq!(dizbaral::target_margin(input, target), Ok(margin));
-        }
-        for &(input, target) in self.exact.iter().chain(&self.inexact) {
-            let (mut ours, mut plain) = ([0; LIST_BYTES], [0; LIST_BYTES]);
-            let length = dizbaral::list(input, target, &mut ours).ok();
-            assert_eq!((length, ours), (plain_list(input, target, &mut plain), plain));
-        }
-        let mut sheet = [0; 528];
-        for numbers in &self.plans {
-            let length = dizbaral::plan_sheet(Chip::Rp2040, numbers, READING, &mut sheet).unwrap();
-            recorder::start(READING);
-            clocks::write_sheet(plan::config(numbers));
-            assert_eq!(&sheet[..length], recorder::sheet());
-        }
-        recorder::start(READING);
-        clocks::write_sheet(ClockConfig::system_freq(125 * MHZ).ok().unwrap());
-        assert_eq!(self.sheet, recorder::sheet());
-        for &(system, target) in &self.pio {
-            assert_eq!(dizbaral::pio_divider(system, target), Ok(pio(system, target)));
-        }
-        clocks::preset_frequencies(&self.frequencies);
-        let output = Gpout::new(Peri::new(PIN_21));
-        for &(source, whole, fraction) in &self.gpout {
-            recorder::set_gpout(source, whole, fraction);
-            let ours =
-                dizbaral::gpout_frequency(source, GpoutDiv::Rp2040 { whole, fraction }, &self.frequencies);
-            assert_eq!(ours, Ok(gpout(&output)));
-        }
-        let (mut ours, mut rust) = (dizbaral::Runner::new(), Runner::fresh());
-        assert_eq!((ours.start(&self.sheet), rust.start(&self.sheet)), (Ok(()), None));
-        for _ in 0..=self.sheet.len() / 8 {
-            for ready in [false, true] {
-                let same = match (ours.poll(&self.sheet, ready), rust.poll(&self.sheet, ready)) {
-                    (Ok(Progress::Done), Reply::Done) => true,
-                    (Ok(Progress::Passed), Reply::Passed) => true,
-                    (Ok(Progress::Waiting), Reply::Waiting) => true,
-                    (Ok(Progress::Handed(word)), Reply::Handed(step)) => (word >> 58) as u8 == step.kind,
-                    _ => false,
-                };
-                assert!(same);
-            }
-        }
-        assert_eq!(ours.numbers()[5..], rust.frequencies);
-    }
 }
 
 fn search<'a>(name: &'static str, inputs: &'a [(u32, u32)]) -> Line<'a> {
@@ -403,73 +288,4 @@ fn search<'a>(name: &'static str, inputs: &'a [(u32, u32)]) -> Line<'a> {
             }
         }),
     }
-}
-
-/// The lowest and the highest target with the setting of this one, by halving.
-fn halved_margin(input: u32, target: u32) -> (u32, u32) {
-    let setting = |target| clocks::search(input, target).map(|c| (c.fbdiv, c.post_div1, c.post_div2));
-    let (given, mut bottom, mut low) = (setting(target), 0, target);
-    while bottom < low {
-        let middle = bottom + (low - bottom) / 2;
-        if setting(middle) == given { low = middle } else { bottom = middle + 1 }
-    }
-    let (mut high, mut top) = (target, u32::MAX);
-    while high < top {
-        let middle = top - (top - high) / 2;
-        if setting(middle) == given { high = middle } else { top = middle - 1 }
-    }
-    (low, high)
-}
-
-/// Writes the settings of a target without remainder as `dizbaral_list` does. Each feedback divider whose VCO is in range is
-/// tried with each pair of post dividers; `None` where they do not fit.
-#[inline(never)]
-fn plain_list(input: u32, target: u32, list: &mut [u8]) -> Option<usize> {
-    let mut length = 0;
-    for feedback in 16..=320 {
-        let vco = input as u64 * feedback as u64;
-        if !(750_000_000..=1_600_000_000).contains(&vco) {
-            continue;
-        }
-        for post1 in (1..=7).rev() {
-            for post2 in (1..=post1).rev() {
-                if vco == target as u64 * (post1 * post2) as u64 {
-                    let bytes = ((feedback << 7 | post1 << 4 | post2 << 1) as u16).to_be_bytes();
-                    list.get_mut(length..length + 2)?.copy_from_slice(&bytes);
-                    length += 2;
-                }
-            }
-        }
-    }
-    Some(length)
-}
-
-/// Whether a setting gives the target with no remainder.
-fn is_exact(&(input, target): &(u32, u32)) -> bool {
-    let Ok(found) = dizbaral::find_pll_params(input, target) else { return false };
-    let vco = input as u64 * found.fbdiv as u64;
-    vco == target as u64 * found.post_div1 as u64 * found.post_div2 as u64
-}
-
-/// Accepted at the reading, and the Rust settles for as long: it does not at all, or its ring has whole megahertz.
-fn accepted(plan: &[u32; 48]) -> bool {
-    let (ring_hz, code, given, time) = (plan[1], plan[25], plan[26], plan[27]);
-    let settles = code != READING as u32 && if given == 1 { time != 0 } else { code > 11 };
-    let alike = !settles || ring_hz != 0 && ring_hz.is_multiple_of(MHZ);
-    alike && dizbaral::plan_sheet(Chip::Rp2040, plan, READING, &mut [0; 528]).is_ok()
-}
-
-#[inline(never)]
-fn start(runner: &mut Runner, sheet: &[u8]) -> Option<u8> {
-    runner.start(sheet)
-}
-
-#[inline(never)]
-fn pio(system: u32, target: u32) -> u32 {
-    calculate_pio_clock_divider_value(system, target).to_bits()
-}
-
-#[inline(never)]
-fn gpout(output: &Gpout<PIN_21>) -> u32 {
-    output.get_freq()
 }

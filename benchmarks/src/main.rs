@@ -1,11 +1,14 @@
 //! The proved library beside the published Rust: the same inputs, instructions counted by callgrind, and time.
 
+mod check;
 #[allow(dead_code, unused_imports, static_mut_refs, clippy::all)]
 mod clocks;
 mod goals;
 mod growth;
+mod inputs;
 mod lines;
 mod measure;
+mod plain;
 mod recorder;
 
 // Of the oracle: the stand-in for rp-pac, plans as 48 numbers, random ones, and the plain runner.
@@ -58,7 +61,7 @@ fn main() {
     match words[..] {
         ["tables", default, best] => measure::tables([default, best]),
         ["growth"] => growth::run(),
-        ["check"] => lines::Inputs::new().check(),
+        ["check"] => inputs::Inputs::new().check(),
         ["run", line, side, rounds] => measure::only(number(line), number(side), number(rounds)),
         ["time", line, side] => println!("{}", measure::time(number(line), number(side))),
         _ => panic!("benchmarks tables DEFAULT BEST, growth, check, run LINE SIDE ROUNDS, or time LINE SIDE"),

@@ -4,7 +4,8 @@ use std::process::Command;
 use std::time::Duration;
 
 use crate::goals;
-use crate::lines::{Inputs, Line};
+use crate::inputs::Inputs;
+use crate::lines::Line;
 
 const SIDES: [usize; 2] = [0, 1];
 
