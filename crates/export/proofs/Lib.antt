@@ -1,4 +1,5 @@
 pub mod Demand3
+pub mod UsbFirst
 pub mod Ranges
 pub mod Calls
 pub mod Benches

@@ -1,4 +1,5 @@
 pub mod Sheet
 pub mod Demand3
+pub mod UsbFirst
 pub mod Ranges
 pub mod Calls
