@@ -38,12 +38,13 @@ abbrev pub answerSteps : Answer (List Step) → List Step
 answerSteps (value steps) = steps
 answerSteps (refusal n) = []
 
--- so many steps as the list has, and these
+-- as many steps as the list has, and these; the items past the length are open
 pub record StepsAre (s : Steps) (xs : List Step) : Type 0 where
   pub list : stepList s ≡ xs
   pub exact : s .len ≡ length xs
 
--- what a call promises of all that it answers: after a refusal there is no step
+-- what a call promises of all that it answers: no step but those of the outcome, and none after a refusal; the items past
+-- the length are open
 pub record Changed (c : Change) (o : SleepOutcome) : Type 0 where
   pub outcome : changeIs c ≡ o
   pub exact : c .steps .len ≡ length (answerSteps (o .answer))

@@ -89,12 +89,13 @@ pub fn sleep(slots: [Slot; 4], slot: u8, words: [u32; 11]) -> Change
     }
 }
 
-// Restores the words of the last sleep saved in the slot, which keeps them.
-pub fn wake(slots: [Slot; 4], slot: u8, words: [u32; 11]) -> Change
-    ensures { λ r. ⌜ Changed r (wakeOf slots slot words) ⌝ }
+// Restores the words of the last sleep saved in the slot, which keeps them. The words handed in are answered with a
+// refusal alone.
+pub fn wake(slots: [Slot; 4], slot: u8, handed: [u32; 11]) -> Change
+    ensures { λ r. ⌜ Changed r (wakeOf slots slot handed) ⌝ }
 {
     if slot > 3 {
-        return refused(slots, words, 29);
+        return refused(slots, handed, 29);
     }
     let at = slot as usize;
     let held = slots[at];
@@ -107,5 +108,5 @@ pub fn wake(slots: [Slot; 4], slot: u8, words: [u32; 11]) -> Change
             slots,
         };
     }
-    refused(slots, words, 30)
+    refused(slots, handed, 30)
 }

@@ -22,7 +22,7 @@ pub struct Item {
     pub step: Step,
 }
 
-// The first len of the items are the steps.
+// The first `len` of the items are the steps; those after them are open.
 pub struct Steps {
     pub items: [Item; 14],
     pub len: usize,

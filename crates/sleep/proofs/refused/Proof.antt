@@ -5,4 +5,4 @@ use Rattle.sleep.proofs.refused.Statement.{statement}
 use Rattle.sleep.proofs.refused.Tie as tie
 
 pub refused-spec : {M : Type 1} → statement M
-refused-spec = tie.close (tie.spec (λ c κs. search needs) (λ c. record { outcome = refl; exact = rw (c .none .ensures) }))
+refused-spec = tie.close (tie.spec (λ c κs. search needs) (λ c. record { outcome = refl; exact = cc }))
