@@ -132,10 +132,9 @@ fn next_above(x: u32) -> Limit
     ensures { λ r. ⌜ JustAbove x (limitIs r) ⌝ }
 {
     if x < TARGET_MAX {
-        Limit::At(x + 1)
-    } else {
-        Limit::Nothing
+        return Limit::At(x + 1);
     }
+    Limit::Nothing
 }
 
 // The greatest lower and the smallest higher target whose settings differ from those of the target.
