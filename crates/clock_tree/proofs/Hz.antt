@@ -22,7 +22,8 @@ use Rattle.grounds.specs.Grounds.{pllInvalid, sysPllInvalid, usbPllInvalid}
 use Rattle.registers.specs.Map.{RESET, XOSC-CTRL, ROSC-CTRL, PLL-CS, PLL-PWR, PLL-FBDIV-INT, PLL-PRIM}
 use Rattle.registers.specs.Map.{REF-SRC, SYS-SRC, AUXSRC, ENABLE, INT, REFDIV, FBDIV, POSTDIV1, POSTDIV2}
 use Rattle.clock_tree.specs.Machine.{bitsAt, held}
-use Rattle.clock_tree.specs.Tree.{oscillates, pllAt, vcoOn, pllOn, pllFrom, sourcesAt, intFrom, dividedFrom, refFrom, sysFrom, enabled, periFrom, auxFrom}
+use Rattle.clock_tree.specs.Tree.{oscillates, pllAt, vcoOn, pllOn, pllFrom, sourcesAt, intFrom, dividedFrom, refFrom}
+use Rattle.clock_tree.specs.Tree.{sysFrom, enabled, periFrom, auxFrom}
 use Rattle.clock_tree.proofs.Set.{zero-hz, PllSet, Plls, CrystalSet, packed, control}
 
 -- ---- dividers

@@ -13,7 +13,8 @@ use Rattle.sheet_steps.specs.Steps.{markSteps, headPart, ringPart, voltagePart,
 use Rattle.sheet_steps.specs.Steps.{auxPart, rtcPart, releaseMask, lastPart}
 use Rattle.clock_tree.specs.Machine.{carriedOut}
 use Rattle.clock_tree.proofs.Addresses.{member, member-append, outside, reach, steps-keep, append}
-use Rattle.clock_tree.proofs.Parts.{On, owns, mark, head, ring, voltage, crystal, source, reference, system, peri, usb, adc, rtc, last}
+use Rattle.clock_tree.proofs.Parts.{On, owns, mark, head, ring, voltage, crystal, source, reference, system, peri}
+use Rattle.clock_tree.proofs.Parts.{usb, adc, rtc, last}
 
 abbrev pub joined : {A : Type 0} → List (List A) → List A
 joined [] = []

@@ -24,12 +24,14 @@ use Rattle.registers.specs.Map.{CLK-ADC-CTRL, CLK-ADC-DIV, CLK-RTC-CTRL, CLK-RT
 use Rattle.registers.specs.Map.{PLL-FBDIV-INT, PLL-PRIM}
 use Rattle.sheet_steps.specs.Steps.{crystalPart, periPart, auxPart, rtcPart, releaseMask, clocksPart, stepsOf}
 use Rattle.clock_tree.specs.Machine.{held, carriedOut}
-use Rattle.clock_tree.specs.Tree.{oscillates, sourcesAt, refAt, sysAt, periAt, usbAt, adcAt, rtcAt, sysFrom, periFrom, CLK-PERI-DIV, intFrom, periDivider}
+use Rattle.clock_tree.specs.Tree.{oscillates, sourcesAt, refAt, sysAt, periAt, usbAt, adcAt, rtcAt, sysFrom, periFrom}
+use Rattle.clock_tree.specs.Tree.{CLK-PERI-DIV, intFrom, periDivider}
 use Rattle.clock_tree.specs.Times.{hasPeri, hasAux, hasRtc, Runs, AllTrue, TimesAreTrue}
 use Rattle.clock_tree.proofs.Addresses.{member}
 use Rattle.clock_tree.proofs.Parts.{owns}
 use Rattle.clock_tree.proofs.Sheet.{joined, upTo, holds, stays}
-use Rattle.clock_tree.proofs.Set.{head-sets, ring-sets, PllSet, Plls, CrystalSet, crystal-sets, pll-moves, ref-sets, sys-sets, peri-sets}
+use Rattle.clock_tree.proofs.Set.{head-sets, ring-sets, PllSet, Plls, CrystalSet, crystal-sets, pll-moves, ref-sets}
+use Rattle.clock_tree.proofs.Set.{sys-sets, peri-sets}
 use Rattle.clock_tree.proofs.Set.{usb-sets, adc-sets, rtc-sets, peri-absent, aux-absent, rtc-absent, last-sets}
 use Rattle.clock_tree.proofs.Hz.{sources-true, ref-true, sys-true, peri-true, aux-true, rtc-true}
 

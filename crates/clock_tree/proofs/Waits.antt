@@ -26,7 +26,8 @@ use Rattle.settings.specs.Frequencies.{sourcesOf, sourcesIn, frequenciesOf}
 use Rattle.grounds.specs.Grounds.{pllInvalid, sysPllInvalid, usbPllInvalid}
 use Rattle.refusals.proofs.Accepted.{accepted-by}
 use Rattle.registers.specs.Access.{has, rows, accessOf}
-use Rattle.registers.specs.Map.{RESET, XOSC-CTRL, CLK-REF-CTRL, CLK-SYS-CTRL, PLL-CS, PLL-FBDIV-INT, BLOCKS, REF-SRC, SYS-SRC, AUXSRC, REFDIV, FBDIV}
+use Rattle.registers.specs.Map.{RESET, XOSC-CTRL, CLK-REF-CTRL, CLK-SYS-CTRL, PLL-CS, PLL-FBDIV-INT, BLOCKS, REF-SRC}
+use Rattle.registers.specs.Map.{SYS-SRC, AUXSRC, REFDIV, FBDIV}
 use Rattle.sheet_steps.specs.Steps.{markSteps, headPart, ringPart, voltagePart, pllSteps, crystalPart, sourcePart, refPart, switchSteps}
 use Rattle.sheet_steps.specs.Steps.{sysPart, periPart, auxPart, rtcPart, releaseMask, lastPart, clocksPart, stepsOf, step0, step1, step2}
 use Rattle.clock_tree.specs.Machine.{bitsAt, held, done, carriedOut}
@@ -98,14 +99,20 @@ unfolding accessOf has rows headPart
 head Rp2040 hz = record {
   start = λ file.
       let sys : ℕ = file (CLK-SYS-CTRL Rp2040) in
-      let ref : ℕ = file (CLK-REF-CTRL Rp2040) in
-      (both-selected (bitsAt 0 1 (sys - bitAnd sys 1 + 0)) (bitsAt 0 2 (ref - bitAnd ref 3 + 0)) (sys-cleared sys) (ref-cleared ref), refl);
+      let ref : ℕ = file (CLK-REF-CTRL Rp2040) in (
+        both-selected (bitsAt 0 1 (sys - bitAnd sys 1 + 0)) (bitsAt 0 2 (ref - bitAnd ref 3 + 0)) (sys-cleared sys)
+            (ref-cleared ref),
+        refl,
+      );
 }
 head Rp235x hz = record {
   start = λ file.
       let sys : ℕ = file (CLK-SYS-CTRL Rp235x) in
-      let ref : ℕ = file (CLK-REF-CTRL Rp235x) in
-      (both-selected (bitsAt 0 1 (sys - bitAnd sys 1 + 0)) (bitsAt 0 2 (ref - bitAnd ref 3 + 0)) (sys-cleared sys) (ref-cleared ref), refl);
+      let ref : ℕ = file (CLK-REF-CTRL Rp235x) in (
+        both-selected (bitsAt 0 1 (sys - bitAnd sys 1 + 0)) (bitsAt 0 2 (ref - bitAnd ref 3 + 0)) (sys-cleared sys)
+            (ref-cleared ref),
+        refl,
+      );
 }
 
 ring : (c : Chip) (hz pass : ℕ) (r : OptionRosc) → Comes c hz (ringPart pass r)

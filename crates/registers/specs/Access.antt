@@ -8,12 +8,18 @@ use Rattle.step.specs.declared.Step.{Step}
 use Rattle.step.specs.Access.{readAt}
 use Rattle.step.specs.Kinds as kind
 use Rattle.registers.specs.declared.{Access.Access, Accessed.Accessed}
-use Rattle.registers.specs.Map.{RESET, RESET-DONE, CLK-REF-CTRL, CLK-REF-DIV, CLK-REF-SELECTED, CLK-SYS-CTRL, CLK-SYS-DIV, CLK-SYS-SELECTED}
-use Rattle.registers.specs.Map.{CLK-PERI-CTRL, CLK-USB-CTRL, CLK-USB-DIV, CLK-ADC-CTRL, CLK-ADC-DIV, CLK-RTC-CTRL, CLK-RTC-DIV, CLK-SYS-RESUS-CTRL}
-use Rattle.registers.specs.Map.{XOSC-CTRL, XOSC-STATUS, XOSC-STARTUP, ROSC-CTRL, ROSC-FREQA, ROSC-FREQB, ROSC-DIV, PLL-CS, PLL-PWR, PLL-FBDIV-INT, PLL-PRIM}
-use Rattle.registers.specs.Map.{VREG, BOD, WATCHDOG-TICK, POWMAN-VREG, POWMAN-BOD, TIMER0-CTRL, TIMER0-CYCLES, WATCHDOG-CTRL, WATCHDOG-CYCLES}
-use Rattle.registers.specs.Map.{field, bits, whole, BLOCKS, REF-SRC, SYS-SRC, AUXSRC, ENABLE, PHASE, INT, STRENGTHS, FREQ-PASSWORD, RING-DIV, FREQ-RANGE}
-use Rattle.registers.specs.Map.{OSCILLATOR-ON, CRYSTAL-RANGE, DELAY, STABLE, LOCK, REFDIV, FBDIV, POSTDIV1, POSTDIV2, PD, DSMPD, POSTDIVPD, VCOPD}
+use Rattle.registers.specs.Map.{RESET, RESET-DONE, CLK-REF-CTRL, CLK-REF-DIV, CLK-REF-SELECTED, CLK-SYS-CTRL}
+use Rattle.registers.specs.Map.{CLK-SYS-DIV, CLK-SYS-SELECTED}
+use Rattle.registers.specs.Map.{CLK-PERI-CTRL, CLK-USB-CTRL, CLK-USB-DIV, CLK-ADC-CTRL, CLK-ADC-DIV, CLK-RTC-CTRL}
+use Rattle.registers.specs.Map.{CLK-RTC-DIV, CLK-SYS-RESUS-CTRL}
+use Rattle.registers.specs.Map.{XOSC-CTRL, XOSC-STATUS, XOSC-STARTUP, ROSC-CTRL, ROSC-FREQA, ROSC-FREQB, ROSC-DIV}
+use Rattle.registers.specs.Map.{PLL-CS, PLL-PWR, PLL-FBDIV-INT, PLL-PRIM}
+use Rattle.registers.specs.Map.{VREG, BOD, WATCHDOG-TICK, POWMAN-VREG, POWMAN-BOD, TIMER0-CTRL, TIMER0-CYCLES}
+use Rattle.registers.specs.Map.{WATCHDOG-CTRL, WATCHDOG-CYCLES}
+use Rattle.registers.specs.Map.{field, bits, whole, BLOCKS, REF-SRC, SYS-SRC, AUXSRC, ENABLE, PHASE, INT, STRENGTHS}
+use Rattle.registers.specs.Map.{FREQ-PASSWORD, RING-DIV, FREQ-RANGE}
+use Rattle.registers.specs.Map.{OSCILLATOR-ON, CRYSTAL-RANGE, DELAY, STABLE, LOCK, REFDIV, FBDIV, POSTDIV1, POSTDIV2}
+use Rattle.registers.specs.Map.{PD, DSMPD, POSTDIVPD, VCOPD}
 use Rattle.registers.specs.Map.{VSEL, VSEL-235, BOD-EN, POWMAN-PASSWORD, CYCLES, TICK-ENABLE, TICKS-ENABLE}
 
 -- no register
