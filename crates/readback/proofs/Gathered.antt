@@ -1,4 +1,4 @@
--- Steps held by value: those that are not behind, and those that a reader gathered one after another.
+-- Steps held by value: those that are not passed, and those that a reader gathered one after another.
 use mathlib.Core.{Path._≡_, Path.refl, Path.sym, Path.ap, Path._∙_, Bool.Bool, Bool.true, Bool.false, List.List, List.[], List._∷_}
 use Prim.Native.Nat.{ℕ, zero, suc, _+_, _/_, _≤_, _<_, min}
 use native.Mathlib.{Nat.add-zero, Omega.arith}

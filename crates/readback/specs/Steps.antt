@@ -16,7 +16,7 @@ abbrev pub stepOr : Answer Step → Step
 stepOr (value s) = s
 stepOr (refusal n) = step0 0
 
--- so many steps, from step i on
+-- n steps from step i
 abbrev pub stepsFrom : List ℕ → ℕ → ℕ → List Step
 stepsFrom sheet i zero = []
 stepsFrom sheet i (suc n) = stepOr (readAt sheet (8 * i)) ∷ stepsFrom sheet (suc i) n
@@ -24,19 +24,19 @@ stepsFrom sheet i (suc n) = stepOr (readAt sheet (8 * i)) ∷ stepsFrom sheet (s
 unfoldable pub stepsIn : List ℕ → List Step
 stepsIn sheet = stepsFrom sheet 0 (length sheet / 8)
 
--- what is taken at a place, and the place behind it; at the end a step of kind 0, and the place stays
+-- what is taken at a position, and the position after it; at the end a step of kind 0, and the position stays
 unfoldable pub takenAt : List ℕ → ℕ → Taken
 takenAt sheet at =
     record { step = stepAt (stepsIn sheet) at; at = pick (ltb at (length sheet / 8)) (at + 1) at }
 
--- what a reader gives next, and the reader behind it
+-- the step that a reader gives next, and the reader after it
 abbrev pub nextStep : Reader → Step
 nextStep r = takenAt (now (r .sheet)) (r .at) .step
 
 abbrev pub moved : Reader → Reader
 moved r = record { sheet = r .sheet; at = takenAt (now (r .sheet)) (r .at) .at }
 
--- what a reader gives, step after step, in so many calls
+-- the steps that a reader gives in n calls of `next`, one after another
 unfoldable pub nexts : ℕ → Reader → List Step
 nexts zero r = []
 nexts (suc n) r = nextStep r ∷ nexts n (moved r)
@@ -48,7 +48,7 @@ countOf sheet = min (length sheet / 8) maxSteps
 unfoldable pub stepsRead : List ℕ → List Step
 stepsRead sheet = take maxSteps (stepsIn sheet)
 
--- steps that are held: none, one more where there is room, and those that are not behind
+-- steps that are held: none, one more where there is room, and those that are not passed
 unfoldable pub noSteps : Steps
 noSteps = record { steps = replicate maxSteps (step0 0); count = 0; at = 0 }
 

@@ -7,7 +7,7 @@ ghost use Rattle.sheet_steps.specs.Steps.{step0};
 ghost use Rattle.sheet.specs.Read.{stepAt};
 ghost use Rattle.readback.specs.Steps.{noSteps, added, held};
 
-// So many steps, of which those before place at are behind.
+// The first `count` steps, of which those before `at` are passed.
 pub struct Steps {
     pub steps: [Step; MAX_STEPS],
     pub count: usize,
@@ -50,7 +50,7 @@ pub(crate) fn add(mut s: Steps, step: Step) -> Steps
     s
 }
 
-// The step so many behind the one that is next; one of kind 0 past the last.
+// The step `more` places after the one that is next; one of kind 0 past the last.
 pub(crate) fn ahead(s: Steps, more: u8) -> Step
     ensures { λ r. ⌜ r ≡ stepAt (held s) more ⌝ }
 {
@@ -62,7 +62,7 @@ pub(crate) fn ahead(s: Steps, more: u8) -> Step
     }
 }
 
-// So many steps further on.
+// n steps further on.
 pub(crate) fn past(mut s: Steps, n: u8) -> Steps
     ensures { λ r. ⌜ held r ≡ drop n (held s) ⌝ }
 {

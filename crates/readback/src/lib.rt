@@ -22,19 +22,19 @@ ghost use Rattle.readback.specs.Steps.{takenAt, nextStep, moved, countOf
 ghost use Rattle.readback.specs.Law.{chipIn, topReading};
 ghost use Rattle.readback.specs.Read.{gives, readOf};
 
-// A sheet's bytes, and the place of the step that is next.
+// A sheet's bytes, and the position of the step that is next.
 pub struct Reader<'a> {
     pub sheet: &'a [u8],
     pub at: usize,
 }
 
-// A step, and the place behind it.
+// A step, and the position after it.
 pub struct Taken {
     pub step: Step,
     pub at: usize,
 }
 
-// The work: the step at a place of a sheet and the place behind it; at the end one of kind 0, and the place stays.
+// The step at a position of a sheet, and the position after it. At the end it is one of kind 0, and the position stays.
 pub fn take(sheet: &[u8], at: usize) -> Taken
     ensures { λ r. ⌜ r ≡ takenAt (now (sheet .entry)) at ⌝ }
 {
@@ -63,7 +63,7 @@ pub fn new<'a>(sheet: &'a [u8]) -> Reader<'a>
     Reader { sheet, at: 0 }
 }
 
-// The step that is next; the reader moves on to the one behind it, and stops at the end.
+// Takes the step that is next: the reader moves on to the one after it, and stops at the end.
 pub fn next<'s, 'a>(r: &'s mut Reader<'a>) -> Step
     ensures { λ s. ⌜ (s ≡ nextStep (now (r .entry))) × (now (r .exit) ≡ moved (now (r .entry))) ⌝ }
 {
