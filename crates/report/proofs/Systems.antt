@@ -12,6 +12,7 @@ use Rattle.pll.specs.declared.PllConfig.{PllConfig}
 use Rattle.pll.specs.{Setting.validOf, Search.setting, Search.searchOf}
 use Rattle.pll.proofs.{Inputs.found-valid, Inputs.search-finds, UsbPreset.usb-preset}
 use Rattle.chip.specs.declared.Chip.the-variants.{Rp2040}
+use Rattle.config.specs.Board.{boardOf}
 use Rattle.config.specs.Presets.{ringConfig, feeding, fromPlls, crystalPlan, systemVoltage, systemPlanFrom, systemPlan}
 use Rattle.settings.specs.declared.Settings.{Settings}
 use Rattle.settings.specs.Settings.{settlingStep, settingsOf}
@@ -52,9 +53,10 @@ unfolding settlingOver settlingStep cyclesPerUs settlingCycles
 settles true c = refl
 settles false c = refl
 
--- a target's plan, accepted at the reading, with numbers of their types
+-- a target's plan: of the RP2040, accepted at the reading, with numbers of their types
 pub record Served (hz : ℕ) (p : ClockConfig) : Type 0 where
   pub planned : systemPlan Rp2040 hz ≡ value p
+  pub on : boardOf (p .chip) .chip ≡ Rp2040
   pub accepted : Accepted p reading
   pub typed : Typed (settingsOf p reading)
 
@@ -77,6 +79,7 @@ system-accepted hz = go (eqb hz 125000000) refl
       crystalPlan Rp2040 12000000,
       record {
         planned = rw e;
+        on = refl;
         accepted = plan-accepted (setting 125 6 2) V1_10 refl (settles false (setting 125 6 2));
         typed = plan-typed (setting 125 6 2) V1_10;
       },
@@ -85,7 +88,15 @@ system-accepted hz = go (eqb hz 125000000) refl
       plan (found .0) (systemVoltage hz),
       record {
         planned = rw (e, found .1, usb-preset);
+        on = refl;
         accepted = plan-accepted (found .0) (systemVoltage hz) valid (settles (ltb 133000000 hz) (found .0));
         typed = plan-typed (found .0) (systemVoltage hz);
       },
     )
+
+-- so each plan that a target has is of the RP2040
+pub on-rp2040 : (hz : ℕ) (p : ClockConfig) → systemPlan Rp2040 hz ≡ value p → boardOf (p .chip) .chip ≡ Rp2040
+on-rp2040 hz p e =
+    let served = system-accepted hz in
+    let is : p ≡ served .0 = let other = served .1 .planned in cc in
+    rw is (served .1 .on)
