@@ -78,7 +78,7 @@ rtcLine hz (OptionRtc.Some r) =
     (r .«div_int» ∷ r .«div_frac» ∷ r .phase ∷ [])
 rtcLine hz OptionRtc.None = ascii "rtc absent\n"
 
--- ---- what the last release leaves in reset
+-- ---- what the last release leaves out
 
 abbrev pub isRp2040 : Chip → Bool
 isRp2040 Rp2040 = true
@@ -96,14 +96,15 @@ abbrev pub noRtc : OptionRtc → Bool
 noRtc (OptionRtc.Some r) = false
 noRtc OptionRtc.None = true
 
--- a name where a block is left in reset
+-- a name where a block is left out
 abbrev pub named : Bool → String → List ℕ
-named held name = pick held (ascii name) []
+named out name = pick out (ascii name) []
 
--- of the mask's 25 blocks those of absent clocks, and HSTX (docs/RP235X.md): whether the chip is the RP2040, which clocks are absent
-unfoldable pub resetLine : Bool → Bool → Bool → Bool → Bool → List ℕ
-resetLine old peri usb adc rtc =
-    ascii "in reset:"
+-- of the mask's 25 blocks those of absent clocks, and HSTX (docs/RP235X.md): whether the chip is the RP2040, which clocks are absent.
+-- None of them is in reset: the second reset write lets every block but the PLLs out
+unfoldable pub leftOutLine : Bool → Bool → Bool → Bool → Bool → List ℕ
+leftOutLine old peri usb adc rtc =
+    ascii "left out of the last release:"
     ++ (named adc " adc"
     ++ (named (not old) " hstx"
     ++ (named (old && rtc) " rtc"

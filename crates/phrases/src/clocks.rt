@@ -1,4 +1,4 @@
-// The lines of the clocks, and of what stays in reset.
+// The lines of the clocks, and of what the last release leaves out.
 use crate::form::put_bytes;
 use crate::form::put_where;
 use crate::names::put_named;
@@ -12,7 +12,7 @@ ghost use mathlib.Core.Path.{_≡_};
 ghost use Prim.Native.Nat.{_+_};
 ghost use lib.ListN.{length};
 ghost use Rattle.plan_text.specs.Put.{Put};
-ghost use Rattle.phrases.specs.Lines.{refLine, sysLine, periLine, auxLine, rtcLine, isRp2040, noPeri, noAux, noRtc, resetLine};
+ghost use Rattle.phrases.specs.Lines.{refLine, sysLine, periLine, auxLine, rtcLine, isRp2040, noPeri, noAux, noRtc, leftOutLine};
 
 pub fn put_ref(out: &mut [u8], at: usize, hz: u32, clock: RefClkConfig) -> usize
     ensures { λ r. ⌜ Put (now (out .entry)) at (refLine hz clock) 100 r (now (out .exit)) ⌝ }
@@ -151,8 +151,8 @@ pub fn no_rtc(rtc: OptionRtc) -> bool
     }
 }
 
-// The blocks that the last release leaves in reset: those of absent clocks, and HSTX of the RP235x.
-pub fn put_reset(
+// The blocks that the last release leaves out: those of absent clocks, and HSTX of the RP235x.
+pub fn put_left_out(
     out: &mut [u8],
     at: usize,
     old: bool,
@@ -161,9 +161,9 @@ pub fn put_reset(
     adc: bool,
     rtc: bool,
 ) -> usize
-    ensures { λ r. ⌜ Put (now (out .entry)) at (resetLine old peri usb adc rtc) 80 r (now (out .exit)) ⌝ }
+    ensures { λ r. ⌜ Put (now (out .entry)) at (leftOutLine old peri usb adc rtc) 80 r (now (out .exit)) ⌝ }
 {
-    let at = put_bytes(out, at, b"in reset:");
+    let at = put_bytes(out, at, b"left out of the last release:");
     let at = put_where(out, at, adc, b" adc");
     let at = put_where(out, at, !old, b" hstx");
     let at = put_where(out, at, old & rtc, b" rtc");

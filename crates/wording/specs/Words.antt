@@ -1,4 +1,4 @@
--- A plan at a reading in words: its chip, a line for each setting, what stays in reset, and its numbers.
+-- A plan at a reading in words: its chip, a line for each setting, what the last release leaves out, and its numbers.
 use mathlib.Core.List.{List, _++_}
 use Prim.Native.Nat.{ℕ}
 use Rattle.text.specs.Ascii.{ascii}
@@ -9,7 +9,7 @@ use Rattle.settings.specs.{Settings.settingsOf, Frequencies.frequenciesOf}
 use Rattle.replies.specs.Reply.{spaced}
 use Rattle.plan_row.specs.Row.{sysPllIn, usbPllIn, planRow}
 use Rattle.phrases.specs.Lines.{chipLine, ringLine, crystalLine, pllLine, voltageLine, settlingLine, refLine, sysLine}
-use Rattle.phrases.specs.Lines.{periLine, auxLine, rtcLine, isRp2040, noPeri, noAux, noRtc, resetLine}
+use Rattle.phrases.specs.Lines.{periLine, auxLine, rtcLine, isRp2040, noPeri, noAux, noRtc, leftOutLine}
 
 -- chip, ring, crystal and PLLs
 unfoldable pub sourceLines : ClockConfig → Settings → Frequencies → List ℕ
@@ -28,14 +28,14 @@ coreLines s f =
     ++ (refLine (f .reference) (s .reference)
     ++ sysLine (f .sys) (s .sys) (s .board .whole) (s .board .fraction) (factsOf (s .board .chip) .scale)))
 
--- the other clocks, and what stays in reset
+-- the other clocks, and what the last release leaves out
 unfoldable pub clockLines : Settings → Frequencies → List ℕ
 clockLines s f =
     periLine (f .peri) (s .peri)
     ++ (auxLine (ascii "usb") (f .usb) (s .usb)
     ++ (auxLine (ascii "adc") (f .adc) (s .adc)
     ++ (rtcLine (f .rtc) (s .board .rtc)
-    ++ resetLine (isRp2040 (s .board .chip)) (noPeri (s .peri)) (noAux (s .usb)) (noAux (s .adc)) (noRtc (s .board .rtc)))))
+    ++ leftOutLine (isRp2040 (s .board .chip)) (noPeri (s .peri)) (noAux (s .usb)) (noAux (s .adc)) (noRtc (s .board .rtc)))))
 
 -- the plan's numbers as cases have them (docs/CASES.md)
 unfoldable pub planLine : ClockConfig → List ℕ

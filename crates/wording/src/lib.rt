@@ -56,7 +56,7 @@ fn put_core(out: &mut [u8], at: usize, s: Settings, f: Frequencies) -> usize
     )
 }
 
-// The other clocks, and what stays in reset.
+// The other clocks, and what the last release leaves out.
 fn put_clocks(out: &mut [u8], at: usize, s: Settings, f: Frequencies) -> usize
     ensures { λ r. ⌜ Put (now (out .entry)) at (clockLines s f) 560 r (now (out .exit)) ⌝ }
 {
@@ -75,7 +75,7 @@ fn put_clocks(out: &mut [u8], at: usize, s: Settings, f: Frequencies) -> usize
     let no_usb = phrases::clocks::no_aux(usb);
     let no_adc = phrases::clocks::no_aux(adc);
     let no_rtc = phrases::clocks::no_rtc(rtc);
-    phrases::clocks::put_reset(out, at, old, no_peri, no_usb, no_adc, no_rtc)
+    phrases::clocks::put_left_out(out, at, old, no_peri, no_usb, no_adc, no_rtc)
 }
 
 // The plan's numbers.

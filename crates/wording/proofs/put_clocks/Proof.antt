@@ -9,7 +9,7 @@ use Rattle.wording.proofs.put_clocks.Tie as tie
 returns : tie.Need-returns
 unfolding clockLines
 returns c =
-    let put-reset = c .before .before in let no-rtc = put-reset .before .before in let no-aux2 = no-rtc .before in
+    let put-left-out = c .before .before in let no-rtc = put-left-out .before .before in let no-aux2 = no-rtc .before in
     let no-aux = no-aux2 .before in let no-peri = no-aux .before in let is-rp2040 = no-peri .before in
     let put-rtc = is-rp2040 .before .before .before in let put-aux2 = put-rtc .before .before .before .before in
     let put-aux = put-aux2 .before .before .before .before .before in
@@ -21,7 +21,7 @@ returns c =
       no-aux .no-aux .ensures,
       no-aux2 .no-aux2 .ensures,
       no-rtc .no-rtc .ensures,
-    ) at (put-reset .put-reset .ensures))))))
+    ) at (put-left-out .put-left-out .ensures))))))
 
 pub put-clocks-spec : {M : Type 1} → statement M
 put-clocks-spec = tie.close (tie.spec (λ c κs. search needs) (λ c. search needs) (λ c κs. search needs)

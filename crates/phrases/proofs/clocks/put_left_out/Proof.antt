@@ -1,15 +1,15 @@
--- `phrases::clocks::put_reset` meets its contract.
+-- `phrases::clocks::put_left_out` meets its contract.
 use mathlib.Core.Path.{ap, _∙_}
 use native.Mathlib.Omega.{arith}
 use Rattle.plan_text.proofs.Puts.{put-append, put-most}
-use Rattle.phrases.specs.Lines.{resetLine}
+use Rattle.phrases.specs.Lines.{leftOutLine}
 use borrow.Author.Needs.{needs}
 use lib.{ListN.length, Seq.length-sets}
-use Rattle.phrases.proofs.clocks.put_reset.Statement.{statement}
-use Rattle.phrases.proofs.clocks.put_reset.Tie as tie
+use Rattle.phrases.proofs.clocks.put_left_out.Statement.{statement}
+use Rattle.phrases.proofs.clocks.put_left_out.Tie as tie
 
 returns : tie.Need-returns
-unfolding resetLine
+unfolding leftOutLine
 returns c =
     let put-bytes2 = c .before .before in let put-where6 = put-bytes2 .before .before .before .before .before in
     let put-where5 = put-where6 .before .before .before .before .before in
@@ -26,8 +26,8 @@ returns c =
 same-length : tie.Need-same-length
 same-length c = ap length (returns c .placed .bytes) ∙ simp length-sets
 
-pub put-reset-spec : {M : Type 1} → statement M
-put-reset-spec = tie.close (tie.spec (λ c. search needs) (λ c κs. search needs) (λ c. search needs)
+pub put-left-out-spec : {M : Type 1} → statement M
+put-left-out-spec = tie.close (tie.spec (λ c. search needs) (λ c κs. search needs) (λ c. search needs)
     (λ c κs. search needs) (λ c. search needs) (λ c κs. search needs) (λ c. search needs) (λ c κs. search needs)
     (λ c. search needs) (λ c κs. search needs) (λ c. search needs) (λ c κs. search needs) (λ c. search needs)
     (λ c κs. search needs) (λ c. search needs) (λ c κs. search needs) same-length returns)
