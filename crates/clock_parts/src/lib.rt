@@ -151,7 +151,7 @@ fn put_rtc(words: &mut Words, at: usize, chip: Chip, hz: u64, rtc: OptionRtc) ->
     }
 }
 
-// The bits that stay in reset where a clock is absent.
+// The bits that the last release leaves out where a clock is absent.
 fn peri_bits(bits: u32, peri: OptionPeri) -> u32
     ensures { λ r. ⌜ r ≡ periBits bits peri ⌝ }
 {

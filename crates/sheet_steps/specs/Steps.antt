@@ -173,7 +173,7 @@ unfoldable pub rtcPart : Chip → ℕ → OptionRtc → List Step
 rtcPart Rp2040 hz o = rtcSteps o ++ (storeStep 9 hz ∷ [])
 rtcPart Rp235x hz o = []
 
--- the bits that stay in reset where a clock is absent
+-- the bits that the last release leaves out where a clock is absent
 abbrev pub periBits : ℕ → OptionPeri → ℕ
 periBits bits (OptionPeri.Some src) = 0
 periBits bits OptionPeri.None = bits
