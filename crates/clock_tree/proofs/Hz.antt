@@ -78,7 +78,7 @@ pll-read p hz cs fb prim v e0 e1 e2 =
       post2 = omega (arith, e2, v .post1, v .post2);
     }
 
-pll-on : (c : Chip) (w : ℕ) (file : ℕ → ℕ) → held c w (file (RESET c)) ≡ false → file (PLL-PWR c w) ≡ 4
+pub pll-on : (c : Chip) (w : ℕ) (file : ℕ → ℕ) → held c w (file (RESET c)) ≡ false → file (PLL-PWR c w) ≡ 4
     → pllOn c w file ≡ true
 pll-on c w file out power = rw (out, power)
 

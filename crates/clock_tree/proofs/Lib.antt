@@ -6,4 +6,5 @@ pub mod Hz
 pub mod Carried
 pub mod Times
 pub mod Waits
+pub mod Running
 pub mod Presets

@@ -28,7 +28,7 @@ unfolding accessOf has rows headPart
 head-sets Rp2040 file = (refl, refl, refl)
 head-sets Rp235x file = (refl, refl, refl)
 
-range-on : (x : RoscRange) → oscillates (FREQ-RANGE (rangeCode x) + OSCILLATOR-ON) ≡ true
+pub range-on : (x : RoscRange) → oscillates (FREQ-RANGE (rangeCode x) + OSCILLATOR-ON) ≡ true
 range-on RoscRange.Low = refl
 range-on RoscRange.Medium = refl
 range-on RoscRange.High = refl

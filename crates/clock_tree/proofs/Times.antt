@@ -93,7 +93,7 @@ rtc-free Rp235x = ((refl, (refl, tt)), (refl, tt))
 -- ---- the sources
 
 -- no PLL is in reset
-held-none : (c : Chip) (reset : ℕ) → reset ≡ 0 → (held c 0 reset ≡ false) × (held c 1 reset ≡ false)
+pub held-none : (c : Chip) (reset : ℕ) → reset ≡ 0 → (held c 0 reset ≡ false) × (held c 1 reset ≡ false)
 held-none Rp2040 reset e = (ap (held Rp2040 0) e, ap (held Rp2040 1) e)
 held-none Rp235x reset e = (ap (held Rp235x 0) e, ap (held Rp235x 1) e)
 

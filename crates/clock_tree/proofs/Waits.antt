@@ -84,10 +84,10 @@ mark Rp2040 hz = record { all = λ file. refl }
 mark Rp235x hz = record { all = λ file. refl }
 
 -- a source field that was set to 0 reads 0
-sys-cleared : (v : ℕ) → bitsAt 0 1 (v - bitAnd v 1 + 0) ≡ 0
+pub sys-cleared : (v : ℕ) → bitsAt 0 1 (v - bitAnd v 1 + 0) ≡ 0
 sys-cleared v = let low : bitAnd v 1 ≡ v % 2 = and-mask v 1 in omega arith
 
-ref-cleared : (v : ℕ) → bitsAt 0 2 (v - bitAnd v 3 + 0) ≡ 0
+pub ref-cleared : (v : ℕ) → bitsAt 0 2 (v - bitAnd v 3 + 0) ≡ 0
 ref-cleared v = let low : bitAnd v 3 ≡ v % 4 = and-mask v 2 in omega arith
 
 -- both waits of the head for a source

@@ -1,7 +1,7 @@
 -- No wait is for something that cannot come: at each wait of a sheet what was set before it brings its condition about.
 use mathlib.Core.{Bool.Bool, Bool.true, Bool.false, Bool._&&_, Bool.not, Path._≡_, List.List, List.[], List._∷_}
 use Prim.Native.Nat.{ℕ, _^_}
-use lib.{Dec.eqb, Bits.bitAnd}
+use lib.{Dec.eqb, Bits.bitAnd, ListN.getD}
 use Rattle.base.specs.{Choice.pick, Choice.inRange, Answer.Answer, Answer.value, Answer.refusal}
 use Rattle.chip.specs.declared.Chip.{Chip}
 use Rattle.step.specs.declared.Step.{Step}
@@ -12,9 +12,9 @@ use Rattle.refusals.specs.Refusals.{Accepted}
 use Rattle.registers.specs.declared.Access.{Access}
 use Rattle.registers.specs.Access.{accessOf}
 use Rattle.registers.specs.Map.{RESET, RESET-DONE, CLK-REF-CTRL, CLK-REF-SELECTED, CLK-SYS-CTRL, CLK-SYS-SELECTED}
-use Rattle.registers.specs.Map.{XOSC-CTRL, XOSC-STATUS, PLL-CS}
+use Rattle.registers.specs.Map.{XOSC-CTRL, XOSC-STATUS, ROSC-CTRL, PLL-CS}
 use Rattle.sheet_steps.specs.Steps.{stepsOf}
-use Rattle.clock_tree.specs.{Machine.bitsAt, Machine.done, Tree.oscillates, Tree.pllAt, Tree.vcoOn}
+use Rattle.clock_tree.specs.{Machine.bitsAt, Machine.done, Tree.oscillates, Tree.pllAt, Tree.vcoOn, Tree.pllOn}
 
 -- a PLL locks that is powered, whose crystal oscillates, and whose dividers give a reference and a VCO within their ranges
 abbrev pub locks : Chip → ℕ → ℕ → (ℕ → ℕ) → Bool
@@ -49,3 +49,43 @@ abbrev pub NoEndlessWait : Type 0
 NoEndlessWait =
     (p : ClockConfig) (reading : ℕ) → Accepted p reading → (before : ℕ → ℕ)
     → let s = settingsOf p reading in allCome (s .board .chip) (sourcesIn s .xosc) (stepsOf reading s) before ≡ true
+
+-- ---- and the source that a clock is switched to runs, without which its SELECTED never changes
+
+-- a PLL is on, and its crystal
+abbrev pub pllRuns : Chip → ℕ → (ℕ → ℕ) → Bool
+pllRuns c w file = oscillates (file (XOSC-CTRL c)) && pllOn c w file
+
+-- the source that CLK_REF_CTRL selects
+abbrev pub refRuns : Chip → (ℕ → ℕ) → Bool
+refRuns c file =
+    let ctrl = file (CLK-REF-CTRL c) in
+    let aux = getD (pllRuns c 1 file ∷ []) (bitsAt 5 2 ctrl) false in
+    getD (oscillates (file (ROSC-CTRL c)) ∷ aux ∷ oscillates (file (XOSC-CTRL c)) ∷ []) (bitsAt 0 2 ctrl) false
+
+-- the source that CLK_SYS_CTRL selects
+abbrev pub sysRuns : Chip → (ℕ → ℕ) → Bool
+sysRuns c file =
+    let ctrl = file (CLK-SYS-CTRL c) in
+    let ring = oscillates (file (ROSC-CTRL c)) in
+    let aux = getD (pllRuns c 0 file ∷ pllRuns c 1 file ∷ ring ∷ oscillates (file (XOSC-CTRL c)) ∷ []) (bitsAt 5 3 ctrl) false in
+    getD (refRuns c file ∷ aux ∷ []) (bitsAt 0 1 ctrl) false
+
+abbrev pub sourceRuns : Chip → Answer Access → (ℕ → ℕ) → Bool
+sourceRuns c (value a) file =
+    pick (not (eqb (a .op) 3)) true
+    (pick (eqb (a .address) (CLK-SYS-SELECTED c)) (sysRuns c file)
+    (pick (eqb (a .address) (CLK-REF-SELECTED c)) (refRuns c file) true))
+sourceRuns c (refusal n) file = false
+
+abbrev pub allRun : Chip → List Step → (ℕ → ℕ) → Bool
+allRun c [] file = true
+allRun c (s ∷ ss) file = sourceRuns c (accessOf c s) file && allRun c ss (done c (accessOf c s) file)
+
+-- where the ring and the reference clock run before, as after a reset of the chip
+abbrev pub SourcesRun : Type 0
+SourcesRun =
+    (p : ClockConfig) (reading : ℕ) → Accepted p reading → (before : ℕ → ℕ)
+    → let s = settingsOf p reading in
+    let c = s .board .chip in
+    oscillates (before (ROSC-CTRL c)) ≡ true → refRuns c before ≡ true → allRun c (stepsOf reading s) before ≡ true
