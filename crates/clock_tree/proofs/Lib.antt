@@ -5,6 +5,7 @@ pub mod Set
 pub mod Hz
 pub mod Carried
 pub mod Times
+pub mod Walk
 pub mod Waits
 pub mod Running
 pub mod Presets

@@ -12,6 +12,7 @@ use Rattle.config.specs.declared.{SysClkSrc.SysClkSrc, Board.Board, OptionPeri.
 use Rattle.config.specs.declared.OptionRtc.{OptionRtc}
 use Rattle.settings.specs.declared.{OptionCrystal.OptionCrystal, OptionCycles.OptionCycles, Sources.Sources}
 use Rattle.settings.specs.Codes.{sysSelect, sysAux}
+use Rattle.registers.specs.declared.Access.{Access}
 use Rattle.registers.specs.Access.{has, rows, accessOf}
 use Rattle.registers.specs.Map.{on, RESET, CLK-SYS-RESUS-CTRL, CLK-REF-CTRL, CLK-REF-DIV, CLK-SYS-CTRL, CLK-SYS-DIV, CLK-PERI-CTRL}
 use Rattle.registers.specs.Map.{CLK-USB-CTRL, CLK-USB-DIV, CLK-ADC-CTRL, CLK-ADC-DIV, CLK-RTC-CTRL, CLK-RTC-DIV, XOSC-CTRL, XOSC-STARTUP}
@@ -19,12 +20,17 @@ use Rattle.registers.specs.Map.{ROSC-CTRL, ROSC-FREQA, ROSC-FREQB, ROSC-DIV, PL
 use Rattle.registers.specs.Map.{WATCHDOG-TICK, POWMAN-VREG, POWMAN-BOD, TIMER0-CTRL, TIMER0-CYCLES, WATCHDOG-CTRL, WATCHDOG-CYCLES}
 use Rattle.sheet_steps.specs.Steps.{markSteps, headPart, ringPart, settlingSteps, voltagePart, pllSteps, crystalPart, sourcePart, refPart}
 use Rattle.sheet_steps.specs.Steps.{switchSteps, sysPart, periPart, auxPart, rtcPart, lastPart, step0, step1, step2, storeStep}
-use Rattle.clock_tree.specs.Carried.{carries}
+use Rattle.clock_tree.specs.{Carried.carries, Waits.allWaits}
 use Rattle.clock_tree.proofs.Addresses.{within, reach}
 
 pub record On (c : Chip) (own : List ℕ) (xs : List Step) : Type 0 where
   pub all : carries c xs ≡ true
   pub inside : within (reach c xs) own ≡ true
+
+-- a part without a wait: whatever is asked at waits holds
+pub record Calm (c : Chip) (own : List ℕ) (xs : List Step) : Type 0 where
+  pub on : On c own xs
+  pub calm : (test : Access → (ℕ → ℕ) → Bool) (file : ℕ → ℕ) → allWaits c test xs file ≡ true
 
 -- the registers of each part
 abbrev pub headOwn : Chip → List ℕ
@@ -69,22 +75,22 @@ owns c =
     ∷ lastOwn c
     ∷ []
 
-pub mark : (c : Chip) → On c [] (markSteps c)
+pub mark : (c : Chip) → Calm c [] (markSteps c)
 unfolding accessOf has rows
-mark Rp2040 = record { all = refl; inside = refl }
-mark Rp235x = record { all = refl; inside = refl }
+mark Rp2040 = record { on = record { all = refl; inside = refl }; calm = λ test file. refl }
+mark Rp235x = record { on = record { all = refl; inside = refl }; calm = λ test file. refl }
 
 pub head : (c : Chip) → On c (headOwn c) (headPart c)
 unfolding accessOf has rows headPart
 head Rp2040 = record { all = refl; inside = refl }
 head Rp235x = record { all = refl; inside = refl }
 
-pub ring : (c : Chip) (pass : ℕ) (r : OptionRosc) → On c (ringOwn c) (ringPart pass r)
+pub ring : (c : Chip) (pass : ℕ) (r : OptionRosc) → Calm c (ringOwn c) (ringPart pass r)
 unfolding accessOf has rows ringPart
-ring Rp2040 pass (OptionRosc.Some r) = record { all = refl; inside = refl }
-ring Rp2040 pass OptionRosc.None = record { all = refl; inside = refl }
-ring Rp235x pass (OptionRosc.Some r) = record { all = refl; inside = refl }
-ring Rp235x pass OptionRosc.None = record { all = refl; inside = refl }
+ring Rp2040 pass (OptionRosc.Some r) = record { on = record { all = refl; inside = refl }; calm = λ test file. refl }
+ring Rp2040 pass OptionRosc.None = record { on = record { all = refl; inside = refl }; calm = λ test file. refl }
+ring Rp235x pass (OptionRosc.Some r) = record { on = record { all = refl; inside = refl }; calm = λ test file. refl }
+ring Rp235x pass OptionRosc.None = record { on = record { all = refl; inside = refl }; calm = λ test file. refl }
 
 -- a voltage that changes
 abbrev pub changed : Chip → Board → OptionCycles → List Step
@@ -92,17 +98,17 @@ changed c b settling =
     step1 (factsOf c .voltage) (b .code) ∷ (settlingSteps settling ++ (step1 (factsOf c .brownout) (b .brownout) ∷ []))
 
 voltage-of : (c : Chip) (b : Board) (same : Bool) (settling : OptionCycles)
-    → On c (voltageOwn c) (pick same [] (changed c b settling))
+    → Calm c (voltageOwn c) (pick same [] (changed c b settling))
 unfolding accessOf has rows
-voltage-of Rp2040 b true settling = record { all = refl; inside = refl }
-voltage-of Rp235x b true settling = record { all = refl; inside = refl }
-voltage-of Rp2040 b false (OptionCycles.Some n) = record { all = refl; inside = refl }
-voltage-of Rp2040 b false OptionCycles.None = record { all = refl; inside = refl }
-voltage-of Rp235x b false (OptionCycles.Some n) = record { all = refl; inside = refl }
-voltage-of Rp235x b false OptionCycles.None = record { all = refl; inside = refl }
+voltage-of Rp2040 b true settling = record { on = record { all = refl; inside = refl }; calm = λ test file. refl }
+voltage-of Rp235x b true settling = record { on = record { all = refl; inside = refl }; calm = λ test file. refl }
+voltage-of Rp2040 b false (OptionCycles.Some n) = record { on = record { all = refl; inside = refl }; calm = λ test file. refl }
+voltage-of Rp2040 b false OptionCycles.None = record { on = record { all = refl; inside = refl }; calm = λ test file. refl }
+voltage-of Rp235x b false (OptionCycles.Some n) = record { on = record { all = refl; inside = refl }; calm = λ test file. refl }
+voltage-of Rp235x b false OptionCycles.None = record { on = record { all = refl; inside = refl }; calm = λ test file. refl }
 
 pub voltage : (reading : ℕ) (b : Board) (settling : OptionCycles)
-    → On (b .chip) (voltageOwn (b .chip)) (voltagePart reading b settling)
+    → Calm (b .chip) (voltageOwn (b .chip)) (voltagePart reading b settling)
 unfolding voltagePart
 voltage reading b settling = voltage-of (b .chip) b (eqb (b .code) reading) settling
 
@@ -127,10 +133,10 @@ unfolding crystalPart
 crystal c (OptionCrystal.Some x) = crystal-of c (x .delay) (x .sys) (x .usb)
 crystal c OptionCrystal.None = record { all = refl; inside = refl }
 
-pub source : (c : Chip) (f : Sources) → On c [] (sourcePart f)
+pub source : (c : Chip) (f : Sources) → Calm c [] (sourcePart f)
 unfolding accessOf has rows
-source Rp2040 f = record { all = refl; inside = refl }
-source Rp235x f = record { all = refl; inside = refl }
+source Rp2040 f = record { on = record { all = refl; inside = refl }; calm = λ test file. refl }
+source Rp235x f = record { on = record { all = refl; inside = refl }; calm = λ test file. refl }
 
 pub reference : (c : Chip) (hz : ℕ) (r : RefClkConfig) → On c (refOwn c) (refPart c hz r)
 unfolding accessOf has rows
@@ -156,34 +162,34 @@ pub system : (b : Board) (hz : ℕ) (src : SysClkSrc) → On (b .chip) (sysOwn (
 unfolding sysPart switchSteps
 system b hz src = system-of (b .chip) (eqb (sysSelect src) 0) hz (sysAux src) (sysSelect src) (b .whole) (b .fraction)
 
-pub peri : (c : Chip) (hz : ℕ) (o : OptionPeri) → On c (CLK-PERI-CTRL c ∷ []) (periPart hz o)
+pub peri : (c : Chip) (hz : ℕ) (o : OptionPeri) → Calm c (CLK-PERI-CTRL c ∷ []) (periPart hz o)
 unfolding accessOf has rows periPart
-peri Rp2040 hz (OptionPeri.Some src) = record { all = refl; inside = refl }
-peri Rp2040 hz OptionPeri.None = record { all = refl; inside = refl }
-peri Rp235x hz (OptionPeri.Some src) = record { all = refl; inside = refl }
-peri Rp235x hz OptionPeri.None = record { all = refl; inside = refl }
+peri Rp2040 hz (OptionPeri.Some src) = record { on = record { all = refl; inside = refl }; calm = λ test file. refl }
+peri Rp2040 hz OptionPeri.None = record { on = record { all = refl; inside = refl }; calm = λ test file. refl }
+peri Rp235x hz (OptionPeri.Some src) = record { on = record { all = refl; inside = refl }; calm = λ test file. refl }
+peri Rp235x hz OptionPeri.None = record { on = record { all = refl; inside = refl }; calm = λ test file. refl }
 
 pub usb : (c : Chip) (hz : ℕ) (o : OptionAux)
-    → On c (CLK-USB-CTRL c ∷ CLK-USB-DIV c ∷ []) (auxPart kind.usb-divider kind.usb-control 7 hz o)
+    → Calm c (CLK-USB-CTRL c ∷ CLK-USB-DIV c ∷ []) (auxPart kind.usb-divider kind.usb-control 7 hz o)
 unfolding accessOf has rows auxPart
-usb Rp2040 hz (OptionAux.Some a) = record { all = refl; inside = refl }
-usb Rp2040 hz OptionAux.None = record { all = refl; inside = refl }
-usb Rp235x hz (OptionAux.Some a) = record { all = refl; inside = refl }
-usb Rp235x hz OptionAux.None = record { all = refl; inside = refl }
+usb Rp2040 hz (OptionAux.Some a) = record { on = record { all = refl; inside = refl }; calm = λ test file. refl }
+usb Rp2040 hz OptionAux.None = record { on = record { all = refl; inside = refl }; calm = λ test file. refl }
+usb Rp235x hz (OptionAux.Some a) = record { on = record { all = refl; inside = refl }; calm = λ test file. refl }
+usb Rp235x hz OptionAux.None = record { on = record { all = refl; inside = refl }; calm = λ test file. refl }
 
 pub adc : (c : Chip) (hz : ℕ) (o : OptionAux)
-    → On c (CLK-ADC-CTRL c ∷ CLK-ADC-DIV c ∷ []) (auxPart kind.adc-divider kind.adc-control 8 hz o)
+    → Calm c (CLK-ADC-CTRL c ∷ CLK-ADC-DIV c ∷ []) (auxPart kind.adc-divider kind.adc-control 8 hz o)
 unfolding accessOf has rows auxPart
-adc Rp2040 hz (OptionAux.Some a) = record { all = refl; inside = refl }
-adc Rp2040 hz OptionAux.None = record { all = refl; inside = refl }
-adc Rp235x hz (OptionAux.Some a) = record { all = refl; inside = refl }
-adc Rp235x hz OptionAux.None = record { all = refl; inside = refl }
+adc Rp2040 hz (OptionAux.Some a) = record { on = record { all = refl; inside = refl }; calm = λ test file. refl }
+adc Rp2040 hz OptionAux.None = record { on = record { all = refl; inside = refl }; calm = λ test file. refl }
+adc Rp235x hz (OptionAux.Some a) = record { on = record { all = refl; inside = refl }; calm = λ test file. refl }
+adc Rp235x hz OptionAux.None = record { on = record { all = refl; inside = refl }; calm = λ test file. refl }
 
-pub rtc : (c : Chip) (hz : ℕ) (o : OptionRtc) → On c (CLK-RTC-CTRL ∷ CLK-RTC-DIV ∷ []) (rtcPart c hz o)
+pub rtc : (c : Chip) (hz : ℕ) (o : OptionRtc) → Calm c (CLK-RTC-CTRL ∷ CLK-RTC-DIV ∷ []) (rtcPart c hz o)
 unfolding accessOf has rows rtcPart
-rtc Rp2040 hz (OptionRtc.Some r) = record { all = refl; inside = refl }
-rtc Rp2040 hz OptionRtc.None = record { all = refl; inside = refl }
-rtc Rp235x hz o = record { all = refl; inside = refl }
+rtc Rp2040 hz (OptionRtc.Some r) = record { on = record { all = refl; inside = refl }; calm = λ test file. refl }
+rtc Rp2040 hz OptionRtc.None = record { on = record { all = refl; inside = refl }; calm = λ test file. refl }
+rtc Rp235x hz o = record { on = record { all = refl; inside = refl }; calm = λ test file. refl }
 
 pub last : (c : Chip) (mask : ℕ) → On c (lastOwn c) (lastPart mask)
 unfolding accessOf has rows

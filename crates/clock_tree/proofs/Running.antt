@@ -27,36 +27,13 @@ use Rattle.sheet_steps.specs.Steps.{markSteps, headPart, ringPart, voltagePart,
 use Rattle.sheet_steps.specs.Steps.{sysPart, periPart, auxPart, rtcPart, releaseMask, lastPart, clocksPart, stepsOf}
 use Rattle.clock_tree.specs.Machine.{bitsAt, held, done, carriedOut}
 use Rattle.clock_tree.specs.Tree.{oscillates, pllOn}
-use Rattle.clock_tree.specs.Waits.{pllRuns, refRuns, sysRuns, sourceRuns, allRun, SourcesRun}
-use Rattle.clock_tree.proofs.Addresses.{member, outside, reach, steps-keep, append}
-use Rattle.clock_tree.proofs.Parts.{changed, crystalOwn, crystalSteps, systemSteps}
-use Rattle.clock_tree.proofs.Parts.{crystal as crystal-on}
+use Rattle.clock_tree.specs.Waits.{allWaits, pllRuns, refRuns, sysRuns, sourceRuns, SourcesRun}
+use Rattle.clock_tree.proofs.Addresses.{member}
+use Rattle.clock_tree.proofs.Parts.{voltageOwn, crystalOwn, crystalSteps, systemSteps, peri, usb, adc, rtc}
+use Rattle.clock_tree.proofs.Parts.{voltage as voltage-calm, crystal as crystal-on}
+use Rattle.clock_tree.proofs.Walk.{Walk, _then_, Any, calmly, keeps}
 use Rattle.clock_tree.proofs.Set.{range-on, PllSet, CrystalSet, crystal-sets}
 use Rattle.clock_tree.proofs.{Hz.pll-on, Times.held-none, Waits.sys-cleared, Waits.ref-cleared}
-
--- from a file of which P holds every source that the steps wait for runs, and Q holds of the file after them
-record Runs (c : Chip) (P Q : (ℕ → ℕ) → Type 0) (xs : List Step) : Type 0 where
-  run : (file : ℕ → ℕ) → P file → (allRun c xs file ≡ true) × Q (carriedOut c xs file)
-
-run-append : (c : Chip) (xs ys : List Step) (file : ℕ → ℕ) → allRun c xs file ≡ true
-    → allRun c ys (carriedOut c xs file) ≡ true → allRun c (xs ++ ys) file ≡ true
-run-append c [] ys file h k = k
-run-append c (x ∷ xs) ys file h k =
-    let next : ℕ → ℕ = done c (accessOf c x) file in
-    let both = both-true (sourceRuns c (accessOf c x) file) (allRun c xs next) h in
-    simp (both .0, run-append c xs ys next (both .1) k)
-
-infixr 20 _then_
-_then_ : {c : Chip} {P Q R : (ℕ → ℕ) → Type 0} {xs ys : List Step} → Runs c P Q xs → Runs c Q R ys → Runs c P R (xs ++ ys)
-_then_ {c} {P} {Q} {R} {xs} {ys} h k =
-    record {
-      run = λ file p.
-          let first = h .run file p in
-          let second = k .run (carriedOut c xs file) (first .1) in (
-            run-append c xs ys file (first .0) (second .0),
-            subst R (sym (append c xs ys file)) (second .1),
-          );
-    }
 
 -- ---- what holds of the file between the parts
 
@@ -84,15 +61,12 @@ record Referred (c : Chip) (f : Sources) (file : ℕ → ℕ) : Type 0 where
   sources : Running c f file
   reference : refRuns c file ≡ true
 
-abbrev Any : (ℕ → ℕ) → Type 0
-Any file = Unit {0}
-
 -- ---- the parts
 
-mark : (c : Chip) → Runs c (Awake c) (Awake c) (markSteps c)
+mark : (c : Chip) → Walk c (sourceRuns c) (Awake c) (Awake c) (markSteps c)
 unfolding accessOf has rows
-mark Rp2040 = record { run = λ file p. (refl, p) }
-mark Rp235x = record { run = λ file p. (refl, record { ring = p .ring; reference = p .reference }) }
+mark Rp2040 = record { walk = λ file p. (refl, p) }
+mark Rp235x = record { walk = λ file p. (refl, record { ring = p .ring; reference = p .reference }) }
 
 -- a source that ran runs on where its PLL is out of reset
 runs-on : (m n : ℕ) (ring xosc p q u v h : Bool)
@@ -122,11 +96,11 @@ on-released c file e =
     (oscillates (file (XOSC-CTRL c))) (eqb (bitsAt 0 1 pwr) 0) (eqb (bitsAt 5 1 pwr) 0) (eqb (bitsAt 3 1 pwr) 0)
     (held c 1 (file (RESET c))) e
 
-head : (c : Chip) → Runs c (Awake c) (Headed c) (headPart c)
+head : (c : Chip) → Walk c (sourceRuns c) (Awake c) (Headed c) (headPart c)
 unfolding accessOf has rows headPart
 head Rp2040 =
     record {
-      run = λ file p. (
+      walk = λ file p. (
         rw (
           sys-cleared (file (CLK-SYS-CTRL Rp2040)),
           ref-cleared (file (CLK-REF-CTRL Rp2040)),
@@ -138,7 +112,7 @@ head Rp2040 =
     }
 head Rp235x =
     record {
-      run = λ file p. (
+      walk = λ file p. (
         rw (
           sys-cleared (file (CLK-SYS-CTRL Rp235x)),
           ref-cleared (file (CLK-REF-CTRL Rp235x)),
@@ -149,37 +123,42 @@ head Rp235x =
       );
     }
 
-ring : (c : Chip) (pass : ℕ) (r : OptionRosc) → Runs c (Headed c) (Headed c) (ringPart pass r)
+ring : (c : Chip) (pass : ℕ) (r : OptionRosc) → Walk c (sourceRuns c) (Headed c) (Headed c) (ringPart pass r)
 unfolding accessOf has rows ringPart
 ring Rp2040 pass (OptionRosc.Some r) =
-    record { run = λ file p. (refl, record { ring = range-on (r .range); reset = p .reset; sys = p .sys; usb = p .usb }) }
+    record { walk = λ file p. (refl, record { ring = range-on (r .range); reset = p .reset; sys = p .sys; usb = p .usb }) }
 ring Rp2040 pass OptionRosc.None =
-    record { run = λ file p. (refl, record { ring = p .ring; reset = p .reset; sys = p .sys; usb = p .usb }) }
+    record { walk = λ file p. (refl, record { ring = p .ring; reset = p .reset; sys = p .sys; usb = p .usb }) }
 ring Rp235x pass (OptionRosc.Some r) =
-    record { run = λ file p. (refl, record { ring = range-on (r .range); reset = p .reset; sys = p .sys; usb = p .usb }) }
+    record { walk = λ file p. (refl, record { ring = range-on (r .range); reset = p .reset; sys = p .sys; usb = p .usb }) }
 ring Rp235x pass OptionRosc.None =
-    record { run = λ file p. (refl, record { ring = p .ring; reset = p .reset; sys = p .sys; usb = p .usb }) }
+    record { walk = λ file p. (refl, record { ring = p .ring; reset = p .reset; sys = p .sys; usb = p .usb }) }
 
-voltage-of : (c : Chip) (b : Board) (same : Bool) (settling : OptionCycles)
-    → Runs c (Headed c) (Headed c) (pick same [] (changed c b settling))
-unfolding accessOf has rows
-voltage-of c b true settling = record { run = λ file p. (refl, p) }
-voltage-of Rp2040 b false (OptionCycles.Some n) =
-    record { run = λ file p. (refl, record { ring = p .ring; reset = p .reset; sys = p .sys; usb = p .usb }) }
-voltage-of Rp2040 b false OptionCycles.None =
-    record { run = λ file p. (refl, record { ring = p .ring; reset = p .reset; sys = p .sys; usb = p .usb }) }
-voltage-of Rp235x b false (OptionCycles.Some n) =
-    record { run = λ file p. (refl, record { ring = p .ring; reset = p .reset; sys = p .sys; usb = p .usb }) }
-voltage-of Rp235x b false OptionCycles.None =
-    record { run = λ file p. (refl, record { ring = p .ring; reset = p .reset; sys = p .sys; usb = p .usb }) }
+voltage-apart : (c : Chip) → (member (ROSC-CTRL c) (voltageOwn c) ≡ false) × (member (RESET c) (voltageOwn c) ≡ false)
+    × (member (PLL-PWR c 0) (voltageOwn c) ≡ false) × (member (PLL-PWR c 1) (voltageOwn c) ≡ false)
+voltage-apart Rp2040 = (refl, refl, refl, refl)
+voltage-apart Rp235x = (refl, refl, refl, refl)
 
 voltage : (reading : ℕ) (b : Board) (settling : OptionCycles)
-    → Runs (b .chip) (Headed (b .chip)) (Headed (b .chip)) (voltagePart reading b settling)
-unfolding voltagePart
-voltage reading b settling = voltage-of (b .chip) b (eqb (b .code) reading) settling
+    → Walk (b .chip) (sourceRuns (b .chip)) (Headed (b .chip)) (Headed (b .chip)) (voltagePart reading b settling)
+voltage reading b settling =
+    let c : Chip = b .chip in
+    let part = voltage-calm reading b settling in
+    let apart = voltage-apart c in
+    record {
+      walk = λ file p. (
+        part .calm (sourceRuns c) file,
+        record {
+          ring = ap oscillates (keeps (part .on) file (ROSC-CTRL c) (apart .0)) ∙ p .ring;
+          reset = keeps (part .on) file (RESET c) (apart .1) ∙ p .reset;
+          sys = keeps (part .on) file (PLL-PWR c 0) (apart .2) ∙ p .sys;
+          usb = keeps (part .on) file (PLL-PWR c 1) (apart .3) ∙ p .usb;
+        },
+      );
+    }
 
 -- the crystal's part waits for no source
-crystal-quiet : (c : Chip) (delay : ℕ) (a b : OptionPll) (file : ℕ → ℕ) → allRun c (crystalSteps delay a b) file ≡ true
+crystal-quiet : (c : Chip) (delay : ℕ) (a b : OptionPll) (file : ℕ → ℕ) → allWaits c (sourceRuns c) (crystalSteps delay a b) file ≡ true
 unfolding accessOf has rows
 crystal-quiet Rp2040 delay (OptionPll.Some p) (OptionPll.Some q) file = refl
 crystal-quiet Rp2040 delay (OptionPll.Some p) OptionPll.None file = refl
@@ -220,162 +199,131 @@ running c r OptionCrystal.None file on reset set =
       usb = λ nonzero. absurd (nonzero refl);
     }
 
-quiet : (c : Chip) (x : OptionCrystal) (file : ℕ → ℕ) → allRun c (crystalPart x) file ≡ true
+quiet : (c : Chip) (x : OptionCrystal) (file : ℕ → ℕ) → allWaits c (sourceRuns c) (crystalPart x) file ≡ true
 unfolding crystalPart
 quiet c (OptionCrystal.Some x) file = crystal-quiet c (x .delay) (x .sys) (x .usb) file
 quiet c OptionCrystal.None file = refl
 
-crystal : (c : Chip) (r : OptionRosc) (x : OptionCrystal) → Runs c (Headed c) (Running c (sourcesOf r x)) (crystalPart x)
+crystal : (c : Chip) (r : OptionRosc) (x : OptionCrystal)
+    → Walk c (sourceRuns c) (Headed c) (Running c (sourcesOf r x)) (crystalPart x)
 crystal c r x =
-    let inside = crystal-on c x .inside in
+    let part = crystal-on c x in
     let apart = crystal-apart c in
     record {
-      run = λ file p. (
+      walk = λ file p. (
         quiet c x file,
         running c r x (carriedOut c (crystalPart x) file)
-            (ap oscillates (steps-keep c (crystalPart x) file (ROSC-CTRL c) (outside (ROSC-CTRL c) (reach c (crystalPart x)) (crystalOwn c) inside (apart .0))) ∙ p .ring)
-            (steps-keep c (crystalPart x) file (RESET c) (outside (RESET c) (reach c (crystalPart x)) (crystalOwn c) inside (apart .1)) ∙ p .reset)
+            (ap oscillates (keeps part file (ROSC-CTRL c) (apart .0)) ∙ p .ring)
+            (keeps part file (RESET c) (apart .1) ∙ p .reset)
             (crystal-sets c x file (p .sys) (p .usb)),
       );
     }
 
-source : (c : Chip) (f : Sources) → Runs c (Running c f) (Running c f) (sourcePart f)
+source : (c : Chip) (f : Sources) → Walk c (sourceRuns c) (Running c f) (Running c f) (sourcePart f)
 unfolding accessOf has rows
 source Rp2040 f =
-    record { run = λ file p. (refl, record { ring = p .ring; xosc = p .xosc; sys = p .sys; usb = p .usb }) }
+    record { walk = λ file p. (refl, record { ring = p .ring; xosc = p .xosc; sys = p .sys; usb = p .usb }) }
 source Rp235x f =
-    record { run = λ file p. (refl, record { ring = p .ring; xosc = p .xosc; sys = p .sys; usb = p .usb }) }
+    record { walk = λ file p. (refl, record { ring = p .ring; xosc = p .xosc; sys = p .sys; usb = p .usb }) }
 
--- the source of the reference clock runs
-ref-runs : (c : Chip) (f : Sources) (stored div : ℕ) (src : RefClkSrc) → NonZero (refSource f src)
-    → Runs c (Running c f) (Referred c f) (refPart c stored (record { src = src; div = div }))
+-- the reference part keeps the sources
+moved : (c : Chip) (f : Sources) (stored : ℕ) (r : RefClkConfig) (file : ℕ → ℕ) → Running c f file
+    → Running c f (carriedOut c (refPart c stored r) file)
 unfolding accessOf has rows
-ref-runs Rp2040 f stored div RefClkSrc.Rosc nonzero = record {
-  run = λ file p. (
-    ap (λ (b : Bool). b && true) (p .ring),
+moved Rp2040 f stored r file p = record { ring = p .ring; xosc = p .xosc; sys = p .sys; usb = p .usb }
+moved Rp235x f stored r file p = record { ring = p .ring; xosc = p .xosc; sys = p .sys; usb = p .usb }
+
+-- and its source runs
+ref-runs : (c : Chip) (f : Sources) (stored div : ℕ) (src : RefClkSrc) → NonZero (refSource f src)
+    → Walk c (sourceRuns c) (Running c f) (Referred c f) (refPart c stored (record { src = src; div = div }))
+unfolding accessOf has rows
+ref-runs Rp2040 f stored div RefClkSrc.Rosc nonzero =
     record {
-      sources = record { ring = p .ring; xosc = p .xosc; sys = p .sys; usb = p .usb };
-      reference = p .ring;
-    },
-  );
-}
-ref-runs Rp2040 f stored div RefClkSrc.Xosc nonzero = record {
-  run = λ file p. (
-    ap (λ (b : Bool). b && true) (p .xosc nonzero),
+      walk = λ file p. (
+        ap (λ (b : Bool). b && true) (p .ring),
+        record { sources = moved Rp2040 f stored (record { src = RefClkSrc.Rosc; div = div }) file p; reference = p .ring },
+      );
+    }
+ref-runs Rp2040 f stored div RefClkSrc.Xosc nonzero =
     record {
-      sources = record { ring = p .ring; xosc = p .xosc; sys = p .sys; usb = p .usb };
-      reference = p .xosc nonzero;
-    },
-  );
-}
-ref-runs Rp2040 f stored div RefClkSrc.PllUsb nonzero = record {
-  run = λ file p. (
-    ap (λ (b : Bool). b && true) (p .usb nonzero),
+      walk = λ file p. (
+        ap (λ (b : Bool). b && true) (p .xosc nonzero),
+        record { sources = moved Rp2040 f stored (record { src = RefClkSrc.Xosc; div = div }) file p; reference = p .xosc nonzero },
+      );
+    }
+ref-runs Rp2040 f stored div RefClkSrc.PllUsb nonzero =
     record {
-      sources = record { ring = p .ring; xosc = p .xosc; sys = p .sys; usb = p .usb };
-      reference = p .usb nonzero;
-    },
-  );
-}
-ref-runs Rp235x f stored div RefClkSrc.Rosc nonzero = record {
-  run = λ file p. (
-    ap (λ (b : Bool). b && true) (p .ring),
+      walk = λ file p. (
+        ap (λ (b : Bool). b && true) (p .usb nonzero),
+        record { sources = moved Rp2040 f stored (record { src = RefClkSrc.PllUsb; div = div }) file p; reference = p .usb nonzero },
+      );
+    }
+ref-runs Rp235x f stored div RefClkSrc.Rosc nonzero =
     record {
-      sources = record { ring = p .ring; xosc = p .xosc; sys = p .sys; usb = p .usb };
-      reference = p .ring;
-    },
-  );
-}
-ref-runs Rp235x f stored div RefClkSrc.Xosc nonzero = record {
-  run = λ file p. (
-    ap (λ (b : Bool). b && true) (p .xosc nonzero),
+      walk = λ file p. (
+        ap (λ (b : Bool). b && true) (p .ring),
+        record { sources = moved Rp235x f stored (record { src = RefClkSrc.Rosc; div = div }) file p; reference = p .ring },
+      );
+    }
+ref-runs Rp235x f stored div RefClkSrc.Xosc nonzero =
     record {
-      sources = record { ring = p .ring; xosc = p .xosc; sys = p .sys; usb = p .usb };
-      reference = p .xosc nonzero;
-    },
-  );
-}
-ref-runs Rp235x f stored div RefClkSrc.PllUsb nonzero = record {
-  run = λ file p. (
-    ap (λ (b : Bool). b && true) (p .usb nonzero),
+      walk = λ file p. (
+        ap (λ (b : Bool). b && true) (p .xosc nonzero),
+        record { sources = moved Rp235x f stored (record { src = RefClkSrc.Xosc; div = div }) file p; reference = p .xosc nonzero },
+      );
+    }
+ref-runs Rp235x f stored div RefClkSrc.PllUsb nonzero =
     record {
-      sources = record { ring = p .ring; xosc = p .xosc; sys = p .sys; usb = p .usb };
-      reference = p .usb nonzero;
-    },
-  );
-}
+      walk = λ file p. (
+        ap (λ (b : Bool). b && true) (p .usb nonzero),
+        record { sources = moved Rp235x f stored (record { src = RefClkSrc.PllUsb; div = div }) file p; reference = p .usb nonzero },
+      );
+    }
 
 -- away from aux to the reference clock, then to aux
 both : (a b : Bool) → a ≡ true → b ≡ true → (a && (b && true)) ≡ true
 both a b h k = rw (h, k)
 
 sys-runs : (c : Chip) (f : Sources) (reference stored whole fraction : ℕ) (src : SysClkSrc) → NonZero (sysSource f reference src)
-    → Runs c (Referred c f) Any (systemSteps c (eqb (sysSelect src) 0) stored (sysAux src) (sysSelect src) whole fraction)
+    → Walk c (sourceRuns c) (Referred c f) Any (systemSteps c (eqb (sysSelect src) 0) stored (sysAux src) (sysSelect src) whole fraction)
 unfolding accessOf has rows
 sys-runs Rp2040 f reference stored whole fraction SysClkSrc.Ref nonzero =
-    record { run = λ file p. (ap (λ (b : Bool). b && true) (p .reference), tt) }
+    record { walk = λ file p. (ap (λ (b : Bool). b && true) (p .reference), tt) }
 sys-runs Rp2040 f reference stored whole fraction SysClkSrc.PllSys nonzero =
-    record { run = λ file p. (both (refRuns Rp2040 file) (pllRuns Rp2040 0 file) (p .reference) (p .sources .sys nonzero), tt) }
+    record { walk = λ file p. (both (refRuns Rp2040 file) (pllRuns Rp2040 0 file) (p .reference) (p .sources .sys nonzero), tt) }
 sys-runs Rp2040 f reference stored whole fraction SysClkSrc.PllUsb nonzero =
-    record { run = λ file p. (both (refRuns Rp2040 file) (pllRuns Rp2040 1 file) (p .reference) (p .sources .usb nonzero), tt) }
+    record { walk = λ file p. (both (refRuns Rp2040 file) (pllRuns Rp2040 1 file) (p .reference) (p .sources .usb nonzero), tt) }
 sys-runs Rp2040 f reference stored whole fraction SysClkSrc.Rosc nonzero =
-    record { run = λ file p. (both (refRuns Rp2040 file) (oscillates (file (ROSC-CTRL Rp2040))) (p .reference) (p .sources .ring), tt) }
+    record { walk = λ file p. (both (refRuns Rp2040 file) (oscillates (file (ROSC-CTRL Rp2040))) (p .reference) (p .sources .ring), tt) }
 sys-runs Rp2040 f reference stored whole fraction SysClkSrc.Xosc nonzero =
     record {
-      run = λ file p.
+      walk = λ file p.
           (both (refRuns Rp2040 file) (oscillates (file (XOSC-CTRL Rp2040))) (p .reference) (p .sources .xosc nonzero), tt);
     }
 sys-runs Rp235x f reference stored whole fraction SysClkSrc.Ref nonzero =
-    record { run = λ file p. (ap (λ (b : Bool). b && true) (p .reference), tt) }
+    record { walk = λ file p. (ap (λ (b : Bool). b && true) (p .reference), tt) }
 sys-runs Rp235x f reference stored whole fraction SysClkSrc.PllSys nonzero =
-    record { run = λ file p. (both (refRuns Rp235x file) (pllRuns Rp235x 0 file) (p .reference) (p .sources .sys nonzero), tt) }
+    record { walk = λ file p. (both (refRuns Rp235x file) (pllRuns Rp235x 0 file) (p .reference) (p .sources .sys nonzero), tt) }
 sys-runs Rp235x f reference stored whole fraction SysClkSrc.PllUsb nonzero =
-    record { run = λ file p. (both (refRuns Rp235x file) (pllRuns Rp235x 1 file) (p .reference) (p .sources .usb nonzero), tt) }
+    record { walk = λ file p. (both (refRuns Rp235x file) (pllRuns Rp235x 1 file) (p .reference) (p .sources .usb nonzero), tt) }
 sys-runs Rp235x f reference stored whole fraction SysClkSrc.Rosc nonzero =
-    record { run = λ file p. (both (refRuns Rp235x file) (oscillates (file (ROSC-CTRL Rp235x))) (p .reference) (p .sources .ring), tt) }
+    record { walk = λ file p. (both (refRuns Rp235x file) (oscillates (file (ROSC-CTRL Rp235x))) (p .reference) (p .sources .ring), tt) }
 sys-runs Rp235x f reference stored whole fraction SysClkSrc.Xosc nonzero =
     record {
-      run = λ file p.
+      walk = λ file p.
           (both (refRuns Rp235x file) (oscillates (file (XOSC-CTRL Rp235x))) (p .reference) (p .sources .xosc nonzero), tt);
     }
 
 system : (b : Board) (f : Sources) (reference stored : ℕ) (src : SysClkSrc) → NonZero (sysSource f reference src)
-    → Runs (b .chip) (Referred (b .chip) f) Any (sysPart b stored src)
+    → Walk (b .chip) (sourceRuns (b .chip)) (Referred (b .chip) f) Any (sysPart b stored src)
 unfolding sysPart switchSteps
 system b f reference stored src nonzero = sys-runs (b .chip) f reference stored (b .whole) (b .fraction) src nonzero
 
--- the rest waits for no source
-peri : (c : Chip) (stored : ℕ) (o : OptionPeri) → Runs c Any Any (periPart stored o)
-unfolding accessOf has rows periPart
-peri Rp2040 stored (OptionPeri.Some src) = record { run = λ file p. (refl, tt) }
-peri Rp2040 stored OptionPeri.None = record { run = λ file p. (refl, tt) }
-peri Rp235x stored (OptionPeri.Some src) = record { run = λ file p. (refl, tt) }
-peri Rp235x stored OptionPeri.None = record { run = λ file p. (refl, tt) }
-
-usb : (c : Chip) (stored : ℕ) (o : OptionAux) → Runs c Any Any (auxPart kind.usb-divider kind.usb-control 7 stored o)
-unfolding accessOf has rows auxPart
-usb Rp2040 stored (OptionAux.Some a) = record { run = λ file p. (refl, tt) }
-usb Rp2040 stored OptionAux.None = record { run = λ file p. (refl, tt) }
-usb Rp235x stored (OptionAux.Some a) = record { run = λ file p. (refl, tt) }
-usb Rp235x stored OptionAux.None = record { run = λ file p. (refl, tt) }
-
-adc : (c : Chip) (stored : ℕ) (o : OptionAux) → Runs c Any Any (auxPart kind.adc-divider kind.adc-control 8 stored o)
-unfolding accessOf has rows auxPart
-adc Rp2040 stored (OptionAux.Some a) = record { run = λ file p. (refl, tt) }
-adc Rp2040 stored OptionAux.None = record { run = λ file p. (refl, tt) }
-adc Rp235x stored (OptionAux.Some a) = record { run = λ file p. (refl, tt) }
-adc Rp235x stored OptionAux.None = record { run = λ file p. (refl, tt) }
-
-rtc : (c : Chip) (stored : ℕ) (o : OptionRtc) → Runs c Any Any (rtcPart c stored o)
-unfolding accessOf has rows rtcPart
-rtc Rp2040 stored (OptionRtc.Some r) = record { run = λ file p. (refl, tt) }
-rtc Rp2040 stored OptionRtc.None = record { run = λ file p. (refl, tt) }
-rtc Rp235x stored o = record { run = λ file p. (refl, tt) }
-
-last : (c : Chip) (mask : ℕ) → Runs c Any Any (lastPart mask)
+-- the last part waits for no source
+last : (c : Chip) (mask : ℕ) → Walk c (sourceRuns c) Any Any (lastPart mask)
 unfolding accessOf has rows
-last Rp2040 mask = record { run = λ file p. (refl, tt) }
-last Rp235x mask = record { run = λ file p. (refl, tt) }
+last Rp2040 mask = record { walk = λ file p. (refl, tt) }
+last Rp235x mask = record { walk = λ file p. (refl, tt) }
 
 -- ---- an accepted plan's reference and system clock have a source
 
@@ -409,9 +357,9 @@ sources-run p reading ok before on awake =
     then source c (f .sources)
     then ref-runs c (sourcesIn s) (f .reference) (s .reference .div) (s .reference .src) (ref-source (sourcesIn s) (s .reference) (a 8))
     then system (s .board) (sourcesIn s) (refIn s) (f .sys) (s .sys) (sys-source (s .board) (sourcesIn s) (refIn s) (s .sys) (a 10))
-    then peri c (f .peri) (s .peri)
-    then usb c (f .usb) (s .usb)
-    then adc c (f .adc) (s .adc)
-    then rtc c (f .rtc) (s .board .rtc)
-    then last c (releaseMask c (s .peri) (s .usb) (s .adc) (s .board .rtc))) .run before
+    then calmly (peri c (f .peri) (s .peri))
+    then calmly (usb c (f .usb) (s .usb))
+    then calmly (adc c (f .adc) (s .adc))
+    then calmly (rtc c (f .rtc) (s .board .rtc))
+    then last c (releaseMask c (s .peri) (s .usb) (s .adc) (s .board .rtc))) .walk before
     (record { ring = on; reference = awake }) .0

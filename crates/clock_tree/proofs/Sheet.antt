@@ -84,29 +84,29 @@ pub all-parts : (reading : ℕ) (s : Settings) → All (s .board .chip) (owns (s
 all-parts reading s =
     let c : Chip = s .board .chip in
     let f : Frequencies = frequenciesOf s in (
-      mark c,
+      mark c .on,
       (
         head c,
         (
-          ring c (factsOf c .pass) (s .rosc),
+          ring c (factsOf c .pass) (s .rosc) .on,
           (
-            voltage reading (s .board) (s .settling),
+            voltage reading (s .board) (s .settling) .on,
             (
               crystal c (s .xosc),
               (
-                source c (f .sources),
+                source c (f .sources) .on,
                 (
                   reference c (f .reference) (s .reference),
                   (
                     system (s .board) (f .sys) (s .sys),
                     (
-                      peri c (f .peri) (s .peri),
+                      peri c (f .peri) (s .peri) .on,
                       (
-                        usb c (f .usb) (s .usb),
+                        usb c (f .usb) (s .usb) .on,
                         (
-                          adc c (f .adc) (s .adc),
+                          adc c (f .adc) (s .adc) .on,
                           (
-                            rtc c (f .rtc) (s .board .rtc),
+                            rtc c (f .rtc) (s .board .rtc) .on,
                             (last c (releaseMask c (s .peri) (s .usb) (s .adc) (s .board .rtc)), tt),
                           ),
                         ),

@@ -1,5 +1,5 @@
 -- No wait is for something that cannot come: at each wait of a sheet what was set before it brings its condition about.
-use mathlib.Core.{Bool.Bool, Bool.true, Bool.false, Bool._&&_, Bool.not, Path._≡_, List.List, List.[], List._∷_}
+use mathlib.Core.{Bool.Bool, Bool.true, Bool.false, Bool._&&_, Path._≡_, List.List, List.[], List._∷_}
 use Prim.Native.Nat.{ℕ, _^_}
 use lib.{Dec.eqb, Bits.bitAnd, ListN.getD}
 use Rattle.base.specs.{Choice.pick, Choice.inRange, Answer.Answer, Answer.value, Answer.refusal}
@@ -27,28 +27,28 @@ locks c w crystal file =
 -- what a wait waits for, by the register that it reads; a wait for another register would be for nothing that is set
 abbrev pub canCome : Chip → ℕ → Access → (ℕ → ℕ) → Bool
 canCome c crystal a file =
-    pick (not (eqb (a .op) 3)) true
-    (pick (eqb (a .address) (RESET-DONE c)) (eqb (bitAnd (file (RESET c)) (a .mask)) 0)
+    pick (eqb (a .address) (RESET-DONE c)) (eqb (bitAnd (file (RESET c)) (a .mask)) 0)
     (pick (eqb (a .address) (CLK-SYS-SELECTED c)) (eqb (a .value) (2 ^ bitsAt 0 1 (file (CLK-SYS-CTRL c))))
     (pick (eqb (a .address) (CLK-REF-SELECTED c)) (eqb (a .value) (2 ^ bitsAt 0 2 (file (CLK-REF-CTRL c))))
     (pick (eqb (a .address) (XOSC-STATUS c)) (oscillates (file (XOSC-CTRL c)))
     (pick (eqb (a .address) (PLL-CS c 0)) (locks c 0 crystal file)
-    (pick (eqb (a .address) (PLL-CS c 1)) (locks c 1 crystal file) false))))))
+    (pick (eqb (a .address) (PLL-CS c 1)) (locks c 1 crystal file) false)))))
 
-abbrev pub comes : Chip → ℕ → Answer Access → (ℕ → ℕ) → Bool
-comes c crystal (value a) file = canCome c crystal a file
-comes c crystal (refusal n) file = false
+-- the test holds at each wait, of its access and the registers at that moment
+abbrev pub atWait : (Access → (ℕ → ℕ) → Bool) → Answer Access → (ℕ → ℕ) → Bool
+atWait test (value a) file = pick (eqb (a .op) 3) (test a file) true
+atWait test (refusal n) file = false
 
--- at every step, as the steps go on
-abbrev pub allCome : Chip → ℕ → List Step → (ℕ → ℕ) → Bool
-allCome c crystal [] file = true
-allCome c crystal (s ∷ ss) file =
-    comes c crystal (accessOf c s) file && allCome c crystal ss (done c (accessOf c s) file)
+abbrev pub allWaits : Chip → (Access → (ℕ → ℕ) → Bool) → List Step → (ℕ → ℕ) → Bool
+allWaits c test [] file = true
+allWaits c test (s ∷ ss) file = atWait test (accessOf c s) file && allWaits c test ss (done c (accessOf c s) file)
 
 abbrev pub NoEndlessWait : Type 0
 NoEndlessWait =
     (p : ClockConfig) (reading : ℕ) → Accepted p reading → (before : ℕ → ℕ)
-    → let s = settingsOf p reading in allCome (s .board .chip) (sourcesIn s .xosc) (stepsOf reading s) before ≡ true
+    → let s = settingsOf p reading in
+    let c = s .board .chip in
+    allWaits c (canCome c (sourcesIn s .xosc)) (stepsOf reading s) before ≡ true
 
 -- ---- and the source that a clock is switched to runs, without which its SELECTED never changes
 
@@ -71,16 +71,10 @@ sysRuns c file =
     let aux = getD (pllRuns c 0 file ∷ pllRuns c 1 file ∷ ring ∷ oscillates (file (XOSC-CTRL c)) ∷ []) (bitsAt 5 3 ctrl) false in
     getD (refRuns c file ∷ aux ∷ []) (bitsAt 0 1 ctrl) false
 
-abbrev pub sourceRuns : Chip → Answer Access → (ℕ → ℕ) → Bool
-sourceRuns c (value a) file =
-    pick (not (eqb (a .op) 3)) true
-    (pick (eqb (a .address) (CLK-SYS-SELECTED c)) (sysRuns c file)
-    (pick (eqb (a .address) (CLK-REF-SELECTED c)) (refRuns c file) true))
-sourceRuns c (refusal n) file = false
-
-abbrev pub allRun : Chip → List Step → (ℕ → ℕ) → Bool
-allRun c [] file = true
-allRun c (s ∷ ss) file = sourceRuns c (accessOf c s) file && allRun c ss (done c (accessOf c s) file)
+abbrev pub sourceRuns : Chip → Access → (ℕ → ℕ) → Bool
+sourceRuns c a file =
+    pick (eqb (a .address) (CLK-SYS-SELECTED c)) (sysRuns c file)
+    (pick (eqb (a .address) (CLK-REF-SELECTED c)) (refRuns c file) true)
 
 -- where the ring and the reference clock run before, as after a reset of the chip
 abbrev pub SourcesRun : Type 0
@@ -88,4 +82,5 @@ SourcesRun =
     (p : ClockConfig) (reading : ℕ) → Accepted p reading → (before : ℕ → ℕ)
     → let s = settingsOf p reading in
     let c = s .board .chip in
-    oscillates (before (ROSC-CTRL c)) ≡ true → refRuns c before ≡ true → allRun c (stepsOf reading s) before ≡ true
+    oscillates (before (ROSC-CTRL c)) ≡ true → refRuns c before ≡ true
+    → allWaits c (sourceRuns c) (stepsOf reading s) before ≡ true
