@@ -7,7 +7,7 @@ use Rattle.step.specs.declared.Step.{Step}
 use Rattle.registers.specs.Access.{accessOf}
 use Rattle.sheet_steps.specs.Steps.{clocksPart, stepsOf}
 use Rattle.clock_tree.specs.Carried.{isValue, carries, Carried}
-use Rattle.clock_tree.proofs.Parts.{On, owns}
+use Rattle.clock_tree.proofs.Parts.{owns}
 use Rattle.clock_tree.proofs.Sheet.{joined, All, partsOf, all-parts}
 
 append : (c : Chip) (xs ys : List Step) → carries c xs ≡ true → carries c ys ≡ true → carries c (xs ++ ys) ≡ true

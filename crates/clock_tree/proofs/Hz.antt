@@ -1,7 +1,7 @@
 -- What the registers' values give: each source and each divider that the parts set is read back.
-use mathlib.Core.{Bool.Bool, Bool.true, Bool.false, Bool.not, Bool._&&_, Path._≡_, Path.refl, Path.ap, Path.ap₂, Path._∙_}
-use mathlib.Core.List.{List, [], _∷_}
-use Prim.Native.Nat.{ℕ, zero, suc, _+_, _*_, _/_, _%_, _^_, _≤_, _<_}
+use mathlib.Core.{Bool.true, Bool.false, Path._≡_, Path.refl, Path.ap, Path.ap₂, Path._∙_}
+use mathlib.Core.List.{[], _∷_}
+use Prim.Native.Nat.{ℕ, zero, suc, _+_, _/_, _%_, _≤_, _<_}
 use native.Mathlib.Omega.{arith}
 use lib.{Dec.eqb, ListN.getD}
 use borrow.Author.Tests.{ne-eqb, not-false}
@@ -10,7 +10,7 @@ use Rattle.chip.specs.declared.{Chip.Chip, Chip.the-variants.Rp2040, Chip.the-v
 use Rattle.chip.specs.Chips.{factsOf}
 use Rattle.divider.specs.{Clock.dividedHz, Gpout.gpoutWhole}
 use Rattle.pll.specs.declared.PllConfig.{PllConfig}
-use Rattle.pll.specs.Setting.{outputHz, validOf}
+use Rattle.pll.specs.Setting.{validOf}
 use Rattle.pll.proofs.Valid.{Valid, valid}
 use Rattle.config.specs.declared.{OptionRosc.OptionRosc, OptionPll.OptionPll, RefClkSrc.RefClkSrc, RefClkConfig.RefClkConfig}
 use Rattle.config.specs.declared.{SysClkSrc.SysClkSrc, PeriClkSrc.PeriClkSrc, AuxClkSrc.AuxClkSrc, AuxClkConfig.AuxClkConfig}
@@ -22,9 +22,9 @@ use Rattle.grounds.specs.Grounds.{pllInvalid, sysPllInvalid, usbPllInvalid}
 use Rattle.registers.specs.Map.{RESET, XOSC-CTRL, ROSC-CTRL, PLL-CS, PLL-PWR, PLL-FBDIV-INT, PLL-PRIM}
 use Rattle.registers.specs.Map.{REF-SRC, SYS-SRC, AUXSRC, ENABLE, INT, REFDIV, FBDIV, POSTDIV1, POSTDIV2}
 use Rattle.clock_tree.specs.Machine.{bitsAt, held}
-use Rattle.clock_tree.specs.Tree.{oscillates, pllAt, vcoOn, pllOn, pllFrom, sourcesAt, intFrom, dividedFrom, refFrom}
-use Rattle.clock_tree.specs.Tree.{sysFrom, enabled, periFrom, auxFrom}
-use Rattle.clock_tree.proofs.Set.{zero-hz, PllSet, Plls, CrystalSet, packed, control}
+use Rattle.clock_tree.specs.Tree.{oscillates, pllOn, pllFrom, sourcesAt, intFrom, dividedFrom, refFrom}
+use Rattle.clock_tree.specs.Tree.{sysFrom, periFrom, auxFrom}
+use Rattle.clock_tree.proofs.Set.{zero-hz, PllSet, CrystalSet, packed, control}
 
 -- ---- dividers
 

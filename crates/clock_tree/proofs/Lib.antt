@@ -8,4 +8,5 @@ pub mod Times
 pub mod Walk
 pub mod Waits
 pub mod Running
+pub mod Switched
 pub mod Presets

@@ -1,5 +1,5 @@
 -- What each part sets: by its steps, for either chip, from any file.
-use mathlib.Core.{Bool.Bool, Bool.true, Bool.false, Path._≡_, Path.refl, Path.ap, Path._∙_, List.List, List.[], List._∷_}
+use mathlib.Core.{Bool.Bool, Bool.true, Bool.false, Path._≡_, Path.refl, Path.ap, Path._∙_}
 use Prim.Native.Nat.{ℕ, _+_, _-_, _%_}
 use native.Mathlib.Omega.{arith}
 use lib.{Dec.eqb, Bits.bitAnd}

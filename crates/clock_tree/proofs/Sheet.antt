@@ -1,5 +1,5 @@
 -- A sheet is its parts one after another, and the last part that has a register says what it holds.
-use mathlib.Core.{Bool.Bool, Bool.true, Bool.false, Path._≡_, Path.refl, Path.sym, Path.ap, Path._∙_}
+use mathlib.Core.{Bool.false, Path._≡_, Path.refl, Path.sym, Path.ap, Path._∙_}
 use mathlib.Core.List.{List, [], _∷_, _++_}
 use Prim.Native.Nat.{ℕ, zero, suc}
 use lib.ListN.{getD, take, drop}

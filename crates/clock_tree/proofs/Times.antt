@@ -1,22 +1,22 @@
 -- The times are true: for each register of the clock tree the last part that has it, then what its value gives.
-use mathlib.Core.{Bool.Bool, Bool.true, Bool.false, Bool._||_, Path._≡_, Path.refl, Path.sym, Path.ap, Path.ap₂, Path._∙_}
+use mathlib.Core.{Bool.Bool, Bool.false, Bool._||_, Path._≡_, Path.refl, Path.ap, Path._∙_}
 use mathlib.Core.List.{List, [], _∷_}
-use Prim.Native.Nat.{ℕ, suc, _≤_, _<_}
+use Prim.Native.Nat.{ℕ, suc, _≤_}
 use lib.{Dec.eqb, Dec.ltb, ListN.take, ListN.drop}
 use Rattle.base.specs.Choice.{pick}
 use Rattle.base.proofs.Bools.{both-false}
 use Rattle.chip.specs.declared.{Chip.Chip, Chip.the-variants.Rp2040, Chip.the-variants.Rp235x}
 use Rattle.chip.specs.Chips.{factsOf}
 use Rattle.step.specs.Kinds as kind
-use Rattle.config.specs.declared.{ClockConfig.ClockConfig, ChipConfig.ChipConfig, OptionPll.OptionPll, OptionPeri.OptionPeri}
+use Rattle.config.specs.declared.{ChipConfig.ChipConfig, OptionPll.OptionPll, OptionPeri.OptionPeri}
 use Rattle.config.specs.Board.{boardOf}
 use Rattle.config.specs.declared.{OptionAux.OptionAux, RtcClkConfig.RtcClkConfig, OptionRtc.OptionRtc}
 use Rattle.settings.specs.declared.{Settings.Settings, Sources.Sources, Frequencies.Frequencies, OptionCrystal.OptionCrystal}
 use Rattle.settings.specs.{Settings.settingsOf, Settings.ringHz, Typed.Typed, Typed.RtcTyped}
-use Rattle.settings.specs.Frequencies.{sourcesOf, sysHz, periHz, auxHz, rtcHz, sourcesIn, refIn, sysIn, frequenciesOf}
-use Rattle.settings.proofs.Decoded.{Small, AuxSmall}
+use Rattle.settings.specs.Frequencies.{sysHz, periHz, auxHz, rtcHz, sourcesIn, refIn, sysIn, frequenciesOf}
+use Rattle.settings.proofs.Decoded.{AuxSmall}
 use Rattle.grounds.specs.Grounds.{wholeBad, rtcBad}
-use Rattle.refusals.specs.Refusals.{refusalOf, Accepted}
+use Rattle.refusals.specs.Refusals.{refusalOf}
 use Rattle.refusals.proofs.Accepted.{accepted-by, divider-good, whole-good}
 use Rattle.sheet.proofs.Facts.{none-more, aux-fits, aux-divider}
 use Rattle.registers.specs.Map.{RESET, CLK-REF-CTRL, CLK-REF-DIV, CLK-SYS-CTRL, CLK-SYS-DIV, CLK-PERI-CTRL, CLK-USB-CTRL, CLK-USB-DIV}
@@ -24,13 +24,13 @@ use Rattle.registers.specs.Map.{CLK-ADC-CTRL, CLK-ADC-DIV, CLK-RTC-CTRL, CLK-RT
 use Rattle.registers.specs.Map.{PLL-FBDIV-INT, PLL-PRIM}
 use Rattle.sheet_steps.specs.Steps.{crystalPart, periPart, auxPart, rtcPart, releaseMask, clocksPart, stepsOf}
 use Rattle.clock_tree.specs.Machine.{held, carriedOut}
-use Rattle.clock_tree.specs.Tree.{oscillates, sourcesAt, refAt, sysAt, periAt, usbAt, adcAt, rtcAt, sysFrom, periFrom}
+use Rattle.clock_tree.specs.Tree.{oscillates, sourcesAt, refAt, sysAt, usbAt, adcAt, rtcAt, sysFrom, periFrom}
 use Rattle.clock_tree.specs.Tree.{CLK-PERI-DIV, intFrom, periDivider}
 use Rattle.clock_tree.specs.Times.{hasPeri, hasAux, hasRtc, Runs, AllTrue, TimesAreTrue}
 use Rattle.clock_tree.proofs.Addresses.{member}
 use Rattle.clock_tree.proofs.Parts.{owns}
 use Rattle.clock_tree.proofs.Sheet.{joined, upTo, holds, stays}
-use Rattle.clock_tree.proofs.Set.{head-sets, ring-sets, PllSet, Plls, CrystalSet, crystal-sets, pll-moves, ref-sets}
+use Rattle.clock_tree.proofs.Set.{head-sets, ring-sets, PllSet, CrystalSet, crystal-sets, pll-moves, ref-sets}
 use Rattle.clock_tree.proofs.Set.{sys-sets, peri-sets}
 use Rattle.clock_tree.proofs.Set.{usb-sets, adc-sets, rtc-sets, peri-absent, aux-absent, rtc-absent, last-sets}
 use Rattle.clock_tree.proofs.Hz.{sources-true, ref-true, sys-true, peri-true, aux-true, rtc-true}

@@ -1,13 +1,13 @@
 -- No wait is for something that cannot come: part by part. From the head on nothing is in reset, which the PLLs and the last
 -- release need; all else a wait asks for is set in its own part.
-use mathlib.Core.{Bool.Bool, Bool.true, Bool.false, Bool._&&_, Bool.not, Path._≡_, Path.refl, Path.sym, Path.ap, Path._∙_}
+use mathlib.Core.{Bool.Bool, Bool.true, Bool.false, Bool._&&_, Bool.not, Path._≡_, Path.refl, Path.ap, Path._∙_}
 use mathlib.Core.List.{List, [], _∷_, _++_}
-use Prim.Native.Nat.{ℕ, _+_, _-_, _/_, _%_, _^_}
+use Prim.Native.Nat.{ℕ, _+_, _-_, _%_, _^_}
 use native.Mathlib.Omega.{arith}
 use lib.{Dec.eqb, Bits.bitAnd, Bits.and-mask}
-use borrow.Author.Tests.{eq-eqb, le-leb, not-false}
-use Rattle.base.specs.Choice.{pick, bit, inRange}
-use Rattle.base.proofs.Bools.{both-true, range-true}
+use borrow.Author.Tests.{eq-eqb, not-false}
+use Rattle.base.specs.Choice.{bit}
+use Rattle.base.proofs.Bools.{range-true}
 use Rattle.chip.specs.declared.{Chip.Chip, Chip.the-variants.Rp2040, Chip.the-variants.Rp235x}
 use Rattle.chip.specs.Chips.{factsOf}
 use Rattle.step.specs.declared.Step.{Step}
@@ -18,9 +18,8 @@ use Rattle.pll.specs.{Ranges.referenceMin, Ranges.referenceMax, Ranges.vcoMin, 
 use Rattle.pll.specs.Setting.{referenceOf, vcoOf, validOf}
 use Rattle.pll.proofs.Valid.{Valid, valid}
 use Rattle.config.specs.declared.{OptionRosc.OptionRosc, OptionPll.OptionPll, RefClkConfig.RefClkConfig}
-use Rattle.config.specs.declared.{SysClkSrc.SysClkSrc, Board.Board, OptionPeri.OptionPeri, OptionAux.OptionAux}
-use Rattle.config.specs.declared.OptionRtc.{OptionRtc}
-use Rattle.settings.specs.declared.{OptionCrystal.OptionCrystal, OptionCycles.OptionCycles, Sources.Sources, Frequencies.Frequencies}
+use Rattle.config.specs.declared.{SysClkSrc.SysClkSrc, Board.Board}
+use Rattle.settings.specs.declared.{OptionCrystal.OptionCrystal, Frequencies.Frequencies}
 use Rattle.settings.specs.{Settings.settingsOf, Codes.refCode, Codes.sysSelect, Codes.sysAux}
 use Rattle.settings.specs.Frequencies.{sourcesOf, sourcesIn, frequenciesOf}
 use Rattle.grounds.specs.Grounds.{pllInvalid, sysPllInvalid, usbPllInvalid}
@@ -29,10 +28,10 @@ use Rattle.registers.specs.Access.{has, rows, accessOf}
 use Rattle.registers.specs.Map.{RESET, XOSC-CTRL, CLK-REF-CTRL, CLK-SYS-CTRL, PLL-CS, PLL-FBDIV-INT, BLOCKS, REF-SRC}
 use Rattle.registers.specs.Map.{SYS-SRC, AUXSRC, REFDIV, FBDIV, CLK-PERI-CTRL, CLK-USB-CTRL, CLK-USB-DIV}
 use Rattle.registers.specs.Map.{CLK-ADC-CTRL, CLK-ADC-DIV, CLK-RTC-CTRL, CLK-RTC-DIV}
-use Rattle.sheet_steps.specs.Steps.{markSteps, headPart, ringPart, voltagePart, pllSteps, crystalPart, sourcePart, refPart, switchSteps}
-use Rattle.sheet_steps.specs.Steps.{sysPart, periPart, auxPart, rtcPart, releaseMask, lastPart, clocksPart, stepsOf, step0, step1, step2}
-use Rattle.clock_tree.specs.Machine.{bitsAt, held, done, carriedOut}
-use Rattle.clock_tree.specs.Tree.{oscillates, pllAt, vcoOn}
+use Rattle.sheet_steps.specs.Steps.{headPart, pllSteps, crystalPart, refPart, switchSteps}
+use Rattle.sheet_steps.specs.Steps.{sysPart, releaseMask, lastPart, clocksPart, stepsOf, step0, step1, step2}
+use Rattle.clock_tree.specs.Machine.{bitsAt, held, carriedOut}
+use Rattle.clock_tree.specs.Tree.{oscillates, vcoOn}
 use Rattle.clock_tree.specs.Waits.{locks, canCome, NoEndlessWait}
 use Rattle.clock_tree.proofs.Addresses.{member}
 use Rattle.clock_tree.proofs.Parts.{Calm, ringOwn, voltageOwn, crystalSteps, systemSteps, mark, ring, voltage, source, peri, usb, adc, rtc}

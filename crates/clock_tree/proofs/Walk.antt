@@ -1,5 +1,5 @@
 -- A walk over steps: from a file of which P holds the test holds at each wait, and Q holds of the file after them.
-use mathlib.Core.{Bool.Bool, Bool.true, Bool.false, Path._≡_, Path.sym, Path.subst, Path._∙_, List.List, List.[], List._∷_, List._++_}
+use mathlib.Core.{Bool.Bool, Bool.true, Bool.false, Path._≡_, Path.sym, Path.subst, List.List, List.[], List._∷_, List._++_}
 use Prim.Native.Nat.{ℕ}
 use Rattle.base.proofs.Bools.{both-true}
 use Rattle.chip.specs.declared.Chip.{Chip}
