@@ -1,2 +1,4 @@
 pub mod Fits
 pub mod Flags
+pub mod PartRows
+pub mod Inverse
