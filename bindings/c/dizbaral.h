@@ -7,7 +7,8 @@
  *   DIZBARAL_MALFORMED       the numbers given are of no plan, no runner, no board or no slots
  *   from DIZBARAL_STEP on    (dizbaral_run and dizbaral_bench_run only) the word of a step
  * After a refusal or DIZBARAL_MALFORMED all that was lent is as it was before, but for the lock timeout of
- * these two.
+ * these two. Every function looks first whether there is such a board or slot (28, 29), then whether the numbers are
+ * malformed, then for the other refusals.
  *
  * A pointer with a length behind it is a buffer of that many elements; no function keeps it. Lengths are 64 bits wide on
  * every machine, as in the proofs. No pointer may be NULL, also where the length is 0. Two buffers of one call may not

@@ -1,7 +1,7 @@
 -- Sleep and wake over four slots, eleven words and the steps, all given as numbers (sleep_numbers/specs/Numbers).
-use mathlib.Core.{Path._≡_, Bool.Bool, Bool._&&_, List.List, Option.Option, Option.none, Option.some}
+use mathlib.Core.{Path._≡_, Bool.Bool, Bool._&&_, Bool._||_, List.List, Option.Option, Option.none, Option.some}
 use Prim.Native.Nat.{ℕ}
-use lib.{Dec.leb, ListN.getD, Seq.sets}
+use lib.{Dec.leb, Dec.ltb, ListN.getD, Seq.sets}
 use Rattle.base.specs.{Answer.Answer, Answer.value, Answer.refusal, Choice.pick, Placed.past}
 use Rattle.sleep.specs.declared.{Slot.Slot, steps.Step.Step}
 use Rattle.sleep.specs.Sleep.{SleepOutcome}
@@ -12,9 +12,10 @@ use Rattle.as_numbers.specs.Numbers.{answerNumber, malformed}
 abbrev pub areSlots : List ℕ → Bool
 areSlots ns = ((leb (getD ns 0 0) 1 && leb (getD ns 12 0) 1) && leb (getD ns 24 0) 1) && leb (getD ns 36 0) 1
 
--- a call with numbers; none where the slots are none
+-- a call with numbers; none where the slots are none, but 29 before they are looked at
 abbrev pub askedWith : (List Slot → ℕ → List ℕ → SleepOutcome) → List ℕ → ℕ → List ℕ → Option SleepOutcome
-askedWith call slots slot words = pick (areSlots slots) (some (call (slotsIn slots 0) slot (wordsAt words 0))) none
+askedWith call slots slot words =
+    pick (ltb 3 slot || areSlots slots) (some (call (slotsIn slots 0) slot (wordsAt words 0))) none
 
 -- how many numbers of steps were written, two a step
 abbrev pub stepsNumber : Option SleepOutcome → List ℕ → ℕ

@@ -43,7 +43,7 @@ fn asked(wakes: bool, slots: [Slot; 4], slot: u8, words: [u32; 11]) -> Change
     sleep::sleep(slots, slot, words)
 }
 
-// A sleep or a wake on numbers.
+// A sleep or a wake on numbers: 29 before the slots are looked at.
 pub fn change(
     wakes: bool,
     slots: &mut [u32; 48],
@@ -53,7 +53,7 @@ pub fn change(
 ) -> u64
     ensures { λ r. ⌜ SlotsCall (askedWith (pick wakes wakeOf sleepOf) (now (slots .entry)) slot (now (words .entry))) (now (slots .entry)) (now (words .entry)) (now (steps .entry)) r (now (slots .exit)) (now (words .exit)) (now (steps .exit)) ⌝ }
 {
-    if are_slots(slots) {
+    if (3 < slot) | are_slots(slots) {
         let held = sleep_numbers::slots_at(slots, 0);
         let handed = sleep_numbers::words_at(words, 0);
         return leave(asked(wakes, held, slot, handed), slots, words, steps);
