@@ -3,4 +3,6 @@ pub mod UsbFirst
 pub mod Ranges
 pub mod Calls
 pub mod Benches
-pub mod Refused
+pub mod BenchCalls
+pub mod Sleeps
+pub mod Untouched

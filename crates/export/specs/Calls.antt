@@ -1,19 +1,29 @@
--- Exported calls of a runner one after another: what the caller holds after each, and what it is told.
-use mathlib.Core.{Bool.Bool, Bool.true, Logic._⊎_, Path._≡_, List.List, List.[], List._∷_}
-use Prim.Native.Nat.{ℕ, zero, suc, _+_, _*_, _^_, _≤_, _<_}
-use lib.ListN.{length, getD, set, drop}
-use Rattle.base.specs.Answer.{refusal}
+-- Exported calls one after another: what the caller holds after each, and what it is told. The theorems are in
+-- proofs/Calls (a runner), proofs/Benches (a bench) and proofs/Sleeps (slots): what the caller holds after any calls are
+-- the numbers of the runner, bench or slots after the same calls.
+use mathlib.Core.{Bool.Bool, Bool.false, Path._≡_, List.List, List.[], List._∷_, Option.some}
+use Prim.Native.Nat.{ℕ, zero, suc, _+_, _*_, _≤_, _<_}
+use lib.{Dec.eqb, ListN.length, ListN.getD, ListN.drop, ListN.replicate, Seq.sets}
+use Rattle.base.specs.Choice.{pick, bit}
 use Rattle.config.specs.declared.ClockConfig.{ClockConfig}
 use Rattle.settings.specs.{Settings.settingsOf, Frequencies.tenOf}
 use Rattle.sheet.specs.Writer.{sheetBytes}
+use Rattle.kept.specs.Kept.{badSize}
 use Rattle.runner.specs.declared.Runner.{Runner}
-use Rattle.runner.specs.Run.{oneMore, startOf}
+use Rattle.runner.specs.Run.{startOf}
+use Rattle.runner.specs.Calls.{Call, call, flagsOf}
 use Rattle.boards.specs.Bench.{startAllOf}
-use Rattle.boards.specs.History.{Own, start, poll, BenchEvent}
+use Rattle.boards.specs.History.{Own, start, poll, BenchEvent, ownOf}
+use Rattle.sleep.specs.declared.{Slot.Slot, steps.Step.Step}
+use Rattle.sleep.specs.Sleep.{SleepOutcome, wakeSteps, sleepOf, wakeOf}
+use Rattle.sleep.specs.History.{SleepEvent, sleeps, wakes, writes, lastSleep}
+use Rattle.sleep_numbers.specs.Numbers.{slotsNumbers, stepsNumbers}
 use Rattle.up.specs.{Wait.HearsAtMost, ComesUp.mostCalls}
-use Rattle.as_numbers.specs.Numbers.{refusals}
-use Rattle.as_numbers.specs.Bench.{benchIn, benchLeaves, startAllLeaves}
-use Rattle.as_numbers.specs.Run.{runnerIn, isRunner, runNumber, runLeaves, startLeaves}
+use Rattle.as_numbers.specs.Bench.{runnerAt, benchIn, benchNumber, benchLeaves, startAllLeaves}
+use Rattle.as_numbers.specs.Run.{runnerIn, runNumber, runLeaves, startLeaves}
+use Rattle.as_numbers.specs.Slots.{askedWith, leftAsked, SlotsCall}
+
+-- ---- a runner
 
 -- a runner as its caller holds it: 15 numbers, and the kept bytes
 pub record Held : Type 0 where
@@ -23,10 +33,14 @@ pub record Held : Type 0 where
 abbrev pub runnerOf : Held → Runner
 runnerOf h = runnerIn (h .numbers) (h .bytes)
 
--- the numbers are 15, and their mark is one
-pub record IsHeld (h : Held) : Type 0 where
-  pub fifteen : length (h .numbers) ≡ 15
-  pub marked : isRunner (h .numbers) ≡ true
+-- the other way: a runner's numbers
+abbrev pub heldOf : Runner → Held
+heldOf r =
+    let s = r .stepper .state in
+    record {
+      numbers = s .position ∷ s .«lock_polls» ∷ s .total ∷ bit (s .stopped) ∷ r .len ∷ r .stepper .freqs;
+      bytes = r .kept;
+    }
 
 -- what `dizbaral_start` and `dizbaral_run` leave
 abbrev pub callLeaves : Held → Own → Held
@@ -40,17 +54,28 @@ abbrev pub heldAfter : Held → List Own → Held
 heldAfter h [] = h
 heldAfter h (e ∷ es) = heldAfter (callLeaves h e) es
 
--- the lock timeout sets the mark and adds 1 to the total, which sticks at its top
-abbrev pub timedOutNumbers : List ℕ → List ℕ
-timedOutNumbers ns = set (set ns 2 (oneMore (getD ns 2 0))) 3 1
+-- what the calls of `dizbaral_run` answer
+abbrev pub runNumbers : Held → List Own → List ℕ
+runNumbers h [] = []
+runNumbers h (start sheet ∷ es) = runNumbers (callLeaves h (start sheet)) es
+runNumbers h (poll sheet ready ∷ es) =
+    runNumber (h .numbers) (h .bytes) sheet ready ∷ runNumbers (callLeaves h (poll sheet ready)) es
 
--- a call of `dizbaral_run` that is refused, or malformed, leaves every number as it was, save the lock timeout
-abbrev pub RunKeeps : Held → List ℕ → Bool → Type 0
-RunKeeps h sheet ready =
-    refusals ≤ runNumber (h .numbers) (h .bytes) sheet ready → runNumber (h .numbers) (h .bytes) sheet ready < 2 ^ 58
-    → (runLeaves (h .numbers) (h .bytes) sheet ready ≡ h .numbers)
-    ⊎ ((runNumber (h .numbers) (h .bytes) sheet ready ≡ refusals + 22)
-    × (runLeaves (h .numbers) (h .bytes) sheet ready ≡ timedOutNumbers (h .numbers)))
+-- calls with any sheets, and calls with one sheet
+abbrev pub polls : List Call → List Own
+polls [] = []
+polls (call sheet ready ∷ calls) = poll sheet ready ∷ polls calls
+
+abbrev pub pollsWith : List ℕ → List Bool → List Own
+pollsWith sheet [] = []
+pollsWith sheet (ready ∷ flags) = poll sheet ready ∷ pollsWith sheet flags
+
+-- whatever was there before a start that is taken, and whatever sheets are handed in after it: what is held is as after
+-- the calls with the sheet of the start alone
+abbrev pub ExportedOneSheet : Type 0
+ExportedOneSheet =
+    (h : Held) (sheet : List ℕ) → badSize (length sheet) ≡ false → (calls : List Call)
+    → heldAfter h (start sheet ∷ polls calls) ≡ heldAfter h (start sheet ∷ pollsWith sheet (flagsOf sheet calls))
 
 -- a start, and then a call for each ready flag
 unfoldable pub heldFrom : Held → List ℕ → (ℕ → Bool) → ℕ → Held
@@ -77,7 +102,9 @@ ExportedComesUp p reading =
     (h : Held) (k : ℕ) → k < 1000000 → (ready : ℕ → Bool) → HearsAtMost k (sheetBytes p reading) ready
     → ExportedUp p reading h k ready
 
--- a bench as its caller holds it: 113 numbers, of which the eight marks are 1 or 0, and the kept bytes
+-- ---- a bench: 113 numbers, and the kept bytes
+
+-- the eight marks are 1 or 0
 pub record IsBench (ns : List ℕ) : Type 0 where
   pub all : length ns ≡ 113
   pub marked : (n : ℕ) → n ≤ 7 → getD ns (14 * n + 3) 0 ≤ 1
@@ -93,3 +120,61 @@ benchCallLeaves h (BenchEvent.poll n sheet ready) =
 abbrev pub benchHeldAfter : Held → List BenchEvent → Held
 benchHeldAfter h [] = h
 benchHeldAfter h (e ∷ es) = benchHeldAfter (benchCallLeaves h e) es
+
+-- what the calls for board n answer
+abbrev pub benchNumbers : ℕ → Held → List BenchEvent → List ℕ
+benchNumbers n h [] = []
+benchNumbers n h (BenchEvent.start sheet ∷ es) = benchNumbers n (benchCallLeaves h (BenchEvent.start sheet)) es
+benchNumbers n h (BenchEvent.poll m sheet ready ∷ es) =
+    let rest = benchNumbers n (benchCallLeaves h (BenchEvent.poll m sheet ready)) es in
+    pick (eqb m n) (benchNumber (h .numbers) (h .bytes) m sheet ready ∷ rest) rest
+
+-- `AsSingle` of exported calls, of a bench h and a runner g that were started with the same sheet, whatever both were:
+-- board n answered as the runner does over what concerns the board, and the board's numbers are the runner's fifteen
+pub record ExportedSingle (n : ℕ) (h g : Held) (sheet : List ℕ) (es : List BenchEvent) : Type 0 where
+  pub answered : benchNumbers n h (BenchEvent.start sheet ∷ es) ≡ runNumbers g (start sheet ∷ ownOf n es)
+  pub numbers :
+      runnerAt (benchHeldAfter h (BenchEvent.start sheet ∷ es) .numbers) n ≡ heldAfter g (start sheet ∷ ownOf n es) .numbers
+  pub bytes : benchHeldAfter h (BenchEvent.start sheet ∷ es) .bytes ≡ heldAfter g (start sheet ∷ ownOf n es) .bytes
+
+-- `SameBoard` of exported calls: two benches h and d that were started with the same sheet
+pub record ExportedSame (n : ℕ) (h d : Held) (sheet : List ℕ) (es fs : List BenchEvent) : Type 0 where
+  pub answered : benchNumbers n h (BenchEvent.start sheet ∷ es) ≡ benchNumbers n d (BenchEvent.start sheet ∷ fs)
+  pub numbers :
+      runnerAt (benchHeldAfter h (BenchEvent.start sheet ∷ es) .numbers) n
+      ≡ runnerAt (benchHeldAfter d (BenchEvent.start sheet ∷ fs) .numbers) n
+
+-- ---- the four slots: 48 numbers
+
+-- what `dizbaral_sleep` and `dizbaral_wake` leave of them
+abbrev pub slotsLeft : (List Slot → ℕ → List ℕ → SleepOutcome) → List ℕ → ℕ → List ℕ → List ℕ
+slotsLeft change slots slot words =
+    leftAsked (askedWith change slots slot words) (λ (o : SleepOutcome) (s : List Step). slotsNumbers (o .slots)) slots
+
+-- after a history from zeros, the latest event first
+unfoldable pub slotsAfter : List SleepEvent → List ℕ
+slotsAfter [] = replicate 48 0
+slotsAfter (sleeps slot ws ∷ h) = slotsLeft sleepOf (slotsAfter h) slot ws
+slotsAfter (wakes slot ws ∷ h) = slotsLeft wakeOf (slotsAfter h) slot ws
+slotsAfter (writes i v ∷ h) = slotsAfter h
+
+-- the words that are handed in are eleven
+abbrev pub Elevens : List SleepEvent → Type 0
+Elevens [] = Unit {0}
+Elevens (sleeps slot ws ∷ h) = (length ws ≡ 11) × Elevens h
+Elevens (wakes slot ws ∷ h) = (length ws ≡ 11) × Elevens h
+Elevens (writes i v ∷ h) = Elevens h
+
+-- `Restores` of exported calls: after any history a wake in a slot whose last sleep was handed the words ws answers them,
+-- and its steps write them
+pub record ExportedRestores (ws slots words steps slots′ words′ steps′ : List ℕ) : Type 0 where
+  pub wordsBack : words′ ≡ ws
+  pub slotsKept : slots′ ≡ slots
+  pub written : steps′ ≡ sets steps 0 (stepsNumbers (wakeSteps ws))
+
+abbrev pub ExportedWakes : Type 0
+ExportedWakes =
+    (h : List SleepEvent) → Elevens h → (slot : ℕ) → slot < 4 → (ws : List ℕ) → lastSleep h slot ≡ some ws → length ws ≡ 11
+    → (words steps slots′ words′ steps′ : List ℕ) (r : ℕ) → length words ≡ 11
+    → SlotsCall (askedWith wakeOf (slotsAfter h) slot words) (slotsAfter h) words steps r slots′ words′ steps′
+    → ExportedRestores ws (slotsAfter h) words steps slots′ words′ steps′

@@ -3,3 +3,4 @@ pub mod Demand3
 pub mod UsbFirst
 pub mod Ranges
 pub mod Calls
+pub mod Untouched
