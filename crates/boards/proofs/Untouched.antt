@@ -1,5 +1,5 @@
 -- What a refusal of the bench leaves: the whole bench as it was, save at the lock timeout of the board that is called.
-use mathlib.Core.{Bool.Bool, Bool.true, Bool.false, List.List, Logic.inl, Logic.inr, Path._≡_, Path.refl, Path.ap}
+use mathlib.Core.{Bool.Bool, Bool.true, Bool.false, List.List, Logic.inl, Logic.inr, Path._≡_, Path.refl}
 use Prim.Native.Nat.{ℕ}
 use borrow.Author.Tests.{ltb-true, ltb-false}
 use lib.{Dec.ltb, Seq.set-getD}
