@@ -23,5 +23,5 @@ main-spec = tie.close (tie.spec (λ c κs. search needs) (λ c. search needs) (�
     fits _ _ _ _ _ (init .ensures) _ (rw (told .1)))
     (λ c. let told = c .before .before .n .given in let init = c .before .before .before .before .before .init in
     sym (length-take-le _ _ (fits _ _ _ _ _ (init .ensures) _ (rw (told .1))))) (λ c κs. search needs)
-    (λ c κs. search needs) (λ c. search needs) (λ c. search needs) (λ c. search needs) (λ c κs. search needs)
+    (λ c. search needs) (λ c. search needs) (λ c. search needs) (λ c κs. search needs)
     (λ c. search needs) (λ c. search needs))
