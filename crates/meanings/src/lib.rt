@@ -1,0 +1,5 @@
+// Words for people: what a refusal means.
+mod refused;
+mod rows;
+
+pub use refused::put_refusal;
