@@ -10,6 +10,6 @@ pub refusal-in : (number : ℕ) → refusalText number ≡ rowIn (linesOf refusa
 unfolding refusalText refusalRows
 refusal-in number = sym (row-in refusalRows (pick (leb number 31) number 0) refl)
 
-pub refusal-most : (number : ℕ) → length (refusalText number) ≤ 106
+pub refusal-most : (number : ℕ) → length (refusalText number) ≤ 121
 unfolding refusalText refusalRows
-refusal-most number = row-most refusalRows 106 (pick (leb number 31) number 0) refl
+refusal-most number = row-most refusalRows 121 (pick (leb number 31) number 0) refl

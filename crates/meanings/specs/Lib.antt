@@ -1,2 +1,4 @@
 pub mod Rows
 pub mod Refusals
+pub mod Form
+pub mod Steps
