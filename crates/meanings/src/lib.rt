@@ -1,8 +1,12 @@
-// Words for people: what a refusal means, and what a step does.
+// Words for people: what a refusal means, what a step does, and in which settings two plans differ.
+mod compared;
 mod form;
 mod refused;
 mod rows;
+mod same;
 mod steps;
 
+pub use compared::differences;
+pub use compared::put_differences;
 pub use refused::put_refusal;
 pub use steps::put_step;

@@ -1,0 +1,14 @@
+-- `meanings::same::same_pll` meets its contract.
+use borrow.Author.Needs.{needs}
+use Rattle.meanings.proofs.same.same_pll.Statement.{statement}
+use Rattle.meanings.proofs.same.same_pll.Tie as tie
+
+pub same-pll-spec : {M : Type 1} → statement M
+same-pll-spec = tie.close (tie.spec (λ c. search needs) (λ c. search needs) (λ c. search needs) (λ c. search needs)
+    (λ c. search needs) (λ c. search needs)
+    (λ c. rw (
+      c .before .before .before .before .before .before .before .before .before .before .before .before .a
+          .given .1,
+      c .before .before .before .before .before .before .before .before .before .b .given .1,
+    ))
+    (λ c. search needs) (λ c. search needs) (λ c. search needs))

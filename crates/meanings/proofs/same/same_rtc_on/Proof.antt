@@ -1,0 +1,12 @@
+-- `meanings::same::same_rtc_on` meets its contract.
+use borrow.Author.Needs.{needs}
+use Rattle.meanings.proofs.same.same_rtc_on.Statement.{statement}
+use Rattle.meanings.proofs.same.same_rtc_on.Tie as tie
+
+pub same-rtc-on-spec : {M : Type 1} → statement M
+same-rtc-on-spec = tie.close (tie.spec (λ c κs. search needs) (λ c κs. search needs)
+    (λ c. rw (
+      c .before .before .before .before .before .before .aux-code2 .ensures,
+      c .before .before .before .before
+          .before .before .before .aux-code .ensures,
+    )))
