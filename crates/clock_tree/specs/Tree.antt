@@ -2,11 +2,10 @@
 -- in the stores: a PLL's are rounded down at its reference and at its output (pll/specs/Setting, `outputHz`), a divided clock's
 -- once (divider/specs/Clock, `dividedHz`). A clock that is off has 0 Hz, and so has a source that no plan can name: an input pin.
 use mathlib.Core.{Bool.Bool, Bool._&&_, Bool.not, List.[], List._∷_}
-use Prim.Native.Nat.{ℕ, _+_, _*_, _/_, _^_}
+use Prim.Native.Nat.{ℕ, _+_, _/_, _^_}
 use lib.{Dec.eqb, ListN.getD}
 use Rattle.base.specs.Choice.{pick}
 use Rattle.chip.specs.declared.{Chip.Chip, Chip.the-variants.Rp2040, Chip.the-variants.Rp235x}
-use Rattle.chip.specs.Chips.{factsOf}
 use Rattle.divider.specs.{Clock.dividedHz, Gpout.gpoutWhole}
 use Rattle.pll.specs.declared.PllConfig.{PllConfig}
 use Rattle.pll.specs.Setting.{outputHz}
