@@ -56,13 +56,6 @@ pub fn take(sheet: &[u8], at: usize) -> Taken
     }
 }
 
-// At the first step.
-pub fn new<'a>(sheet: &'a [u8]) -> Reader<'a>
-    ensures { λ r. ⌜ (r .sheet ≡ sheet .entry) × (r .at ≡ 0) ⌝ }
-{
-    Reader { sheet, at: 0 }
-}
-
 // Takes the step that is next: the reader moves on to the one after it, and stops at the end.
 pub fn next<'s, 'a>(r: &'s mut Reader<'a>) -> Step
     ensures { λ s. ⌜ (s ≡ nextStep (now (r .entry))) × (now (r .exit) ≡ moved (now (r .entry))) ⌝ }
@@ -84,7 +77,7 @@ fn count_of(sheet: &[u8]) -> usize
 pub fn steps_of(sheet: &[u8]) -> Steps
     ensures { λ r. ⌜ held r ≡ stepsRead (now (sheet .entry)) ⌝ }
 {
-    let mut r = new(sheet);
+    let mut r = Reader { sheet, at: 0 };
     let count = count_of(sheet);
     let mut s = held::no_steps();
     while s.count < count {
