@@ -40,9 +40,8 @@ use Rattle.readback.proofs.Reader.Laws as T′
 use Rattle.readback.proofs.Taken as K
 use Rattle.readback.proofs.Taken.Laws as K′
 use Rattle.readback.proofs.take as take
-use Rattle.readback.proofs.take.Symbol as take-def
-use Rattle.readback.proofs.{take.Symbol.name as #readback·take, next.Key.name as #readback·next}
-use Rattle.readback.proofs.take.Met as take-thm
+use Rattle.readback.proofs.take.{Symbol.name as #readback·take, Symbol.routine as take-routine, Met.met as take-met}
+use Rattle.readback.proofs.next.Key.{name as #readback·next}
 use Rattle.readback.proofs.next as next
 use Rattle.readback.proofs.next.Statement as stated
 use Rattle.readback.proofs.next.Code as code
@@ -137,7 +136,7 @@ module _ {M : Type 1} (𝓤 : URA M) (H : Heap 𝓤) (A : Atoms 𝓤) (W : Given
   -- what sheet owns is kept, and at's facts are made anew
   again : (n : ℕ) → n < 2 ^ 64 → ent 𝓤 (sem 𝓤 H A Own) (sem 𝓤 H A (B κ′ .own (to-place n) (T′.lowered (to-place n) ∷ [])))
   again n ok = qed W (‵ Own ∷ []) ∵ owned ! usize (Is usize) (uint-makes 𝓤 H A W w64) n _ (refl, ok) $
-      move ! (1 ∷ 0 ∷ []) $ by ! (own-put 𝓤 H A W (T.the-type (α κ′)) (T′.the-laws (α κ′)) 1 (h .sheet, (h .at, tt))
+      move ! (1 ∷ 0 ∷ []) $ by ! (own-put 𝓤 H A W D L 1 (h .sheet, (h .at, tt))
       n (T′.lowered h))
 
   exits : (t : Taken) → t ≡ found → Is S.the-row (t .step) (S′.lowered (t .step) ∷ [])
@@ -166,22 +165,22 @@ module _ {M : Type 1} (𝓤 : URA M) (H : Heap 𝓤) (A : Atoms 𝓤) (W : Given
         pass1 ! (init ! 6 refl (tt, tt)) $ pass0 ! $
         move ! (11 ∷ []) $ fsplit ! $ fsplit3 ! $ drop ! $ move ! (13 ∷ []) $ split ! $ move ! (2 ∷ 3 ∷ 0 ∷ []) $
         opens ! tt (B κ′) {h = h} b o (λ vs. spelt ! (B κ′) (Is (B κ′)) (shows 𝓤 H A (B κ′))
-        (LL.vals (T.the-type (α κ′)) (T′.the-laws (α κ′))) (LL.tells (T.the-type (α κ′)) (T′.the-laws (α κ′)))
-        fullShare h vs b o $
+        (LL.vals D L) (LL.tells D L) fullShare h vs b o $
         use1 W (‵ (fat fullShare (T′.mir erased) b o (T′.lowered h)))
         (W .laws .raw-at fullShare (T′.mir erased) b o (T′.lowered h)) $
         move ! (1 ∷ []) $ peeks ! (B κ′) (Is (B κ′)) (shows 𝓤 H A (B κ′)) h (T′.lowered h ∷ [])
-        (λ was. move ! (1 ∷ 0 ∷ []) $
+        (λ was. let typed = LL.lawful (T.the-type αᵉ) (T′.the-laws αᵉ) 𝓤 H A W .typed h _ was .0 .1 in
+        move ! (1 ∷ 0 ∷ []) $
         -- [the struct's cell; what a Reader owns; the open borrow; obs; auth; 'a's token; nothing; _4; …; _3; …;
         -- _2; …; _1; …; room for _0; …]
         assigns ! (of-opd ! (load ! (from ! (hop ! (look ! 13 refl) (fld ! refl (stop !))))
         (look-in ! 0 (sub ! 1 refl (whole !))))) (from ! (stop !))
-        (init ! 11 refl (tt, LL.lawful (T.the-type αᵉ) (T′.the-laws αᵉ) 𝓤 H A W .typed h _ was .0 .1 .1 .0)) $
+        (init ! 11 refl (tt, typed .1 .0)) $
         assigns ! (of-opd ! (load ! (from ! (hop ! (look ! 13 refl) (fld ! refl (stop !))))
         (look-in ! 0 (sub ! 0 refl (whole !))))) (from ! (stop !))
-        (init ! 7 refl (tt, LL.lawful (T.the-type αᵉ) (T′.the-laws αᵉ) 𝓤 H A W .typed h _ was .0 .1 .0)) $
+        (init ! 7 refl (tt, typed .0)) $
         move ! (1 ∷ 5 ∷ []) $ use2 W (raw (Take 𝓤 H A at-mem run .pre to) ⊛ ‵ Own)
-        (apart (LL.lawful (T.the-type αᵉ) (T′.the-laws αᵉ) 𝓤 H A W .typed h _ was .0 .1 .1 .0 .fits)) $ split ! $
+        (apart (typed .1 .0 .fits)) $ split ! $
         calls-at ! fm (Take 𝓤 H A at-mem run) known to (and-then ! (load ! (from ! (stop !)) (look ! 7 refl))
         (and-then ! (load ! (from ! (stop !)) (look ! 11 refl)) (no-more !))) (λ u.
         use1 W (later (some (λ (t : Taken). ((‵ (flft κ′ q′) ⊛ ‵ ftrue) ⊛ ‵ (K.the-row .own t (u ∷ []))) ⊛ raw
@@ -207,10 +206,8 @@ module _ {M : Type 1} (𝓤 : URA M) (H : Heap 𝓤) (A : Atoms 𝓤) (W : Given
         move ! (0 ∷ 1 ∷ 3 ∷ 4 ∷ 5 ∷ []) $ closes ! tt (B κ′) (to-place (t .at)) (T′.lowered (to-place (t .at)) ∷ []) b o $
         -- [obs; the borrow; its token; 'a's token; nothing; _4; …; _3; …; _2; …; _1; …; _0; …]
         returns ! (look ! 13 refl) $ forget ! 5 refl $ forget ! 7 refl $ forget ! 9 refl $ forget ! 11 refl $
-        forget ! 13 refl $
-        move ! (13 ∷ 14 ∷ []) $ free1 ! $ move ! (11 ∷ 12 ∷ []) $ free1 ! $ move ! (9 ∷ 10 ∷ []) $ free1 ! $
-        move ! (7 ∷ 8 ∷ []) $ free1 ! $ move ! (5 ∷ 6 ∷ []) $ free1 ! $ free0 ! $
-        keep ! (0 ∷ 1 ∷ 2 ∷ 3 ∷ []) $ by ! (exits t e (LL.owed K.the-type K′.the-laws t _ is .0)))))))))))))
+        forget ! 13 refl $ keep ! (13 ∷ 14 ∷ 11 ∷ 12 ∷ 9 ∷ 10 ∷ 7 ∷ 8 ∷ 5 ∷ 6 ∷ 0 ∷ 1 ∷ 2 ∷ 3 ∷ []) $ free1 ! $ free1 ! $
+        free1 ! $ free1 ! $ free1 ! $ free0 ! $ by ! (exits t e (LL.owed K.the-type K′.the-laws t _ is .0)))))))))))))
 
 pub next-spec : {M : Type 1} → stated.statement M
 unfolding code.routine
@@ -218,7 +215,7 @@ next-spec 𝓤 H 𝓜 𝓖 𝓡 =
     proved 𝓤 H 𝓜 𝓖 𝓡 next.ended stayed (next.clauses 𝓤 H (𝓖 .A) (𝓜 .mem) (𝓡 .run))
     (goes-ref 𝓤 H (𝓖 .A) (givenOf 𝓤 H 𝓜 𝓖) 2 0 tt referent, tt) code.env #readback·next code.function
     (code.unfolded 𝓤 H 𝓜 𝓡) (λ C. Triple 𝓤 (C #readback·take) (Take 𝓤 H (𝓖 .A) (𝓜 .mem) (𝓡 .run))) (cited 𝓤 H
-    (Take 𝓤 H (𝓖 .A) (𝓜 .mem) (𝓡 .run)) 𝓜 𝓡 code.env #readback·take take-def.routine code.calls-readback·take
-    (take-thm.met 𝓤 H 𝓜 𝓖 𝓡)) (λ κs. (ptr-vals, tt)) (λ κs. (mut-tells (named 0) (κs .0) (B (κs .1 .0)), tt)) (λ C Λ
+    (Take 𝓤 H (𝓖 .A) (𝓜 .mem) (𝓡 .run)) 𝓜 𝓡 code.env #readback·take take-routine code.calls-readback·take
+    (take-met 𝓤 H 𝓜 𝓖 𝓡)) (λ κs. (ptr-vals, tt)) (λ κs. (mut-tells (named 0) (κs .0) (B (κs .1 .0)), tt)) (λ C Λ
     fm known κs qs bounds a _ are. walk 𝓤 H (𝓖 .A) (givenOf 𝓤 H 𝓜 𝓖) (𝓜 .mem) (𝓡 .run) (κs .0) (κs .1 .0) (qs .0)
     (qs .1 .0) bounds (a .0 .ptr .0) (a .0 .ptr .1) (a .0 .name) (a .0 .now) C Λ fm known)

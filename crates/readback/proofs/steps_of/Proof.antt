@@ -31,7 +31,7 @@ use denote.{Triple.Call.calls-at, Triple.Call.calls-at-last, Triple.Entry.Vals, 
 use denote.{Triple.Table.cited, Triple.Table.entered}
 use denote.Triple.Walked.{says, Stays, stay-dropped, walkOf, walked, walk-meets, goes-dropped, ends-at}
 use denote.{Exit.yes, Triple.Clauses.ensured, Triple.Clauses.lasts}
-use prog.{Memory.Memory, Routine.Routine, Wp.Heap, Wp.Env, Wp.Calls, Wp.Tables, Wp.WpFn, Wp.afterTurn}
+use prog.{Memory.Memory, Routine.Routine, Wp.Heap, Wp.Calls, Wp.Tables, Wp.WpFn, Wp.afterTurn}
 use ghost.Atoms.{Atoms, sem}
 use sound.WpLaws.{FmC, fmOf, WpFn-mono}
 use denote.Struct.Laws as LL
@@ -47,17 +47,13 @@ use Rattle.step.proofs.Step.Laws as S′
 use Rattle.readback.proofs.held.Steps as P
 use Rattle.readback.proofs.held.Steps.Laws as P′
 use Rattle.readback.proofs.next as next
-use Rattle.readback.proofs.next.Symbol as next-def
-use Rattle.readback.proofs.next.Met as next-thm
+use Rattle.readback.proofs.next.{Symbol.name as next-name, Symbol.routine as next-routine, Met.met as next-met}
 use Rattle.readback.proofs.count_of as count
-use Rattle.readback.proofs.count_of.Symbol as count-def
-use Rattle.readback.proofs.count_of.Met as count-thm
+use Rattle.readback.proofs.count_of.{Symbol.name as count-name, Symbol.routine as count-routine, Met.met as count-met}
 use Rattle.readback.proofs.held.no_steps as none
-use Rattle.readback.proofs.held.no_steps.Symbol as none-def
-use Rattle.readback.proofs.held.no_steps.Met as none-thm
+use Rattle.readback.proofs.held.no_steps.{Symbol.name as none-name, Symbol.routine as none-routine, Met.met as none-met}
 use Rattle.readback.proofs.held.add as add
-use Rattle.readback.proofs.held.add.Symbol as add-def
-use Rattle.readback.proofs.held.add.Met as add-thm
+use Rattle.readback.proofs.held.add.{Symbol.name as add-name, Symbol.routine as add-routine, Met.met as add-met}
 use Rattle.readback.proofs.steps_of.Key.{name as #readback·steps-of}
 use Rattle.readback.proofs.steps_of as steps-of
 use Rattle.readback.proofs.steps_of.Statement as stated
@@ -113,22 +109,10 @@ module _ {M : Type 1} (𝓤 : URA M) (H : Heap 𝓤) (A : Atoms 𝓤) (mem : Mem
   Add = tripleOf 𝓤 H A add.signature (add.spec 𝓤 H A mem run)
 
   record Known (C : Calls 𝓤 H) : Type 1 where
-    pub next : Triple 𝓤 (C next-def.name) Next
-    pub count : Triple 𝓤 (C count-def.name) Count
-    pub none : Triple 𝓤 (C none-def.name) None
-    pub add : Triple 𝓤 (C add-def.name) Add
-
-module _ {M : Type 1} (𝓤 : URA M) (H : Heap 𝓤) (A : Atoms 𝓤) (W : Given 𝓤 H A) (κ : Lft) where
-  -- the local of a reader that was lent is a local again when it is back
-  back : (r : Reader) (b : ℕ) → ent 𝓤 (sem 𝓤 H A (mem (R κ) .lies r b 0))
-      (sem 𝓤 H A (fat fullShare reader b 0 (T′.lowered r)))
-  unfolding partOf
-  back r b =
-      qed W (‵ (mem (R κ) .lies r b 0) ∷ []) ∵ fpick ! (λ vs. fsplit ! $
-      spelt ! (R κ) (Is (R κ)) (shows 𝓤 H A (R κ)) (LL.vals (T.the-type (α κ)) (T′.the-laws (α κ)))
-      (LL.tells (T.the-type (α κ)) (T′.the-laws (α κ))) fullShare r vs b 0 $
-      move ! (1 ∷ []) $ drop ! $ use1 W (‵ (fat fullShare reader b 0 (T′.lowered r)))
-      (W .laws .raw-at fullShare reader b 0 (T′.lowered r)) $ done !)
+    pub next : Triple 𝓤 (C next-name) Next
+    pub count : Triple 𝓤 (C count-name) Count
+    pub none : Triple 𝓤 (C none-name) None
+    pub add : Triple 𝓤 (C add-name) Add
 
 module _ {M : Type 1} (𝓤 : URA M) (H : Heap 𝓤) (A : Atoms 𝓤) (W : Given 𝓤 H A) (at-mem : Memory
     → SProp 𝓤) (run : Routine → Fun 𝓤) (κ : Lft) (q : Share) (s : RefT (List ℕ)) where
@@ -174,6 +158,17 @@ module _ {M : Type 1} (𝓤 : URA M) (H : Heap 𝓤) (A : Atoms 𝓤) (W : Given
       (own-shut 𝓤 H A W (T.the-type (α κ)) (T′.the-laws (α κ)) (s, (0, tt))) $ move ! (1 ∷ 0 ∷ []) $
       fjoin ! $ fpack ! (List Val) (λ us. fsep (cellAt fullShare (R κ .mir) us b 0) (R κ .own (readerAt s 0) us)) u $
       done !
+
+  -- the local of a reader that was lent is a local again when it is back
+  back : (r : Reader) (b : ℕ) → ent 𝓤 (sem 𝓤 H A (mem (R κ) .lies r b 0))
+      (sem 𝓤 H A (fat fullShare reader b 0 (T′.lowered r)))
+  unfolding partOf
+  back r b =
+      qed W (‵ (mem (R κ) .lies r b 0) ∷ []) ∵ fpick ! (λ vs. fsplit ! $
+      spelt ! (R κ) (Is (R κ)) (shows 𝓤 H A (R κ)) (LL.vals (T.the-type (α κ)) (T′.the-laws (α κ)))
+      (LL.tells (T.the-type (α κ)) (T′.the-laws (α κ))) fullShare r vs b 0 $
+      move ! (1 ∷ []) $ drop ! $ use1 W (‵ (fat fullShare reader b 0 (T′.lowered r)))
+      (W .laws .raw-at fullShare reader b 0 (T′.lowered r)) $ done !)
 
   -- `count_of` and `no_steps`
   abbrev to-count : Count 𝓤 H A at-mem run .Ghost
@@ -249,15 +244,11 @@ module _ {M : Type 1} (𝓤 : URA M) (H : Heap 𝓤) (A : Atoms 𝓤) (W : Given
       rw end (all-read (now s))
 
   module _ (l₀ l₁ l₂ l₃ l₄ l₅ l₆ l₇ : ℕ) where
-    abbrev En : Env 𝓤 H
-    En = (P′.mir, l₀) ∷ (slice, l₁) ∷ (reader, l₂) ∷ (word, l₃) ∷ (P′.mir, l₄) ∷ (S′.mir, l₅)
-        ∷ (tyBool, l₆) ∷ (ref, l₇) ∷ []
-
     -- what is had where so many steps are held
     abbrev At : Upto → List (Item 𝓤)
     At i = ‵ (mem (R κ) .lies (readerAt s (i .0)) l₂ 0) ∷ ‵ (flft κ q) ∷ ‵ (Holds (g (i .0)))
-        ∷ ‵ (froom ref l₇ 0) ∷ ‵ (fdies ref l₇) ∷ ‵ (froom tyBool l₆ 0) ∷ ‵ (fdies tyBool l₆) ∷ ‵ (froom S′.mir l₅ 0) ∷ ‵ (fdies S′.mir l₅)
-        ∷ ‵ (fat fullShare P′.mir l₄ 0 (P′.lowered (g (i .0)))) ∷ ‵ (fdies P′.mir l₄)
+        ∷ ‵ (froom ref l₇ 0) ∷ ‵ (fdies ref l₇) ∷ ‵ (froom tyBool l₆ 0) ∷ ‵ (fdies tyBool l₆)
+        ∷ ‵ (froom S′.mir l₅ 0) ∷ ‵ (fdies S′.mir l₅) ∷ ‵ (fat fullShare P′.mir l₄ 0 (P′.lowered (g (i .0)))) ∷ ‵ (fdies P′.mir l₄)
         ∷ ‵ (fat fullShare word l₃ 0 (vint w64 n)) ∷ ‵ (fdies word l₃) ∷ ‵ (fdies reader l₂)
         ∷ ‵ (fat fullShare slice l₁ 0 v) ∷ ‵ (fdies slice l₁) ∷ ‵ (froom P′.mir l₀ 0) ∷ ‵ (fdies P′.mir l₀) ∷ []
 
@@ -266,23 +257,18 @@ module _ {M : Type 1} (𝓤 : URA M) (H : Heap 𝓤) (A : Atoms 𝓤) (W : Given
       (WpFn 𝓤 H (𝓣 .C) (𝓣 .Λ) code.function (v ∷ []) Post)
   unfolding afterTurn
   walk 𝓣 known p =
+      let typed = shr-slice-lawful 𝓤 H A W (named 0) κ u8 .typed s (v ∷ []) p .0 in
       let fm : FmC 𝓤 H (W .laws) (𝓣 .C) = fmOf 𝓤 H (W .laws) 𝓣 in
       qed W ((‵ (flft κ q) ⊛ ‵ ftrue) ∷ ‵ (owns (ShrSlice (named 0) κ u8 ∷ []) (s, tt) at) ∷ []) ∵
       enter ! (𝓣 .C) (𝓣 .Λ) code.function (v ∷ []) _ $
       alloc1 ! (λ l₀. alloc1 ! (λ l₁. alloc1 ! (λ l₂. alloc1 ! (λ l₃. alloc1 ! (λ l₄. alloc1 ! (λ l₅. alloc1 !
       (λ l₆. alloc1 ! (λ l₇. alloc0 ! $ params1 ! $
-      pass1 ! (init ! 12 refl (shr-slice-lawful 𝓤 H A W (named 0) κ u8 .typed s (v ∷ []) p .0)) $ pass0 ! $
+      pass1 ! (init ! 12 refl typed) $ pass0 ! $
       -- what s owns is had twice: the reader at the first step holds one
       move ! (17 ∷ []) $ fsplit ! $
       use1 W (‵ Own ⊛ ‵ Own) (shr-slice-copy 𝓤 H A W (named 0) κ u8 .twice s (v ∷ [])) $ split ! $
       assigns ! (agg ! (and-then ! (load ! (from ! (stop !)) (look ! 15 refl)) (and-then ! (lit ! tt) (no-more !))))
-      (from ! (stop !)) (init ! 13 refl (
-        tt,
-        (
-          shr-slice-lawful 𝓤 H A W (named 0) κ u8 .typed s (v ∷ []) p .0 .1,
-          (record { fits = lit< tt }, tt),
-        ),
-      )) $
+      (from ! (stop !)) (init ! 13 refl (tt, (typed .1, (record { fits = lit< tt }, tt)))) $
       move ! (13 ∷ 0 ∷ []) $ use2 W (‵ (mem (R κ) .lies (readerAt s 0) l₂ 0)) (lie l₂) $
       -- how many steps, and none of them
       move ! (1 ∷ 2 ∷ []) $ fjoin ! $ move ! (17 ∷ 0 ∷ []) $ use2 W (raw (Count 𝓤 H A at-mem run .pre to-count))
@@ -379,15 +365,15 @@ module _ {M : Type 1} (𝓤 : URA M) (H : Heap 𝓤) (A : Atoms 𝓤) (W : Given
       -- the last turn, and what follows the loop
       (λ over. rewrite ! 5 (λ (t : Bool). ‵ (fat fullShare tyBool l₆ 0 (vbool t))) over refl $
       leaves-loop ! (load ! (from ! (stop !)) (look ! 5 refl)) $
-      exec ! (𝓣 .C) (𝓣 .Λ) (En l₀ l₁ l₂ l₃ l₄ l₅ l₆ l₇) rest (atRet (En l₀ l₁ l₂ l₃ l₄ l₅ l₆ l₇) Post) $
-      move ! (2 ∷ []) $ peeks ! P.the-row (Is P.the-row) (shows 𝓤 H A P.the-row) (g (i .0)) (P′.lowered (g (i .0)) ∷ [])
+      exec ! (𝓣 .C) (𝓣 .Λ) _ rest (atRet _ Post) $ move ! (2 ∷ []) $ peeks ! P.the-row (Is P.the-row) (shows 𝓤 H A P.the-row) (g (i .0)) (P′.lowered (g (i .0)) ∷ [])
       (λ ig. assigns ! (of-opd ! (load ! (from ! (stop !)) (look ! 9 refl))) (from ! (stop !))
       (init ! 16 refl (LL.lawful P.the-type P′.the-laws 𝓤 H A W .typed (g (i .0)) _ ig .0)) $
       returns ! (look ! 16 refl) $ move ! (1 ∷ []) $
-      use1 W (‵ (fat fullShare reader l₂ 0 (T′.lowered (readerAt s (i .0))))) (back 𝓤 H A W κ (readerAt s (i .0)) l₂) $
+      use1 W (‵ (fat fullShare reader l₂ 0 (T′.lowered (readerAt s (i .0))))) (back (readerAt s (i .0)) l₂) $
       forget ! 0 refl $ forget ! 5 refl $ forget ! 9 refl $ forget ! 11 refl $ forget ! 14 refl $ forget ! 16 refl $
       keep ! (16 ∷ 17 ∷ 14 ∷ 15 ∷ 0 ∷ 13 ∷ 11 ∷ 12 ∷ 9 ∷ 10 ∷ 7 ∷ 8 ∷ 5 ∷ 6 ∷ 3 ∷ 4 ∷ 2 ∷ 1 ∷ []) $ free1 ! $ free1 ! $
-      free1 ! $ free1 ! $ free1 ! $ free1 ! $ free1 ! $ free1 ! $ free0 ! $ by ! (exits (g (i .0)) (stops-at i over))))) (0, omega arith)))))))))))))))))
+      free1 ! $ free1 ! $ free1 ! $ free1 ! $ free1 ! $ free1 ! $ free0 ! $
+      by ! (exits (g (i .0)) (stops-at i over))))) (0, omega arith)))))))))))))))))
 
 pub steps-of-spec : {M : Type 1} → stated.statement M
 unfolding code.routine tablesOf
@@ -395,14 +381,14 @@ steps-of-spec 𝓤 H 𝓜 𝓖 𝓡 =
     let W : Given 𝓤 H (𝓖 .A) = givenOf 𝓤 H 𝓜 𝓖 in
     let 𝓣 : Tables 𝓤 H = tablesOf 𝓤 H 𝓜 (tables 𝓤 H 𝓜 𝓡 code.env) in
     let known : Known 𝓤 H (𝓖 .A) (𝓜 .mem) (𝓡 .run) (𝓣 .C) = record {
-      next = cited 𝓤 H (Next 𝓤 H (𝓖 .A) (𝓜 .mem) (𝓡 .run)) 𝓜 𝓡 code.env next-def.name next-def.routine
-          code.calls-readback·next (next-thm.met 𝓤 H 𝓜 𝓖 𝓡);
-      count = cited 𝓤 H (Count 𝓤 H (𝓖 .A) (𝓜 .mem) (𝓡 .run)) 𝓜 𝓡 code.env count-def.name count-def.routine
-          code.calls-readback·count-of (count-thm.met 𝓤 H 𝓜 𝓖 𝓡);
-      none = cited 𝓤 H (None 𝓤 H (𝓖 .A) (𝓜 .mem) (𝓡 .run)) 𝓜 𝓡 code.env none-def.name none-def.routine
-          code.calls-readback·held·no-steps (none-thm.met 𝓤 H 𝓜 𝓖 𝓡);
-      add = cited 𝓤 H (Add 𝓤 H (𝓖 .A) (𝓜 .mem) (𝓡 .run)) 𝓜 𝓡 code.env add-def.name add-def.routine
-          code.calls-readback·held·add (add-thm.met 𝓤 H 𝓜 𝓖 𝓡);
+      next = cited 𝓤 H (Next 𝓤 H (𝓖 .A) (𝓜 .mem) (𝓡 .run)) 𝓜 𝓡 code.env next-name next-routine
+          code.calls-readback·next (next-met 𝓤 H 𝓜 𝓖 𝓡);
+      count = cited 𝓤 H (Count 𝓤 H (𝓖 .A) (𝓜 .mem) (𝓡 .run)) 𝓜 𝓡 code.env count-name count-routine
+          code.calls-readback·count-of (count-met 𝓤 H 𝓜 𝓖 𝓡);
+      none = cited 𝓤 H (None 𝓤 H (𝓖 .A) (𝓜 .mem) (𝓡 .run)) 𝓜 𝓡 code.env none-name none-routine
+          code.calls-readback·held·no-steps (none-met 𝓤 H 𝓜 𝓖 𝓡);
+      add = cited 𝓤 H (Add 𝓤 H (𝓖 .A) (𝓜 .mem) (𝓡 .run)) 𝓜 𝓡 code.env add-name add-routine
+          code.calls-readback·held·add (add-met 𝓤 H 𝓜 𝓖 𝓡);
     } in
     entered 𝓤 H (tripleOf 𝓤 H (𝓖 .A) steps-of.signature (steps-of.spec 𝓤 H (𝓖 .A) (𝓜 .mem) (𝓡 .run)))
     (𝓣 .C) (𝓣 .Λ) #readback·steps-of code.function (code.unfolded 𝓤 H 𝓜 𝓡)
