@@ -23,7 +23,7 @@ use denote.{RattleType.RattleType, RattleType.owns, Laws.Is, Laws.shows, Memory.
 use denote.{Builtin.u8, Builtin.usize, Ref.RefT, Ref.NamedLft, Ref.MutRef, Ref.now, Ref.ptr-vals, Ref.mut-tells}
 use denote.{Signature.Slot, Signature.plain, Signature.namedLft, Slice.sliceVal, Slice.ShrSlice}
 use denote.{Steps.only, Steps.opens, Steps.closes, Steps.owned, Steps.peeks, Steps.heard, Steps.nothing, Struct.Declared.Declared}
-use denote.Struct.Rest.{all-own, ownAt, rest, own-open, own-out, own-put}
+use denote.Struct.Rest.{all-own, own-open, own-put}
 use denote.{Struct.Steps.spelt, Struct.Values.Values, Triple.Statement.Contract, Triple.Statement.Triple}
 use denote.{Triple.Call.calls-at, Triple.Clauses.ensured, Triple.Clauses.lasts, Triple.Entry.Vals, Triple.Entry.onEntry}
 use denote.{Triple.Spec.tripleOf, Triple.Table.cited}
@@ -107,37 +107,23 @@ module _ {M : Type 1} (𝓤 : URA M) (H : Heap 𝓤) (A : Atoms 𝓤) (W : Given
   passed = (sliceVal (h .sheet .ptr) (length (h .sheet .now)) ∷ [], (vint w64 (h .at) ∷ [], tt))
 
   abbrev to : Take 𝓤 H A at-mem run .Ghost
-  to = (((κ′, tt), (q′, tt), tt, (h .sheet, (h .at, tt)), passed), tt)
+  to = (((κ′, tt), (q′, tt), tt, vd, passed), tt)
 
-  asked : ent 𝓤 (onEntry 𝓤 H A take.signature (κ′, tt) (q′, tt) (h .sheet, (h .at, tt)) passed)
-      (Take 𝓤 H A at-mem run .pre to)
-  asked = qed W ((‵ (flft κ′ q′) ⊛ ‵ ftrue) ∷ ‵ (owns (ShrSlice (named 0) κ′ u8 ∷ usize ∷ [])
-      (h .sheet, (h .at, tt)) passed) ∷ []) ∵ join ! $ frame ! $ done !
-
-  -- what the struct owns gives what the callee asks, and is kept
-  apart : h .at < 2 ^ 64 → ent 𝓤 (⋆ 𝓤 H A (‵ Own ∷ (‵ (flft κ′ q′) ⊛ ‵ ftrue) ∷ []))
+  -- what the struct owns, its fields in their order, is what the callee asks, and is kept
+  apart : ent 𝓤 (⋆ 𝓤 H A (‵ Own ∷ (‵ (flft κ′ q′) ⊛ ‵ ftrue) ∷ []))
       (sep 𝓤 (Take 𝓤 H A at-mem run .pre to) (sem 𝓤 H A Own))
-  apart fits =
+  apart =
       qed W (‵ Own ∷ (‵ (flft κ′ q′) ⊛ ‵ ftrue) ∷ []) ∵
       use1 W (‵ Own ⊛ ‵ Own) (LL.copy D (T′.the-copy (α κ′)) 𝓤 H A W .twice h (T′.lowered h ∷ [])) $ split ! $
       use1 W (given (T′.lowered h ∷ [] ≡ T′.lowered h ∷ []) (‵ (all-own (D .parts) L vd)))
-      (own-open 𝓤 H A W D L vd (T′.lowered h)) $ learn ! (λ _. use1 W
-      (‵ (ownAt (D .parts) L 0 (h .sheet)) ⊛ ‵ (rest (D .parts) L 0 vd)) (own-out 𝓤 H A W (D .parts) L 0 vd) $ split ! $
-      -- [what sheet owns; what at owns; what the struct owns; the token]
-      move ! (1 ∷ []) $ drop ! $ nothing ! $ owned ! usize (Is usize) (uint-makes 𝓤 H A W w64) (h .at) _
-      (refl, fits) $ fjoin ! $ move ! (1 ∷ 0 ∷ []) $ fjoin ! $
-      move ! (2 ∷ 0 ∷ []) $ use2 W (raw (Take 𝓤 H A at-mem run .pre to)) asked $ frame ! $ done !)
-
-  said : (r : Taken) → ent 𝓤 (ensured 𝓤 H A take.ended (take.clauses 𝓤 H A at-mem run) (κ′, tt)
-      (h .sheet, (h .at, tt)) tt r) (fact 𝓤 (r ≡ found))
-  said r = exE 𝓤 _ (λ ws. snd∗ 𝓤 (sem 𝓤 H A (lasts take.ended (κ′, tt) (h .sheet, (h .at, tt)) ws))
-      (fact 𝓤 (r ≡ found)))
+      (own-open 𝓤 H A W D L vd (T′.lowered h)) $ learn ! (λ _. move ! (2 ∷ 0 ∷ []) $
+      use2 W (raw (Take 𝓤 H A at-mem run .pre to)) (qed W ((‵ (flft κ′ q′) ⊛ ‵ ftrue) ∷ ‵
+      (owns (ShrSlice (named 0) κ′ u8 ∷ usize ∷ []) vd passed) ∷ []) ∵ join ! $ frame ! $ done !) $ frame ! $ done !)
 
   -- what sheet owns is kept, and at's facts are made anew
   again : (n : ℕ) → n < 2 ^ 64 → ent 𝓤 (sem 𝓤 H A Own) (sem 𝓤 H A (B κ′ .own (to-place n) (T′.lowered (to-place n) ∷ [])))
   again n ok = qed W (‵ Own ∷ []) ∵ owned ! usize (Is usize) (uint-makes 𝓤 H A W w64) n _ (refl, ok) $
-      move ! (1 ∷ 0 ∷ []) $ by ! (own-put 𝓤 H A W D L 1 (h .sheet, (h .at, tt))
-      n (T′.lowered h))
+      move ! (1 ∷ 0 ∷ []) $ by ! (own-put 𝓤 H A W D L 1 vd n (T′.lowered h))
 
   exits : (t : Taken) → t ≡ found → Is S.the-row (t .step) (S′.lowered (t .step) ∷ [])
       → ent 𝓤 (⋆ 𝓤 H A (‵ (fobs γ (B κ′ .coded .code (to-place (t .at)))) ∷ ‵ (fbor κ (Body (mem (B κ′)) b o γ)) ∷ ‵
@@ -174,40 +160,37 @@ module _ {M : Type 1} (𝓤 : URA M) (H : Heap 𝓤) (A : Atoms 𝓤) (W : Given
         -- [the struct's cell; what a Reader owns; the open borrow; obs; auth; 'a's token; nothing; _4; …; _3; …;
         -- _2; …; _1; …; room for _0; …]
         assigns ! (of-opd ! (load ! (from ! (hop ! (look ! 13 refl) (fld ! refl (stop !))))
-        (look-in ! 0 (sub ! 1 refl (whole !))))) (from ! (stop !))
-        (init ! 11 refl (tt, typed .1 .0)) $
+        (look-in ! 0 (sub ! 1 refl (whole !))))) (from ! (stop !)) (init ! 11 refl (tt, typed .1 .0)) $
         assigns ! (of-opd ! (load ! (from ! (hop ! (look ! 13 refl) (fld ! refl (stop !))))
-        (look-in ! 0 (sub ! 0 refl (whole !))))) (from ! (stop !))
-        (init ! 7 refl (tt, typed .0)) $
-        move ! (1 ∷ 5 ∷ []) $ use2 W (raw (Take 𝓤 H A at-mem run .pre to) ⊛ ‵ Own)
-        (apart (typed .1 .0 .fits)) $ split ! $
+        (look-in ! 0 (sub ! 0 refl (whole !))))) (from ! (stop !)) (init ! 7 refl (tt, typed .0)) $
+        move ! (1 ∷ 5 ∷ []) $ use2 W (raw (Take 𝓤 H A at-mem run .pre to) ⊛ ‵ Own) apart $ split ! $
         calls-at ! fm (Take 𝓤 H A at-mem run) known to (and-then ! (load ! (from ! (stop !)) (look ! 7 refl))
         (and-then ! (load ! (from ! (stop !)) (look ! 11 refl)) (no-more !))) (λ u.
         use1 W (later (some (λ (t : Taken). ((‵ (flft κ′ q′) ⊛ ‵ ftrue) ⊛ ‵ (K.the-row .own t (u ∷ []))) ⊛ raw
-        (ensured 𝓤 H A take.ended (take.clauses 𝓤 H A at-mem run) (κ′, tt) (h .sheet, (h .at, tt)) tt t))))
-        (id⊢ 𝓤 _) $ await ! tt $ pick ! (λ t.
-        split ! $ move ! (1 ∷ []) $ use1 W (raw (fact 𝓤 (t ≡ found))) (said t) $
+        (ensured 𝓤 H A take.ended (take.clauses 𝓤 H A at-mem run) (κ′, tt) vd tt t)))) (id⊢ 𝓤 _) $ await ! tt $ pick ! (λ t.
+        split ! $ move ! (1 ∷ []) $ use1 W (raw (fact 𝓤 (t ≡ found)))
+        (exE 𝓤 _ (λ ws. snd∗ 𝓤 (sem 𝓤 H A (lasts take.ended (κ′, tt) vd ws)) (fact 𝓤 (t ≡ found)))) $
         heard ! (t ≡ found) (λ e. split ! $ move ! (1 ∷ []) $
         peeks ! K.the-row (Is K.the-row) (shows 𝓤 H A K.the-row) t (u ∷ []) (λ is. drop ! $
+        let owed = LL.owed K.the-type K′.the-laws t _ is in
         -- [the token; what a Reader owns; the cell; the open borrow; obs; auth; nothing; _4; …; _3; …; _2; …; _1; …;
         -- room for _0; …]
         land ! (from ! (stop !)) (init ! 9 refl (LL.lawful K.the-type K′.the-laws 𝓤 H A W .typed t _ is .0)) $
         rewrite ! 9 (λ (v : Val). ‵ (fat fullShare K′.mir l₃ 0 v)) (ap only (LL.tells K.the-type K′.the-laws t _ is)) refl $
         assigns ! (of-opd ! (load ! (from ! (fld ! refl (stop !))) (look-in ! 9 (sub ! 1 refl (whole !)))))
         (from ! (hop ! (look ! 13 refl) (fld ! refl (stop !))))
-        (store-in ! 2 (sub ! 1 refl (whole !)) (tt, record { fits = LL.owed K.the-type K′.the-laws t _ is .1 .0 .1 })) $
+        (store-in ! 2 (sub ! 1 refl (whole !)) (tt, record { fits = owed .1 .0 .1 })) $
         assigns ! (of-opd ! (load ! (from ! (fld ! refl (stop !))) (look-in ! 9 (sub ! 0 refl (whole !)))))
-        (from ! (stop !)) (init ! 15 refl (LL.lawful S.the-type S′.the-laws 𝓤 H A W .typed (t .step) _
-        (LL.owed K.the-type K′.the-laws t _ is .0) .0)) $
+        (from ! (stop !)) (init ! 15 refl (LL.lawful S.the-type S′.the-laws 𝓤 H A W .typed (t .step) _ (owed .0) .0)) $
         move ! (1 ∷ []) $ use1 W (‵ (B κ′ .own (to-place (t .at)) (T′.lowered (to-place (t .at)) ∷ [])))
-        (again (t .at) (LL.owed K.the-type K′.the-laws t _ is .1 .0 .1)) $
+        (again (t .at) (owed .1 .0 .1)) $
         move ! (2 ∷ []) $ use1 W (‵ (cellAt fullShare (B κ′ .mir) (T′.lowered (to-place (t .at)) ∷ []) b o))
         (W .laws .at-raw fullShare (T′.mir erased) b o (T′.lowered (to-place (t .at)))) $
         move ! (0 ∷ 1 ∷ 3 ∷ 4 ∷ 5 ∷ []) $ closes ! tt (B κ′) (to-place (t .at)) (T′.lowered (to-place (t .at)) ∷ []) b o $
         -- [obs; the borrow; its token; 'a's token; nothing; _4; …; _3; …; _2; …; _1; …; _0; …]
         returns ! (look ! 13 refl) $ forget ! 5 refl $ forget ! 7 refl $ forget ! 9 refl $ forget ! 11 refl $
         forget ! 13 refl $ keep ! (13 ∷ 14 ∷ 11 ∷ 12 ∷ 9 ∷ 10 ∷ 7 ∷ 8 ∷ 5 ∷ 6 ∷ 0 ∷ 1 ∷ 2 ∷ 3 ∷ []) $ free1 ! $ free1 ! $
-        free1 ! $ free1 ! $ free1 ! $ free0 ! $ by ! (exits t e (LL.owed K.the-type K′.the-laws t _ is .0)))))))))))))
+        free1 ! $ free1 ! $ free1 ! $ free0 ! $ by ! (exits t e (owed .0)))))))))))))
 
 pub next-spec : {M : Type 1} → stated.statement M
 unfolding code.routine
