@@ -1,7 +1,8 @@
--- `readback::steps_of` meets its contract: a walk of its MIR, by hand. A `Reader` at place 0 is made in a
--- local. In each turn of the loop it is lent to `next`, for a lifetime within the one of the bytes (the token of that
--- one is halved for it), and the step that comes back is added. After j turns the reader is at place j, and the first
--- j steps are held. All that the proof knows of its callees is that each meets its contract.
+-- `readback::steps_of` meets its contract: a walk of its MIR, by hand. A `Reader` at place 0 is made in a local, of one
+-- of two copies of what the slice owns. In each turn of the loop it is lent to `next`, for a lifetime within the one of
+-- the bytes (the token of that one is halved for it), and the step that comes back is added. After j turns the reader
+-- is at place j, and the first j steps are held. All that the proof knows of its callees is that each meets its
+-- contract.
 use mathlib.Core.{Path._≡_, Path.refl, Path.ap, Path._∙_, Bool.Bool, Bool.true, Bool.false, List.List, List.[], List._∷_}
 use mathlib.Core.WellFounded.{WellFounded, InvImage·wf}
 use Prim.Native.Nat.{ℕ, suc, _-_, _≤_, _<_}
@@ -78,9 +79,6 @@ abbrev R : Lft → RattleType
 R κ = T.the-row (α κ)
 
 -- the types of the locals
-abbrev word : Ty
-word = tyInt w64
-
 abbrev slice : Ty
 slice = sliceTy (tyRef (named 0) imm (tyInt w8))
 
@@ -192,27 +190,12 @@ module _ {M : Type 1} (𝓤 : URA M) (H : Heap 𝓤) (A : Atoms 𝓤) (W : Given
   to-next ν b δ r =
       (((ν ∷ κ, (κ, tt)), (ql, (qr, tt)), (meet-⊑-right (ν ∷ []) κ, tt), (lent b δ r, tt), (vptr b 0 ∷ [], tt)), tt)
 
-  goes-next : (ν b : ℕ) (δ : GName) (r : Reader)
-      → ent 𝓤 (⋆ 𝓤 H A (‵ (flft (ν ∷ κ) ql) ∷ ‵ (flft κ qr) ∷ ‵
-      (MutRef (named 0) (ν ∷ κ) (R κ) .own (lent b δ r) (vptr b 0 ∷ [])) ∷ []))
-      (Next 𝓤 H A at-mem run .pre (to-next ν b δ r))
-  goes-next ν b δ r =
-      qed W (‵ (flft (ν ∷ κ) ql) ∷ ‵ (flft κ qr) ∷ ‵ (MutRef (named 0) (ν ∷ κ) (R κ) .own (lent b δ r)
-      (vptr b 0 ∷ [])) ∷ []) ∵
-      nothing ! $ move ! (2 ∷ 0 ∷ []) $ join ! $ move ! (1 ∷ 0 ∷ []) $ join ! $
-      nothing ! $ move ! (2 ∷ 0 ∷ []) $ fjoin ! $ move ! (1 ∷ 0 ∷ []) $ join ! $ frame ! $ done !
-
   abbrev Said : Reader → Step → Reader → Type 0
   Said r t y = (t ≡ nextStep r) × (y ≡ moved r)
 
   -- `add`
   abbrev to-add : Steps → Step → Val → Add 𝓤 H A at-mem run .Ghost
   to-add z t u = ((tt, tt, tt, (z, (t, tt)), (P′.lowered z ∷ [], (u ∷ [], tt))), tt)
-
-  goes-add : (z : Steps) (t : Step) (u : Val) → ent 𝓤 (⋆ 𝓤 H A (‵ (Holds z) ∷ ‵ (S.the-row .own t (u ∷ [])) ∷ []))
-      (Add 𝓤 H A at-mem run .pre (to-add z t u))
-  goes-add z t u = qed W (‵ (Holds z) ∷ ‵ (S.the-row .own t (u ∷ [])) ∷ []) ∵ nothing ! $ move ! (2 ∷ 0 ∷ []) $ fjoin ! $
-      move ! (1 ∷ 0 ∷ []) $ fjoin ! $ nothing ! $ join ! $ frame ! $ done !
 
   exits : (z : Steps) → held z ≡ stepsRead (now s) → ent 𝓤 (⋆ 𝓤 H A (‵ (flft κ q) ∷ ‵ (Holds z) ∷ [])) (Post (P′.lowered z))
   exits z e =
@@ -249,7 +232,7 @@ module _ {M : Type 1} (𝓤 : URA M) (H : Heap 𝓤) (A : Atoms 𝓤) (W : Given
     At i = ‵ (mem (R κ) .lies (readerAt s (i .0)) l₂ 0) ∷ ‵ (flft κ q) ∷ ‵ (Holds (g (i .0)))
         ∷ ‵ (froom ref l₇ 0) ∷ ‵ (fdies ref l₇) ∷ ‵ (froom tyBool l₆ 0) ∷ ‵ (fdies tyBool l₆)
         ∷ ‵ (froom S′.mir l₅ 0) ∷ ‵ (fdies S′.mir l₅) ∷ ‵ (fat fullShare P′.mir l₄ 0 (P′.lowered (g (i .0)))) ∷ ‵ (fdies P′.mir l₄)
-        ∷ ‵ (fat fullShare word l₃ 0 (vint w64 n)) ∷ ‵ (fdies word l₃) ∷ ‵ (fdies reader l₂)
+        ∷ ‵ (fat fullShare (tyInt w64) l₃ 0 (vint w64 n)) ∷ ‵ (fdies (tyInt w64) l₃) ∷ ‵ (fdies reader l₂)
         ∷ ‵ (fat fullShare slice l₁ 0 v) ∷ ‵ (fdies slice l₁) ∷ ‵ (froom P′.mir l₀ 0) ∷ ‵ (fdies P′.mir l₀) ∷ []
 
   walk : (𝓣 : Tables 𝓤 H) → Known 𝓤 H A at-mem run (𝓣 .C) → Is (ShrSlice (named 0) κ u8) s (v ∷ [])
@@ -282,7 +265,7 @@ module _ {M : Type 1} (𝓤 : URA M) (H : Heap 𝓤) (A : Atoms 𝓤) (W : Given
       split ! $ move ! (1 ∷ []) $ use1 W (raw (fact 𝓤 (m ≡ n))) (told (lasts count.ended (κ, tt) (s, tt)) (m ≡ n)) $
       heard ! (m ≡ n) (λ em. split ! $ move ! (1 ∷ []) $ peeks ! usize (Is usize) (shows 𝓤 H A usize) m (w ∷ []) (λ im.
       drop ! $ land ! (from ! (stop !)) (init ! 10 refl (uint-lawful 𝓤 H A W w64 .typed m _ im .0)) $
-      rewrite ! 10 (λ (x : Val). ‵ (fat fullShare word l₃ 0 x)) (ap only (im .0) ∙ ap (vint w64) em) refl $
+      rewrite ! 10 (λ (x : Val). ‵ (fat fullShare (tyInt w64) l₃ 0 x)) (ap only (im .0) ∙ ap (vint w64) em) refl $
       nothing ! $ nothing ! $ use2 W (raw (None 𝓤 H A at-mem run .pre to-none))
       (qed W (‵ ftrue ∷ ‵ ftrue ∷ []) ∵ join ! $ frame ! $ done !) $
       calls-at ! fm (None 𝓤 H A at-mem run) (known .none) to-none (no-more !) (λ w₀.
@@ -316,7 +299,9 @@ module _ {M : Type 1} (𝓤 : URA M) (H : Heap 𝓤) (A : Atoms 𝓤) (W : Given
       (lends-ref 𝓤 H A W (R κ) (named 0) (ν ∷ κ) (readerAt s (i .0)) l₂ 0) $
       await ! tt $ pick ! (λ δ. split ! $
       move ! (2 ∷ 4 ∷ 0 ∷ []) $ use3 W (raw (Next 𝓤 H A at-mem run .pre (to-next ν l₂ δ (readerAt s (i .0)))))
-      (goes-next ν l₂ δ (readerAt s (i .0))) $
+      (qed W (‵ (flft (ν ∷ κ) ql) ∷ ‵ (flft κ qr) ∷ ‵ (MutRef (named 0) (ν ∷ κ) (R κ) .own (lent l₂ δ (readerAt s (i .0)))
+      (vptr l₂ 0 ∷ [])) ∷ []) ∵ nothing ! $ move ! (2 ∷ 0 ∷ []) $ join ! $ move ! (1 ∷ 0 ∷ []) $ join ! $
+      nothing ! $ move ! (2 ∷ 0 ∷ []) $ fjoin ! $ move ! (1 ∷ 0 ∷ []) $ join ! $ frame ! $ done !) $
       -- [what `next` asks; the lender's part; the rest of ν; what the steps own; _7; …]
       calls-at ! fm (Next 𝓤 H A at-mem run) (known .next) (to-next ν l₂ δ (readerAt s (i .0)))
       (and-then ! (load ! (from ! (stop !)) (look ! 4 refl)) (no-more !)) (λ u′.
@@ -340,7 +325,9 @@ module _ {M : Type 1} (𝓤 : URA M) (H : Heap 𝓤) (A : Atoms 𝓤) (W : Given
       refl $
       move ! (1 ∷ 2 ∷ []) $ use2 W (‵ (flft κ q)) (W .lfts .lft-join κ q) $
       -- [the token; the reader; nothing; the result; nothing; what the steps own; _7; …]
-      move ! (5 ∷ 3 ∷ []) $ use2 W (raw (Add 𝓤 H A at-mem run .pre (to-add (g (i .0)) t u′))) (goes-add (g (i .0)) t u′) $
+      move ! (5 ∷ 3 ∷ []) $ use2 W (raw (Add 𝓤 H A at-mem run .pre (to-add (g (i .0)) t u′)))
+      (qed W (‵ (Holds (g (i .0))) ∷ ‵ (S.the-row .own t (u′ ∷ [])) ∷ []) ∵ nothing ! $ move ! (2 ∷ 0 ∷ []) $ fjoin ! $
+      move ! (1 ∷ 0 ∷ []) $ fjoin ! $ nothing ! $ join ! $ frame ! $ done !) $
       calls-at-last ! fm (Add 𝓤 H A at-mem run) (known .add) (to-add (g (i .0)) t u′)
       (and-then ! (load ! (from ! (stop !)) (look ! 11 refl))
       (and-then ! (load ! (from ! (stop !)) (look ! 9 refl)) (no-more !))) (λ w₁.
@@ -365,7 +352,8 @@ module _ {M : Type 1} (𝓤 : URA M) (H : Heap 𝓤) (A : Atoms 𝓤) (W : Given
       -- the last turn, and what follows the loop
       (λ over. rewrite ! 5 (λ (t : Bool). ‵ (fat fullShare tyBool l₆ 0 (vbool t))) over refl $
       leaves-loop ! (load ! (from ! (stop !)) (look ! 5 refl)) $
-      exec ! (𝓣 .C) (𝓣 .Λ) _ rest (atRet _ Post) $ move ! (2 ∷ []) $ peeks ! P.the-row (Is P.the-row) (shows 𝓤 H A P.the-row) (g (i .0)) (P′.lowered (g (i .0)) ∷ [])
+      exec ! (𝓣 .C) (𝓣 .Λ) _ rest (atRet _ Post) $ move ! (2 ∷ []) $
+      peeks ! P.the-row (Is P.the-row) (shows 𝓤 H A P.the-row) (g (i .0)) (P′.lowered (g (i .0)) ∷ [])
       (λ ig. assigns ! (of-opd ! (load ! (from ! (stop !)) (look ! 9 refl))) (from ! (stop !))
       (init ! 16 refl (LL.lawful P.the-type P′.the-laws 𝓤 H A W .typed (g (i .0)) _ ig .0)) $
       returns ! (look ! 16 refl) $ move ! (1 ∷ []) $
