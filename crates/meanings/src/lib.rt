@@ -9,4 +9,5 @@ mod steps;
 pub use compared::differences;
 pub use compared::put_differences;
 pub use refused::put_refusal;
+pub use rows::put_row;
 pub use steps::put_step;

@@ -20,7 +20,7 @@ pub(crate) fn row_start(rows: &[u8], n: u8) -> usize
 }
 
 // The text of row n; none where there are fewer rows.
-pub(crate) fn put_row(out: &mut [u8], at: usize, rows: &[u8], n: u8) -> usize
+pub fn put_row(out: &mut [u8], at: usize, rows: &[u8], n: u8) -> usize
     ensures { λ r. ⌜ Placed (now (out .entry)) at (rowIn (now (rows .entry)) n) r (now (out .exit)) ⌝ }
 {
     let from = row_start(rows, n);

@@ -106,7 +106,7 @@ fn gives(sheet: &[u8], reading: u8, plan: ClockConfig) -> bool
 }
 
 // The chip whose sheet it is, by the six kind bits of the first step.
-fn chip_in(sheet: &[u8]) -> Chip
+pub fn chip_in(sheet: &[u8]) -> Chip
     ensures { λ r. ⌜ r ≡ chipIn (now (sheet .entry)) ⌝ }
 {
     if sheet.len() < 8 {
