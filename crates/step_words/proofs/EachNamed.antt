@@ -41,283 +41,50 @@ either : (P : ℕ → Type 0) (usb sys : ℕ) → P usb → P sys → (b : Bool)
 either P usb sys p q true = p
 either P usb sys p q false = q
 
+-- the row of a kind, and the rows after it
+infixr 4 _also_
+_also_ : {A B : Type 0} → A → B → A × B
+a also b = (a, b)
+
 all-2040 : AllTold Rp2040 0 rows
 unfolding rows has nameOf nameRows
-all-2040 = (
-  (λ s. (refl, tt)),
-  (
-    (λ s. (refl, tt)),
-    (
-      (λ s. (refl, tt)),
-      (
-        (λ s. (refl, tt)),
-        (
-          (λ s. (refl, tt)),
-          (
-            (λ s. (refl, tt)),
-            (
-              (λ s. (refl, tt)),
-              (
-                (λ s. (refl, tt)),
-                (
-                  (λ s. (refl, tt)),
-                  (
-                    (λ s. (refl, tt)),
-                    (
-                      (λ s. (refl, tt)),
-                      (
-                        (λ s. (refl, tt)),
-                        (
-                          (λ s. (refl, tt)),
-                          (
-                            (λ s. (refl, tt)),
-                            (
-                              (λ s. (refl, omega (arith, mod-lt (s .f0) (pow-pos 32)))),
-                              (
-                                (λ s. (refl, tt)),
-                                (
-                                  (λ s. (refl, tt)),
-                                  (
-                                    (λ s. (refl, tt)),
-                                    (
-                                      (λ s. (refl, tt)),
-                                      (
-                                        (λ s. (either (λ base. named Rp2040 1 (base + 0x4) ≡ true) 0x4002C000 0x40028000 refl refl (eqb (s .f0) 1), tt)),
-                                        (
-                                          (λ s. (either (λ base. named Rp2040 1 base ≡ true) 0x4002C000 0x40028000 refl refl (eqb (s .f0) 1), tt)),
-                                          (
-                                            (λ s. (either (λ base. named Rp2040 1 (base + 0x8) ≡ true) 0x4002C000 0x40028000 refl refl (eqb (s .f0) 1), tt)),
-                                            (
-                                              (λ s. (either (λ base. named Rp2040 3 base ≡ true) 0x4002C000 0x40028000 refl refl (eqb (s .f0) 1), tt)),
-                                              (
-                                                (λ s. (either (λ base. named Rp2040 1 (base + 0xC) ≡ true) 0x4002C000 0x40028000 refl refl (eqb (s .f0) 1), tt)),
-                                                (
-                                                  (λ s. (either (λ base. named Rp2040 2 (base + 0x4) ≡ true) 0x4002C000 0x40028000 refl refl (eqb (s .f0) 1), tt)),
-                                                  (
-                                                    (λ s. (refl, tt)),
-                                                    (
-                                                      (λ s. (refl, tt)),
-                                                      (
-                                                        (λ s. (refl, tt)),
-                                                        (
-                                                          (λ s. (refl, tt)),
-                                                          (
-                                                            (λ s. (refl, tt)),
-                                                            (
-                                                              (λ s. (refl, tt)),
-                                                              (
-                                                                (λ s. (refl, tt)),
-                                                                (
-                                                                  (λ s. (refl, tt)),
-                                                                  (
-                                                                    (λ s. (refl, tt)),
-                                                                    (
-                                                                      (λ s. (refl, tt)),
-                                                                      (
-                                                                        (λ s. (refl, tt)),
-                                                                        (
-                                                                          (λ s. (refl, tt)),
-                                                                          (
-                                                                            (λ s. (refl, tt)),
-                                                                            (
-                                                                              (λ s. (refl, tt)),
-                                                                              (
-                                                                                (λ s. (refl, tt)),
-                                                                                (
-                                                                                  (λ s. (refl, tt)),
-                                                                                  (
-                                                                                    (λ s. (refl, tt)),
-                                                                                    (
-                                                                                      (λ s. (refl, tt)),
-                                                                                      (
-                                                                                        (λ s. (refl, tt)),
-                                                                                        (
-                                                                                          (λ s. (refl, tt)),
-                                                                                          ((λ s. (refl, tt)), tt),
-                                                                                        ),
-                                                                                      ),
-                                                                                    ),
-                                                                                  ),
-                                                                                ),
-                                                                              ),
-                                                                            ),
-                                                                          ),
-                                                                        ),
-                                                                      ),
-                                                                    ),
-                                                                  ),
-                                                                ),
-                                                              ),
-                                                            ),
-                                                          ),
-                                                        ),
-                                                      ),
-                                                    ),
-                                                  ),
-                                                ),
-                                              ),
-                                            ),
-                                          ),
-                                        ),
-                                      ),
-                                    ),
-                                  ),
-                                ),
-                              ),
-                            ),
-                          ),
-                        ),
-                      ),
-                    ),
-                  ),
-                ),
-              ),
-            ),
-          ),
-        ),
-      ),
-    ),
-  ),
-)
+all-2040 =
+    (λ s. (refl, tt)) also (λ s. (refl, tt)) also (λ s. (refl, tt)) also (λ s. (refl, tt)) also (λ s. (refl, tt)) also
+    (λ s. (refl, tt)) also (λ s. (refl, tt)) also (λ s. (refl, tt)) also (λ s. (refl, tt)) also (λ s. (refl, tt)) also
+    (λ s. (refl, tt)) also (λ s. (refl, tt)) also (λ s. (refl, tt)) also (λ s. (refl, tt)) also
+    (λ s. (refl, omega (arith, mod-lt (s .f0) (pow-pos 32)))) also
+    (λ s. (refl, tt)) also (λ s. (refl, tt)) also (λ s. (refl, tt)) also (λ s. (refl, tt)) also
+    (λ s. (either (λ base. named Rp2040 1 (base + 0x4) ≡ true) 0x4002C000 0x40028000 refl refl (eqb (s .f0) 1), tt)) also
+    (λ s. (either (λ base. named Rp2040 1 base ≡ true) 0x4002C000 0x40028000 refl refl (eqb (s .f0) 1), tt)) also
+    (λ s. (either (λ base. named Rp2040 1 (base + 0x8) ≡ true) 0x4002C000 0x40028000 refl refl (eqb (s .f0) 1), tt)) also
+    (λ s. (either (λ base. named Rp2040 3 base ≡ true) 0x4002C000 0x40028000 refl refl (eqb (s .f0) 1), tt)) also
+    (λ s. (either (λ base. named Rp2040 1 (base + 0xC) ≡ true) 0x4002C000 0x40028000 refl refl (eqb (s .f0) 1), tt)) also
+    (λ s. (either (λ base. named Rp2040 2 (base + 0x4) ≡ true) 0x4002C000 0x40028000 refl refl (eqb (s .f0) 1), tt)) also
+    (λ s. (refl, tt)) also (λ s. (refl, tt)) also (λ s. (refl, tt)) also (λ s. (refl, tt)) also (λ s. (refl, tt)) also
+    (λ s. (refl, tt)) also (λ s. (refl, tt)) also (λ s. (refl, tt)) also (λ s. (refl, tt)) also (λ s. (refl, tt)) also
+    (λ s. (refl, tt)) also (λ s. (refl, tt)) also (λ s. (refl, tt)) also (λ s. (refl, tt)) also (λ s. (refl, tt)) also
+    (λ s. (refl, tt)) also (λ s. (refl, tt)) also (λ s. (refl, tt)) also (λ s. (refl, tt)) also (λ s. (refl, tt)) also
+    (λ s. (refl, tt)) also tt
 
 all-235x : AllTold Rp235x 0 rows
 unfolding rows has nameOf nameRows
-all-235x = (
-  (λ s. (refl, tt)),
-  (
-    (λ s. (refl, tt)),
-    (
-      (λ s. (refl, tt)),
-      (
-        (λ s. (refl, tt)),
-        (
-          (λ s. (refl, tt)),
-          (
-            (λ s. (refl, tt)),
-            (
-              (λ s. (refl, tt)),
-              (
-                (λ s. (refl, tt)),
-                (
-                  (λ s. (refl, tt)),
-                  (
-                    (λ s. (refl, tt)),
-                    (
-                      (λ s. (refl, tt)),
-                      (
-                        (λ s. (refl, tt)),
-                        (
-                          (λ s. (refl, tt)),
-                          (
-                            (λ s. (refl, tt)),
-                            (
-                              (λ s. (refl, omega (arith, mod-lt (s .f0) (pow-pos 32)))),
-                              (
-                                (λ s. (refl, tt)),
-                                (
-                                  (λ s. (refl, tt)),
-                                  (
-                                    (λ s. (refl, tt)),
-                                    (
-                                      (λ s. (refl, tt)),
-                                      (
-                                        (λ s. (either (λ base. named Rp235x 1 (base + 0x4) ≡ true) 0x40058000 0x40050000 refl refl (eqb (s .f0) 1), tt)),
-                                        (
-                                          (λ s. (either (λ base. named Rp235x 1 base ≡ true) 0x40058000 0x40050000 refl refl (eqb (s .f0) 1), tt)),
-                                          (
-                                            (λ s. (either (λ base. named Rp235x 1 (base + 0x8) ≡ true) 0x40058000 0x40050000 refl refl (eqb (s .f0) 1), tt)),
-                                            (
-                                              (λ s. (either (λ base. named Rp235x 3 base ≡ true) 0x40058000 0x40050000 refl refl (eqb (s .f0) 1), tt)),
-                                              (
-                                                (λ s. (either (λ base. named Rp235x 1 (base + 0xC) ≡ true) 0x40058000 0x40050000 refl refl (eqb (s .f0) 1), tt)),
-                                                (
-                                                  (λ s. (either (λ base. named Rp235x 2 (base + 0x4) ≡ true) 0x40058000 0x40050000 refl refl (eqb (s .f0) 1), tt)),
-                                                  (
-                                                    (λ s. (refl, tt)),
-                                                    (
-                                                      (λ s. (refl, tt)),
-                                                      (
-                                                        (λ s. (refl, tt)),
-                                                        (
-                                                          (λ s. (refl, tt)),
-                                                          (
-                                                            (λ s. (refl, tt)),
-                                                            (
-                                                              (λ s. (refl, tt)),
-                                                              (
-                                                                (λ s. (refl, tt)),
-                                                                (
-                                                                  (λ s. (refl, tt)),
-                                                                  (
-                                                                    (λ s. (refl, tt)),
-                                                                    (
-                                                                      (λ s. (refl, tt)),
-                                                                      (
-                                                                        (λ s. (refl, tt)),
-                                                                        (
-                                                                          (λ s. (refl, tt)),
-                                                                          (
-                                                                            (λ s. (refl, tt)),
-                                                                            (
-                                                                              (λ s. (refl, tt)),
-                                                                              (
-                                                                                (λ s. (refl, tt)),
-                                                                                (
-                                                                                  (λ s. (refl, tt)),
-                                                                                  (
-                                                                                    (λ s. (refl, tt)),
-                                                                                    (
-                                                                                      (λ s. (refl, tt)),
-                                                                                      (
-                                                                                        (λ s. (refl, tt)),
-                                                                                        (
-                                                                                          (λ s. (refl, tt)),
-                                                                                          ((λ s. (refl, tt)), tt),
-                                                                                        ),
-                                                                                      ),
-                                                                                    ),
-                                                                                  ),
-                                                                                ),
-                                                                              ),
-                                                                            ),
-                                                                          ),
-                                                                        ),
-                                                                      ),
-                                                                    ),
-                                                                  ),
-                                                                ),
-                                                              ),
-                                                            ),
-                                                          ),
-                                                        ),
-                                                      ),
-                                                    ),
-                                                  ),
-                                                ),
-                                              ),
-                                            ),
-                                          ),
-                                        ),
-                                      ),
-                                    ),
-                                  ),
-                                ),
-                              ),
-                            ),
-                          ),
-                        ),
-                      ),
-                    ),
-                  ),
-                ),
-              ),
-            ),
-          ),
-        ),
-      ),
-    ),
-  ),
-)
+all-235x =
+    (λ s. (refl, tt)) also (λ s. (refl, tt)) also (λ s. (refl, tt)) also (λ s. (refl, tt)) also (λ s. (refl, tt)) also
+    (λ s. (refl, tt)) also (λ s. (refl, tt)) also (λ s. (refl, tt)) also (λ s. (refl, tt)) also (λ s. (refl, tt)) also
+    (λ s. (refl, tt)) also (λ s. (refl, tt)) also (λ s. (refl, tt)) also (λ s. (refl, tt)) also
+    (λ s. (refl, omega (arith, mod-lt (s .f0) (pow-pos 32)))) also
+    (λ s. (refl, tt)) also (λ s. (refl, tt)) also (λ s. (refl, tt)) also (λ s. (refl, tt)) also
+    (λ s. (either (λ base. named Rp235x 1 (base + 0x4) ≡ true) 0x40058000 0x40050000 refl refl (eqb (s .f0) 1), tt)) also
+    (λ s. (either (λ base. named Rp235x 1 base ≡ true) 0x40058000 0x40050000 refl refl (eqb (s .f0) 1), tt)) also
+    (λ s. (either (λ base. named Rp235x 1 (base + 0x8) ≡ true) 0x40058000 0x40050000 refl refl (eqb (s .f0) 1), tt)) also
+    (λ s. (either (λ base. named Rp235x 3 base ≡ true) 0x40058000 0x40050000 refl refl (eqb (s .f0) 1), tt)) also
+    (λ s. (either (λ base. named Rp235x 1 (base + 0xC) ≡ true) 0x40058000 0x40050000 refl refl (eqb (s .f0) 1), tt)) also
+    (λ s. (either (λ base. named Rp235x 2 (base + 0x4) ≡ true) 0x40058000 0x40050000 refl refl (eqb (s .f0) 1), tt)) also
+    (λ s. (refl, tt)) also (λ s. (refl, tt)) also (λ s. (refl, tt)) also (λ s. (refl, tt)) also (λ s. (refl, tt)) also
+    (λ s. (refl, tt)) also (λ s. (refl, tt)) also (λ s. (refl, tt)) also (λ s. (refl, tt)) also (λ s. (refl, tt)) also
+    (λ s. (refl, tt)) also (λ s. (refl, tt)) also (λ s. (refl, tt)) also (λ s. (refl, tt)) also (λ s. (refl, tt)) also
+    (λ s. (refl, tt)) also (λ s. (refl, tt)) also (λ s. (refl, tt)) also (λ s. (refl, tt)) also (λ s. (refl, tt)) also
+    (λ s. (refl, tt)) also tt
 
 all-told : (c : Chip) → AllTold c 0 rows
 all-told Rp2040 = all-2040

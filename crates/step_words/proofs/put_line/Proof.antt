@@ -9,4 +9,8 @@ pub put-line-spec : {M : Type 1} → statement M
 unfolding lineText
 put-line-spec = tie.close (tie.spec (λ c κs. search needs) (λ c κs. search needs) (λ c κs. search needs) (λ c κs. search needs)
     (λ c κs. search needs) (λ c κs. search needs) (λ c. search needs)
-    (λ c. let end = c .before .before in let meaning = end .before .before .before .before in let second = meaning .before .before .before .before in let bytes = second .before .before .before .before in let first = bytes .before .before .before .before in placed-append (placed-append (placed-append (placed-append (placed-append (first .before .before .before .before .put-decimal .ensures) (first .put-byte .ensures)) (bytes .put-hex .ensures)) (second .put-byte2 .ensures)) (meaning .put-meaning .ensures)) (end .put-byte3 .ensures)))
+    (λ c. let end = c .before .before in let meaning = end .before .before .before .before in let second = meaning .before
+    .before .before .before in let bytes = second .before .before .before .before in let first = bytes .before .before
+    .before .before in placed-append (placed-append (placed-append (placed-append (placed-append (first .before .before
+    .before .before .put-decimal .ensures) (first .put-byte .ensures)) (bytes .put-hex .ensures)) (second .put-byte2
+    .ensures)) (meaning .put-meaning .ensures)) (end .put-byte3 .ensures)))

@@ -9,4 +9,6 @@ pub put-register-spec : {M : Type 1} → statement M
 unfolding registerText
 put-register-spec = tie.close (tie.spec (λ c κs. search needs) (λ c κs. search needs) (λ c. search needs) (λ c κs. search needs)
     (λ c. search needs)
-    (λ c. let word = c .before .before in let name = word .before .before .before .before .before in placed-append (name .before .before .before .before .put-bytes .ensures) (placed-append (name .put-name .ensures) (word .put-word .ensures))))
+    (λ c. let word = c .before .before in let name = word .before .before .before .before .before in placed-append (name
+    .before .before .before .before .put-bytes .ensures) (placed-append (name .put-name .ensures) (word .put-word
+    .ensures))))
