@@ -6,8 +6,9 @@ ghost use mathlib.Core.Path.{_≡_};
 ghost use Prim.Native.Nat.{_+_, _*_, _≤_, _<_};
 ghost use Rattle.base.specs.Choice.{pick};
 ghost use Rattle.base.specs.Placed.{Placed};
+ghost use Rattle.meanings.specs.Rows.{rowText};
 ghost use Rattle.meanings.specs.Parts.{clockParts, coreParts};
-ghost use Rattle.meanings.specs.Differences.{maskOf, differencesOf, hasBit, partLine, differencesText};
+ghost use Rattle.meanings.specs.Differences.{maskOf, differencesOf, hasBit, partNames, partLine, differencesText};
 
 // A bit below the others: 1 where a part is not the same.
 fn with_bit(same: bool, rest: u32) -> u32
@@ -87,30 +88,37 @@ fn has_bit(mask: u32, k: u8) -> bool
     (mask >> (k as u32)) % 2 == 1
 }
 
+// The name of part k, in that order; none from 13 on.
+pub fn put_part_name(out: &mut [u8], at: usize, k: u8) -> usize
+    ensures { λ r. ⌜ Placed (now (out .entry)) at (rowText partNames k) r (now (out .exit)) ⌝ }
+{
+    put_row(
+        out,
+        at,
+        b"chip\n\
+        ring oscillator\n\
+        crystal\n\
+        system PLL\n\
+        USB PLL\n\
+        voltage code\n\
+        settling step\n\
+        reference clock\n\
+        system clock\n\
+        peripheral clock\n\
+        USB clock\n\
+        ADC clock\n\
+        RTC clock\n",
+        k,
+    )
+}
+
 // The name of part k and a newline, where its bit is set.
 fn put_part(out: &mut [u8], at: usize, mask: u32, k: u8) -> usize
     requires { ⌜ k < 32 ⌝ }
     ensures { λ r. ⌜ Placed (now (out .entry)) at (partLine mask k) r (now (out .exit)) ⌝ }
 {
     if has_bit(mask, k) {
-        let end = put_row(
-            out,
-            at,
-            b"chip\n\
-            ring oscillator\n\
-            crystal\n\
-            system PLL\n\
-            USB PLL\n\
-            voltage code\n\
-            settling step\n\
-            reference clock\n\
-            system clock\n\
-            peripheral clock\n\
-            USB clock\n\
-            ADC clock\n\
-            RTC clock\n",
-            k,
-        );
+        let end = put_part_name(out, at, k);
         return text::put_byte(out, end, b'\n');
     }
     base::least(at, out.len())

@@ -84,7 +84,7 @@ fn put_piece(out: &mut [u8], at: usize, c: u8, n: u64) -> usize
 }
 
 // The form's bytes, with the next number for each that takes one.
-fn put_form(out: &mut [u8], at: usize, form: &[u8], ns: &[u64]) -> usize
+pub fn put_form(out: &mut [u8], at: usize, form: &[u8], ns: &[u64]) -> usize
     ensures { λ r. ⌜ Placed (now (out .entry)) at (formed (now (form .entry)) (now (ns .entry))) r (now (out .exit)) ⌝ }
 {
     let mut end = base::least(at, out.len());

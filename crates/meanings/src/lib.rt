@@ -8,6 +8,8 @@ mod steps;
 
 pub use compared::differences;
 pub use compared::put_differences;
+pub use compared::put_part_name;
+pub use form::put_form;
 pub use refused::put_refusal;
 pub use rows::put_row;
 pub use steps::put_step;

@@ -16,8 +16,3 @@ formedFrom (c ∷ cs) ns i = pieceOf c (getD ns i 0) ++ formedFrom cs ns (i + pi
 
 abbrev pub formed : List ℕ → List ℕ → List ℕ
 formed form ns = formedFrom form ns 0
-
--- a number has at most 20 digits
-abbrev pub mostOf : List ℕ → ℕ
-mostOf [] = 0
-mostOf (c ∷ cs) = pick (eqb c 35) 20 1 + mostOf cs

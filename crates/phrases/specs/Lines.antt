@@ -8,12 +8,12 @@ use Rattle.chip.specs.declared.{Chip.Chip, Chip.the-variants.Rp2040, Chip.the-v
 use Rattle.config.specs.declared.{OptionRosc.OptionRosc, OptionPll.OptionPll, OptionPeri.OptionPeri, OptionAux.OptionAux}
 use Rattle.config.specs.declared.{OptionRtc.OptionRtc, RefClkConfig.RefClkConfig, SysClkSrc.SysClkSrc}
 use Rattle.settings.specs.declared.{OptionCrystal.OptionCrystal, OptionCycles.OptionCycles}
-use Rattle.plan_text.specs.Text.{chipName}
 use Rattle.phrases.specs.Form.{formed}
 use Rattle.phrases.specs.Names.{namedForm, rangeName, refName, sysName, periName, auxName}
 
 unfoldable pub chipLine : Chip → List ℕ
-chipLine chip = ascii "chip " ++ (chipName chip ++ ascii "\n")
+chipLine Rp2040 = ascii "chip rp2040\n"
+chipLine Rp235x = ascii "chip rp235x\n"
 
 unfoldable pub ringLine : OptionRosc → List ℕ
 ringLine (OptionRosc.Some r) =

@@ -1,5 +1,4 @@
 // The lines of the clocks, and of what the last release leaves out.
-use crate::form::put_bytes;
 use crate::form::put_where;
 use crate::names::put_named;
 use chip::Chip;
@@ -9,13 +8,11 @@ use config::OptionRtc;
 use config::RefClkConfig;
 use config::SysClkSrc;
 ghost use mathlib.Core.Path.{_≡_};
-ghost use Prim.Native.Nat.{_+_};
-ghost use lib.ListN.{length};
-ghost use Rattle.plan_text.specs.Put.{Put};
+ghost use Rattle.base.specs.Placed.{Placed};
 ghost use Rattle.phrases.specs.Lines.{refLine, sysLine, periLine, auxLine, rtcLine, isRp2040, noPeri, noAux, noRtc, leftOutLine};
 
 pub fn put_ref(out: &mut [u8], at: usize, hz: u32, clock: RefClkConfig) -> usize
-    ensures { λ r. ⌜ Put (now (out .entry)) at (refLine hz clock) 100 r (now (out .exit)) ⌝ }
+    ensures { λ r. ⌜ Placed (now (out .entry)) at (refLine hz clock) r (now (out .exit)) ⌝ }
 {
     let src = clock.src;
     put_named(
@@ -39,7 +36,7 @@ pub fn put_sys(
     fraction: u16,
     scale: u32,
 ) -> usize
-    ensures { λ r. ⌜ Put (now (out .entry)) at (sysLine hz src whole fraction scale) 150 r (now (out .exit)) ⌝ }
+    ensures { λ r. ⌜ Placed (now (out .entry)) at (sysLine hz src whole fraction scale) r (now (out .exit)) ⌝ }
 {
     put_named(
         out,
@@ -54,7 +51,7 @@ pub fn put_sys(
 }
 
 pub fn put_peri(out: &mut [u8], at: usize, hz: u64, peri: OptionPeri) -> usize
-    ensures { λ r. ⌜ Put (now (out .entry)) at (periLine hz peri) 80 r (now (out .exit)) ⌝ }
+    ensures { λ r. ⌜ Placed (now (out .entry)) at (periLine hz peri) r (now (out .exit)) ⌝ }
 {
     match peri {
         OptionPeri::Some(src) => put_named(
@@ -67,15 +64,15 @@ pub fn put_peri(out: &mut [u8], at: usize, hz: u64, peri: OptionPeri) -> usize
             b"\n",
             &[],
         ),
-        OptionPeri::None => put_bytes(out, at, b"peri absent\n"),
+        OptionPeri::None => text::put_bytes(out, at, b"peri absent\n"),
     }
 }
 
 // USB or ADC by its name.
 pub fn put_aux(out: &mut [u8], at: usize, name: &[u8], hz: u32, aux: OptionAux) -> usize
-    ensures { λ r. ⌜ Put (now (out .entry)) at (auxLine (now (name .entry)) hz aux) (length (now (name .entry)) + 120) r (now (out .exit)) ⌝ }
+    ensures { λ r. ⌜ Placed (now (out .entry)) at (auxLine (now (name .entry)) hz aux) r (now (out .exit)) ⌝ }
 {
-    let at = put_bytes(out, at, name);
+    let at = text::put_bytes(out, at, name);
     match aux {
         OptionAux::Some(on) => {
             let src = on.src;
@@ -90,12 +87,12 @@ pub fn put_aux(out: &mut [u8], at: usize, name: &[u8], hz: u32, aux: OptionAux) 
                 &[on.div as u64, on.phase as u64],
             )
         }
-        OptionAux::None => put_bytes(out, at, b" absent\n"),
+        OptionAux::None => text::put_bytes(out, at, b" absent\n"),
     }
 }
 
 pub fn put_rtc(out: &mut [u8], at: usize, hz: u64, rtc: OptionRtc) -> usize
-    ensures { λ r. ⌜ Put (now (out .entry)) at (rtcLine hz rtc) 150 r (now (out .exit)) ⌝ }
+    ensures { λ r. ⌜ Placed (now (out .entry)) at (rtcLine hz rtc) r (now (out .exit)) ⌝ }
 {
     match rtc {
         OptionRtc::Some(on) => {
@@ -111,7 +108,7 @@ pub fn put_rtc(out: &mut [u8], at: usize, hz: u64, rtc: OptionRtc) -> usize
                 &[on.div_int as u64, on.div_frac as u64, on.phase as u64],
             )
         }
-        OptionRtc::None => put_bytes(out, at, b"rtc absent\n"),
+        OptionRtc::None => text::put_bytes(out, at, b"rtc absent\n"),
     }
 }
 
@@ -161,14 +158,14 @@ pub fn put_left_out(
     adc: bool,
     rtc: bool,
 ) -> usize
-    ensures { λ r. ⌜ Put (now (out .entry)) at (leftOutLine old peri usb adc rtc) 80 r (now (out .exit)) ⌝ }
+    ensures { λ r. ⌜ Placed (now (out .entry)) at (leftOutLine old peri usb adc rtc) r (now (out .exit)) ⌝ }
 {
-    let at = put_bytes(out, at, b"left out of the last release:");
+    let at = text::put_bytes(out, at, b"left out of the last release:");
     let at = put_where(out, at, adc, b" adc");
     let at = put_where(out, at, !old, b" hstx");
     let at = put_where(out, at, old & rtc, b" rtc");
     let at = put_where(out, at, peri, b" spi0 spi1");
     let at = put_where(out, at, old & peri, b" uart0 uart1");
     let at = put_where(out, at, old & usb, b" usb");
-    put_bytes(out, at, b"\n")
+    text::put_bytes(out, at, b"\n")
 }

@@ -3,10 +3,10 @@ ghost use mathlib.Core.List.{[]};
 ghost use mathlib.Core.Path.{_≡_};
 ghost use Prim.Native.Nat.{_≤_};
 ghost use lib.Dec.{eqb};
-ghost use lib.ListN.{length, getD};
+ghost use lib.ListN.{getD};
 ghost use Rattle.base.specs.Choice.{pick};
-ghost use Rattle.plan_text.specs.Put.{Put};
-ghost use Rattle.phrases.specs.Form.{pieceOf, formed, mostOf};
+ghost use Rattle.base.specs.Placed.{Placed};
+ghost use Rattle.phrases.specs.Form.{pieceOf, formed};
 
 // The number at a place, 0 past the end.
 fn number_at(ns: &[u64], i: usize) -> u64
@@ -24,7 +24,7 @@ fn takes(c: u8) -> usize
 
 // A byte of a form: the number for `#`.
 fn put_piece(out: &mut [u8], at: usize, c: u8, n: u64) -> usize
-    ensures { λ r. ⌜ Put (now (out .entry)) at (pieceOf c n) (pick (eqb c 35) 20 1) r (now (out .exit)) ⌝ }
+    ensures { λ r. ⌜ Placed (now (out .entry)) at (pieceOf c n) r (now (out .exit)) ⌝ }
 {
     if c == b'#' {
         return text::put_decimal(out, at, n);
@@ -34,7 +34,7 @@ fn put_piece(out: &mut [u8], at: usize, c: u8, n: u64) -> usize
 
 // The form's bytes, with the next number for each `#`.
 pub(crate) fn put_form(out: &mut [u8], at: usize, form: &[u8], ns: &[u64]) -> usize
-    ensures { λ r. ⌜ Put (now (out .entry)) at (formed (now (form .entry)) (now (ns .entry))) (mostOf (now (form .entry))) r (now (out .exit)) ⌝ }
+    ensures { λ r. ⌜ Placed (now (out .entry)) at (formed (now (form .entry)) (now (ns .entry))) r (now (out .exit)) ⌝ }
 {
     let mut end = base::least(at, out.len());
     let mut i = 0;
@@ -48,18 +48,12 @@ pub(crate) fn put_form(out: &mut [u8], at: usize, form: &[u8], ns: &[u64]) -> us
     end
 }
 
-pub fn put_bytes(out: &mut [u8], at: usize, s: &[u8]) -> usize
-    ensures { λ r. ⌜ Put (now (out .entry)) at (now (s .entry)) (length (now (s .entry))) r (now (out .exit)) ⌝ }
-{
-    text::put_bytes(out, at, s)
-}
-
 // Only where a test holds.
 pub(crate) fn put_where(out: &mut [u8], at: usize, test: bool, s: &[u8]) -> usize
-    ensures { λ r. ⌜ Put (now (out .entry)) at (pick test (now (s .entry)) []) (length (now (s .entry))) r (now (out .exit)) ⌝ }
+    ensures { λ r. ⌜ Placed (now (out .entry)) at (pick test (now (s .entry)) []) r (now (out .exit)) ⌝ }
 {
     if test {
-        return put_bytes(out, at, s);
+        return text::put_bytes(out, at, s);
     }
     base::least(at, out.len())
 }

@@ -1,5 +1,4 @@
 // The lines of the chip, the oscillators, the PLLs, the voltage and its settling.
-use crate::form::put_bytes;
 use crate::form::put_form;
 use crate::names::put_named;
 use chip::Chip;
@@ -8,21 +7,20 @@ use config::OptionRosc;
 use settings::OptionCrystal;
 use settings::OptionCycles;
 ghost use mathlib.Core.Path.{_≡_};
-ghost use Prim.Native.Nat.{_+_};
-ghost use lib.ListN.{length};
-ghost use Rattle.plan_text.specs.Put.{Put};
+ghost use Rattle.base.specs.Placed.{Placed};
 ghost use Rattle.phrases.specs.Lines.{chipLine, ringLine, crystalLine, pllLine, millivolts, voltageLine, settlingLine};
 
 pub fn put_chip(out: &mut [u8], at: usize, chip: Chip) -> usize
-    ensures { λ r. ⌜ Put (now (out .entry)) at (chipLine chip) 12 r (now (out .exit)) ⌝ }
+    ensures { λ r. ⌜ Placed (now (out .entry)) at (chipLine chip) r (now (out .exit)) ⌝ }
 {
-    let at = put_bytes(out, at, b"chip ");
-    let at = plan_text::put_chip(out, at, chip);
-    put_bytes(out, at, b"\n")
+    match chip {
+        Chip::Rp2040 => text::put_bytes(out, at, b"chip rp2040\n"),
+        Chip::Rp235x => text::put_bytes(out, at, b"chip rp235x\n"),
+    }
 }
 
 pub fn put_ring(out: &mut [u8], at: usize, ring: OptionRosc) -> usize
-    ensures { λ r. ⌜ Put (now (out .entry)) at (ringLine ring) 300 r (now (out .exit)) ⌝ }
+    ensures { λ r. ⌜ Placed (now (out .entry)) at (ringLine ring) r (now (out .exit)) ⌝ }
 {
     match ring {
         OptionRosc::Some(on) => {
@@ -49,12 +47,12 @@ pub fn put_ring(out: &mut [u8], at: usize, ring: OptionRosc) -> usize
                 ],
             )
         }
-        OptionRosc::None => put_bytes(out, at, b"rosc absent\n"),
+        OptionRosc::None => text::put_bytes(out, at, b"rosc absent\n"),
     }
 }
 
 pub fn put_crystal(out: &mut [u8], at: usize, crystal: OptionCrystal) -> usize
-    ensures { λ r. ⌜ Put (now (out .entry)) at (crystalLine crystal) 80 r (now (out .exit)) ⌝ }
+    ensures { λ r. ⌜ Placed (now (out .entry)) at (crystalLine crystal) r (now (out .exit)) ⌝ }
 {
     match crystal {
         OptionCrystal::Some(on) => put_form(
@@ -63,15 +61,15 @@ pub fn put_crystal(out: &mut [u8], at: usize, crystal: OptionCrystal) -> usize
             b"xosc # Hz, startup # x 256 cycles\n",
             &[on.hz as u64, on.delay],
         ),
-        OptionCrystal::None => put_bytes(out, at, b"xosc absent\n"),
+        OptionCrystal::None => text::put_bytes(out, at, b"xosc absent\n"),
     }
 }
 
 // A PLL by its name.
 pub fn put_pll(out: &mut [u8], at: usize, name: &[u8], hz: u32, pll: OptionPll) -> usize
-    ensures { λ r. ⌜ Put (now (out .entry)) at (pllLine (now (name .entry)) hz pll) (length (now (name .entry)) + 160) r (now (out .exit)) ⌝ }
+    ensures { λ r. ⌜ Placed (now (out .entry)) at (pllLine (now (name .entry)) hz pll) r (now (out .exit)) ⌝ }
 {
-    let at = put_bytes(out, at, name);
+    let at = text::put_bytes(out, at, name);
     match pll {
         OptionPll::Some(on) => put_form(
             out,
@@ -85,7 +83,7 @@ pub fn put_pll(out: &mut [u8], at: usize, name: &[u8], hz: u32, pll: OptionPll) 
                 on.post_div2 as u64,
             ],
         ),
-        OptionPll::None => put_bytes(out, at, b" absent\n"),
+        OptionPll::None => text::put_bytes(out, at, b" absent\n"),
     }
 }
 
@@ -105,7 +103,7 @@ fn millivolts(chip: Chip, code: u8) -> u64
 }
 
 pub fn put_voltage(out: &mut [u8], at: usize, chip: Chip, code: u8) -> usize
-    ensures { λ r. ⌜ Put (now (out .entry)) at (voltageLine chip code) 80 r (now (out .exit)) ⌝ }
+    ensures { λ r. ⌜ Placed (now (out .entry)) at (voltageLine chip code) r (now (out .exit)) ⌝ }
 {
     put_form(
         out,
@@ -116,10 +114,10 @@ pub fn put_voltage(out: &mut [u8], at: usize, chip: Chip, code: u8) -> usize
 }
 
 pub fn put_settling(out: &mut [u8], at: usize, settling: OptionCycles) -> usize
-    ensures { λ r. ⌜ Put (now (out .entry)) at (settlingLine settling) 80 r (now (out .exit)) ⌝ }
+    ensures { λ r. ⌜ Placed (now (out .entry)) at (settlingLine settling) r (now (out .exit)) ⌝ }
 {
     match settling {
         OptionCycles::Some(n) => put_form(out, at, b"settling # cycles\n", &[n]),
-        OptionCycles::None => put_bytes(out, at, b"settling absent\n"),
+        OptionCycles::None => text::put_bytes(out, at, b"settling absent\n"),
     }
 }

@@ -1,64 +1,114 @@
-// The whole output of the program `explain` for its input.
+// A sheet in words: a line for each setting, what the last release leaves out, and the plan's numbers.
 
-use base::Number;
 use config::ClockConfig;
-use phrases::form::put_bytes;
-use read_cases::Asked;
+use config::Planned;
 use settings::Frequencies;
 use settings::Settings;
-ghost use mathlib.Core.Path.{_≡_};
-ghost use Rattle.text.specs.Output.{Printed};
-ghost use Rattle.plan_text.specs.Put.{Put};
-ghost use Rattle.base.specs.Answer.{value};
-ghost use Rattle.replies.specs.Reply.{refusedLine};
-ghost use Rattle.read_cases.specs.Reads.{sheetIn, askedIs};
-ghost use Rattle.wording.specs.Words.{sourceLines, coreLines, clockLines, planLine, wordsOf};
-ghost use Rattle.wording.specs.Explain.{sheetWords, secondLine, readingWords, explainOf};
+ghost use Prim.Native.Nat.{_≤_, _<_};
+ghost use Rattle.base.specs.Placed.{Placed};
+ghost use Rattle.replies.specs.Reply.{spaced};
+ghost use Rattle.plan_row.specs.Row.{planRow};
+ghost use Rattle.wording.specs.Words.{lineOf, settingLine, settingLines, leftOutText, planLine, wordsOf};
+ghost use Rattle.wording.specs.Words.{refusedLines, explainText};
 
-// Chip, ring, crystal and PLLs.
-fn put_sources(out: &mut [u8], plan: ClockConfig, s: Settings, f: Frequencies) -> usize
-    ensures { λ r. ⌜ Put (now (out .entry)) 0 (sourceLines plan s f) 740 r (now (out .exit)) ⌝ }
+// The line of setting k of a plan at a reading, in the order of docs/FORMAT.md, Settings that count; none from 13 on.
+pub fn put_setting(out: &mut [u8], at: usize, k: u8, plan: ClockConfig, reading: u8) -> usize
+    ensures { λ r. ⌜ Placed (now (out .entry)) at (settingLine k plan reading) r (now (out .exit)) ⌝ }
+{
+    let s = settings::settings_of(plan, reading);
+    let f = settings::frequencies_of(s);
+    if k < 7 {
+        return put_source(out, at, k, plan, s, f);
+    }
+    put_clock(out, at, k, plan, s, f)
+}
+
+// Chip, ring, crystal, PLLs, voltage and settling step: 0 to 6.
+fn put_source(
+    out: &mut [u8],
+    at: usize,
+    k: u8,
+    plan: ClockConfig,
+    s: Settings,
+    f: Frequencies,
+) -> usize
+    requires { ⌜ k < 7 ⌝ }
+    ensures { λ r. ⌜ Placed (now (out .entry)) at (lineOf k plan s f) r (now (out .exit)) ⌝ }
 {
     let board = s.board;
     let chip = board.chip;
     let ring = s.rosc;
     let crystal = s.xosc;
+    let settling = s.settling;
     let xosc = plan.xosc;
     let hz = f.sources;
-    let at = phrases::sources::put_chip(out, 0, chip);
-    let at = phrases::sources::put_ring(out, at, ring);
-    let at = phrases::sources::put_crystal(out, at, crystal);
-    let at = phrases::sources::put_pll(out, at, b"pll_sys", hz.pll_sys, plan_row::sys_pll(xosc));
-    phrases::sources::put_pll(out, at, b"pll_usb", hz.pll_usb, plan_row::usb_pll(xosc))
+    match k {
+        0 => phrases::sources::put_chip(out, at, chip),
+        1 => phrases::sources::put_ring(out, at, ring),
+        2 => phrases::sources::put_crystal(out, at, crystal),
+        3 => { phrases::sources::put_pll(out, at, b"pll_sys", hz.pll_sys, plan_row::sys_pll(xosc)) }
+        4 => { phrases::sources::put_pll(out, at, b"pll_usb", hz.pll_usb, plan_row::usb_pll(xosc)) }
+        5 => phrases::sources::put_voltage(out, at, chip, board.code),
+        _ => phrases::sources::put_settling(out, at, settling),
+    }
 }
 
-// Voltage, settling, reference and system clock.
-fn put_core(out: &mut [u8], at: usize, s: Settings, f: Frequencies) -> usize
-    ensures { λ r. ⌜ Put (now (out .entry)) at (coreLines s f) 420 r (now (out .exit)) ⌝ }
+// Reference, system, peripheral, USB, ADC and RTC clock: 7 to 12.
+fn put_clock(
+    out: &mut [u8],
+    at: usize,
+    k: u8,
+    plan: ClockConfig,
+    s: Settings,
+    f: Frequencies,
+) -> usize
+    requires { ⌜ 7 ≤ k ⌝ }
+    ensures { λ r. ⌜ Placed (now (out .entry)) at (lineOf k plan s f) r (now (out .exit)) ⌝ }
 {
     let board = s.board;
     let chip = board.chip;
     let facts = chip.facts();
-    let settling = s.settling;
+    let rtc = board.rtc;
     let reference = s.reference;
     let src = s.sys;
-    let at = phrases::sources::put_voltage(out, at, chip, board.code);
-    let at = phrases::sources::put_settling(out, at, settling);
-    let at = phrases::clocks::put_ref(out, at, f.reference, reference);
-    phrases::clocks::put_sys(
-        out,
-        at,
-        f.sys,
-        src,
-        board.whole,
-        board.fraction,
-        facts.scale,
-    )
+    let peri = s.peri;
+    let usb = s.usb;
+    let adc = s.adc;
+    match k {
+        7 => phrases::clocks::put_ref(out, at, f.reference, reference),
+        8 => phrases::clocks::put_sys(
+            out,
+            at,
+            f.sys,
+            src,
+            board.whole,
+            board.fraction,
+            facts.scale,
+        ),
+        9 => phrases::clocks::put_peri(out, at, f.peri, peri),
+        10 => phrases::clocks::put_aux(out, at, b"usb", f.usb, usb),
+        11 => phrases::clocks::put_aux(out, at, b"adc", f.adc, adc),
+        12 => phrases::clocks::put_rtc(out, at, f.rtc, rtc),
+        _ => base::least(at, out.len()),
+    }
 }
 
-// The other clocks, and what the last release leaves out.
-fn put_clocks(out: &mut [u8], at: usize, s: Settings, f: Frequencies) -> usize
-    ensures { λ r. ⌜ Put (now (out .entry)) at (clockLines s f) 560 r (now (out .exit)) ⌝ }
+// The lines of the thirteen settings.
+fn put_settings(out: &mut [u8], at: usize, plan: ClockConfig, reading: u8) -> usize
+    ensures { λ r. ⌜ Placed (now (out .entry)) at (settingLines plan reading 13) r (now (out .exit)) ⌝ }
+{
+    let mut end = base::least(at, out.len());
+    let mut k = 0u8;
+    while k < 13 {
+        end = put_setting(out, end, k, plan, reading);
+        k += 1;
+    }
+    end
+}
+
+// What the last release leaves out.
+fn put_left_out(out: &mut [u8], at: usize, s: Settings) -> usize
+    ensures { λ r. ⌜ Placed (now (out .entry)) at (leftOutText s) r (now (out .exit)) ⌝ }
 {
     let board = s.board;
     let chip = board.chip;
@@ -66,10 +116,6 @@ fn put_clocks(out: &mut [u8], at: usize, s: Settings, f: Frequencies) -> usize
     let peri = s.peri;
     let usb = s.usb;
     let adc = s.adc;
-    let at = phrases::clocks::put_peri(out, at, f.peri, peri);
-    let at = phrases::clocks::put_aux(out, at, b"usb", f.usb, usb);
-    let at = phrases::clocks::put_aux(out, at, b"adc", f.adc, adc);
-    let at = phrases::clocks::put_rtc(out, at, f.rtc, rtc);
     let old = phrases::clocks::is_rp2040(chip);
     let no_peri = phrases::clocks::no_peri(peri);
     let no_usb = phrases::clocks::no_aux(usb);
@@ -78,81 +124,51 @@ fn put_clocks(out: &mut [u8], at: usize, s: Settings, f: Frequencies) -> usize
     phrases::clocks::put_left_out(out, at, old, no_peri, no_usb, no_adc, no_rtc)
 }
 
-// The plan's numbers.
-fn put_plan(out: &mut [u8], at: usize, plan: ClockConfig) -> usize
-    ensures { λ r. ⌜ Put (now (out .entry)) at (planLine plan) 533 r (now (out .exit)) ⌝ }
+// The plan's numbers, each behind a space.
+fn put_numbers(out: &mut [u8], at: usize, plan: ClockConfig) -> usize
+    ensures { λ r. ⌜ Placed (now (out .entry)) at (spaced (planRow plan)) r (now (out .exit)) ⌝ }
 {
-    let at = put_bytes(out, at, b"plan");
-    let at = plan_text::put_numbers(out, at, plan);
-    put_bytes(out, at, b"\n")
+    let mut row = [0u32; 48];
+    let n = plan_row::put_plan(&mut row, plan);
+    replies::put_words(out, at, &row[..n])
+}
+
+// The line of these numbers.
+fn put_plan(out: &mut [u8], at: usize, plan: ClockConfig) -> usize
+    ensures { λ r. ⌜ Placed (now (out .entry)) at (planLine plan) r (now (out .exit)) ⌝ }
+{
+    let at = text::put_bytes(out, at, b"plan");
+    let at = put_numbers(out, at, plan);
+    text::put_byte(out, at, b'\n')
 }
 
 // A plan at a reading in words.
-fn put_words(out: &mut [u8], plan: ClockConfig, reading: u8) -> usize
-    ensures { λ r. ⌜ Put (now (out .entry)) 0 (wordsOf plan reading) 2300 r (now (out .exit)) ⌝ }
+fn put_words(out: &mut [u8], at: usize, plan: ClockConfig, reading: u8) -> usize
+    ensures { λ r. ⌜ Placed (now (out .entry)) at (wordsOf plan reading) r (now (out .exit)) ⌝ }
 {
-    let s = settings::settings_of(plan, reading);
-    let f = settings::frequencies_of(s);
-    let at = put_sources(out, plan, s, f);
-    let at = put_core(out, at, s, f);
-    let at = put_clocks(out, at, s, f);
+    let at = put_settings(out, at, plan, reading);
+    let at = put_left_out(out, at, settings::settings_of(plan, reading));
     put_plan(out, at, plan)
 }
 
-fn put_refused(out: &mut [u8], number: u8) -> usize
-    ensures { λ r. ⌜ Put (now (out .entry)) 0 (refusedLine number) 2300 r (now (out .exit)) ⌝ }
+// A refusal's number on a line, and its meaning on the next, behind the name of what is refused.
+pub fn put_refused(out: &mut [u8], at: usize, what: &[u8], number: u8) -> usize
+    ensures { λ r. ⌜ Placed (now (out .entry)) at (refusedLines (now (what .entry)) number) r (now (out .exit)) ⌝ }
 {
-    replies::put_refused_line(out, number)
+    let at = text::put_bytes(out, at, b"refused ");
+    let at = text::put_decimal(out, at, number as u64);
+    let at = text::put_byte(out, at, b'\n');
+    let at = text::put_bytes(out, at, what);
+    let at = meanings::put_refusal(out, at, number);
+    text::put_byte(out, at, b'\n')
 }
 
-fn put_asked(out: &mut [u8], reading: u8, asked: Asked) -> usize
-    ensures { λ r. ⌜ Put (now (out .entry)) 0 (sheetWords reading (askedIs asked)) 2300 r (now (out .exit)) ⌝ }
+// The sheet that was written at a reading, in words; or 18 or 26 with its meaning.
+pub fn explain(out: &mut [u8], at: usize, reading: u8, sheet: &[u8]) -> usize
+    ensures { λ r. ⌜ Placed (now (out .entry)) at (explainText reading (now (sheet .entry))) r (now (out .exit)) ⌝ }
 {
-    match asked {
-        Asked::Plan(plan) => put_words(out, plan, reading),
-        Asked::Refused(number) => put_refused(out, number),
-        Asked::Bad => put_refused(out, 24),
+    match readback::read_sheet(sheet, reading) {
+        Planned::Plan(plan) => put_words(out, at, plan, reading),
+        Planned::Refused(number) => put_refused(out, at, b"", number),
     }
-}
-
-// What the second line of an input says.
-fn second_sheet(reading: u8, input: &[u8]) -> Asked
-    ensures { λ r. ⌜ askedIs r ≡ sheetIn reading (secondLine (now (input .entry))) ⌝ }
-{
-    let first = text::index_from(input, 0, b'\n');
-    if input.len() <= first {
-        return read_cases::read_word(reading, b"");
-    }
-    let start = first + 1;
-    let end = text::index_from(input, start, b'\n');
-    read_cases::read_word(reading, &input[start..end])
-}
-
-// The output for an input whose first line is a number.
-fn put_reading(n: u32, input: &[u8], out: &mut [u8]) -> usize
-    ensures { λ r. ⌜ Put (now (out .entry)) 0 (readingWords (value n) (secondLine (now (input .entry)))) 2300 r (now (out .exit)) ⌝ }
-{
-    if 255 < n {
-        return put_refused(out, 24);
-    }
-    let reading = n as u8;
-    put_asked(out, reading, second_sheet(reading, input))
-}
-
-// The output for an input, and its length.
-fn put_explained(input: &[u8], out: &mut [u8]) -> usize
-    ensures { λ r. ⌜ Put (now (out .entry)) 0 (explainOf (now (input .entry))) 2300 r (now (out .exit)) ⌝ }
-{
-    match text::line_number(input) {
-        Number::Value(n) => put_reading(n, input, out),
-        Number::Refused(number) => put_refused(out, number),
-    }
-}
-
-// Writes the output for an input of which the first n bytes are known: all that it has, or as many as start holds, which
-// decide. Answers the output's length.
-pub fn explain(start: &[u8; 4109], n: usize, out: &mut [u8; 2300]) -> usize
-    ensures { λ r. ⌜ Printed explainOf (now (start .entry)) n (now (out .entry)) r (now (out .exit)) ⌝ }
-{
-    put_explained(base::first(start, n), out)
 }

@@ -1,10 +1,15 @@
 -- `wording::explain` meets its contract.
-use Rattle.wording.proofs.{Starts.explain-printed, explain.Statement.statement}
+use Rattle.wording.specs.Words.{explainText}
 use borrow.Author.Needs.{needs}
+use Rattle.wording.proofs.explain.Statement.{statement}
 use Rattle.wording.proofs.explain.Tie as tie
 
 pub explain-spec : {M : Type 1} → statement M
-explain-spec = tie.close (tie.spec (λ c κs. search needs) (λ c κs. search needs)
-    (λ c. let first = c .before .before in let args = first .before .before .args in
-    explain-printed (args .start .now) (args .n) (search needs) (search needs)
-    (rw (first .first .ensures) at (c .put-explained .ensures))))
+unfolding explainText
+explain-spec = tie.close (tie.spec (λ c κs. search needs) (λ c. search needs) (λ c κs. search needs)
+    (λ c. search needs) (λ c. search needs) (λ c κs. search needs) (λ c. search needs)
+    (λ c. let put = c .before .before in let told = put .before .before .before in
+    rw (← told .before .before .read-sheet .ensures, told .plan .given .1) (put .put-words .ensures))
+    (λ c. search needs)
+    (λ c. let put = c .before .before in let told = put .before .before .before .before in
+    rw (← told .before .before .read-sheet .ensures, told .number .given .1) (put .put-refused .ensures)))

@@ -1,19 +1,14 @@
 -- `wording::put_plan` meets its contract.
-use native.Mathlib.Omega.{arith}
-use Rattle.plan_text.proofs.Puts.{put-append, put-most}
+use Rattle.base.proofs.Placing.{placed-append}
 use Rattle.wording.specs.Words.{planLine}
 use borrow.Author.Needs.{needs}
 use Rattle.wording.proofs.put_plan.Statement.{statement}
 use Rattle.wording.proofs.put_plan.Tie as tie
 
-returns : tie.Need-returns
-unfolding planLine
-returns c =
-    let put-bytes2 = c .before .before in let put-numbers = put-bytes2 .before .before .before .before .before in
-    let put-bytes = put-numbers .before .before .before .before in
-    put-most (omega arith) (put-append (put-bytes .put-bytes .ensures) (put-append (put-numbers .put-numbers .ensures)
-    (put-bytes2 .put-bytes2 .ensures)))
-
 pub put-plan-spec : {M : Type 1} → statement M
+unfolding planLine
 put-plan-spec = tie.close (tie.spec (λ c. search needs) (λ c κs. search needs) (λ c κs. search needs)
-    (λ c. search needs) (λ c κs. search needs) (λ c. search needs) returns)
+    (λ c κs. search needs) (λ c. search needs)
+    (λ c. let byte = c .before .before in let numbers = byte .before .before .before .before in
+    placed-append (numbers .before .before .before .before .put-bytes .ensures)
+    (placed-append (numbers .put-numbers .ensures) (byte .put-byte .ensures))))

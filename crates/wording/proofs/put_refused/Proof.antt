@@ -1,15 +1,21 @@
 -- `wording::put_refused` meets its contract.
-use native.Mathlib.Omega.{arith}
-use Rattle.replies.proofs.Refused.{refused-most}
+use Rattle.base.proofs.Placing.{placed-append}
+use Rattle.wording.specs.Words.{refusedLines}
 use borrow.Author.Needs.{needs}
 use Rattle.wording.proofs.put_refused.Statement.{statement}
 use Rattle.wording.proofs.put_refused.Tie as tie
 
 returns : tie.Need-returns
+unfolding refusedLines
 returns c =
-    let put = c .before .before in let start = put .before .before .before in
-    let most = refused-most 2 (start .args .number) (omega (arith, start)) in
-    record { placed = put .put-refused-line .ensures; short = omega (arith, most) }
+    let last = c .before .before in let meaning = last .before .before .before .before in
+    let what = meaning .before .before .before .before in let line = what .before .before .before .before in
+    let number = line .before .before .before .before in
+    placed-append (number .before .before .before .before .put-bytes .ensures) (placed-append
+    (number .put-decimal .ensures) (placed-append (line .put-byte .ensures) (placed-append (what .put-bytes2 .ensures)
+    (placed-append (meaning .put-refusal .ensures) (last .put-byte2 .ensures)))))
 
 pub put-refused-spec : {M : Type 1} → statement M
-put-refused-spec = tie.close (tie.spec (λ c κs. search needs) (λ c. search needs) returns)
+put-refused-spec = tie.close (tie.spec (λ c. search needs) (λ c κs. search needs) (λ c κs. search needs)
+    (λ c κs. search needs) (λ c κs. search needs) (λ c κs. search needs) (λ c κs. search needs) (λ c. search needs)
+    returns)

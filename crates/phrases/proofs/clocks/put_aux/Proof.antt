@@ -1,6 +1,5 @@
 -- `phrases::clocks::put_aux` meets its contract.
-use native.Mathlib.Omega.{arith}
-use Rattle.plan_text.proofs.Puts.{put-append, put-most}
+use Rattle.base.proofs.Placing.{placed-append}
 use Rattle.phrases.specs.Lines.{auxLine}
 use Rattle.phrases.proofs.{Named.aux-named, clocks.put_aux.Statement.statement}
 use borrow.Author.Needs.{needs}
@@ -13,8 +12,8 @@ put-aux-spec = tie.close (tie.spec (λ c κs. search needs) (λ c. search needs)
     (λ c κs. search needs) (λ c. search needs) (λ c. search needs) (λ c κs. search needs) (λ c. search needs)
     (λ c. let put-named = c .before .before in let aux-code = put-named .before .before .before .before .before in
     let told = aux-code .before .before .before .before .before in
-    rw (told .aux .given .1, aux-named, ← aux-code .aux-code .ensures) (put-most (omega arith) (put-append
+    rw (told .aux .given .1, aux-named, ← aux-code .aux-code .ensures) ((placed-append
     (told .before .before .before .before .put-bytes .ensures) (put-named .put-named .ensures)))) (λ c. search needs)
     (λ c. let put-bytes2 = c .before .before in let told = put-bytes2 .before .before .before in
-    rw (told .enum-told .given .1) (put-most (omega arith) (put-append
+    rw (told .enum-told .given .1) ((placed-append
     (told .before .before .before .before .put-bytes .ensures) (put-bytes2 .put-bytes2 .ensures)))))

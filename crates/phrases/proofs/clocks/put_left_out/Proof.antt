@@ -1,7 +1,6 @@
 -- `phrases::clocks::put_left_out` meets its contract.
 use mathlib.Core.Path.{ap, _∙_}
-use native.Mathlib.Omega.{arith}
-use Rattle.plan_text.proofs.Puts.{put-append, put-most}
+use Rattle.base.proofs.Placing.{placed-append}
 use Rattle.phrases.specs.Lines.{leftOutLine}
 use borrow.Author.Needs.{needs}
 use lib.{ListN.length, Seq.length-sets}
@@ -18,13 +17,13 @@ returns c =
     let put-where2 = put-where3 .before .before .before .before .before in
     let put-where = put-where2 .before .before .before .before .before in
     let put-bytes = put-where .before .before .before .before .before in
-    put-most (omega arith) (put-append (put-bytes .put-bytes .ensures) (put-append (put-where .put-where .ensures)
-    (put-append (put-where2 .put-where2 .ensures) (put-append (put-where3 .put-where3 .ensures) (put-append
-    (put-where4 .put-where4 .ensures) (put-append (put-where5 .put-where5 .ensures) (put-append
+    (placed-append (put-bytes .put-bytes .ensures) (placed-append (put-where .put-where .ensures)
+    (placed-append (put-where2 .put-where2 .ensures) (placed-append (put-where3 .put-where3 .ensures) (placed-append
+    (put-where4 .put-where4 .ensures) (placed-append (put-where5 .put-where5 .ensures) (placed-append
     (put-where6 .put-where6 .ensures) (put-bytes2 .put-bytes2 .ensures))))))))
 
 same-length : tie.Need-same-length
-same-length c = ap length (returns c .placed .bytes) ∙ simp length-sets
+same-length c = ap length (returns c .bytes) ∙ simp length-sets
 
 pub put-left-out-spec : {M : Type 1} → statement M
 put-left-out-spec = tie.close (tie.spec (λ c. search needs) (λ c κs. search needs) (λ c. search needs)

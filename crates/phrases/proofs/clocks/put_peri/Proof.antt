@@ -1,6 +1,4 @@
 -- `phrases::clocks::put_peri` meets its contract.
-use native.Mathlib.Omega.{arith}
-use Rattle.plan_text.proofs.Puts.{put-most}
 use Rattle.phrases.specs.Lines.{periLine}
 use Rattle.phrases.proofs.{Named.peri-named, clocks.put_peri.Statement.statement}
 use borrow.Author.Needs.{needs}
@@ -13,8 +11,8 @@ put-peri-spec = tie.close (tie.spec (λ c. search needs) (λ c. search needs) (�
     (λ c κs. search needs) (λ c. search needs)
     (λ c. let put-named = c .before .before in let peri-aux = put-named .before .before .before in
     let told = peri-aux .before .before .before .before .before in
-    rw (told .peri .given .1, peri-named, ← peri-aux .peri-aux .ensures) (put-most (omega arith) (put-named .put-named .ensures)))
+    rw (told .peri .given .1, peri-named, ← peri-aux .peri-aux .ensures) ((put-named .put-named .ensures)))
     (λ c. search needs)
     (λ c. let put-bytes = c .before .before in
     rw (put-bytes .before .before .before .enum-told .given .1)
-    (put-most (omega arith) (put-bytes .put-bytes .ensures))))
+    ((put-bytes .put-bytes .ensures))))

@@ -1,6 +1,4 @@
 -- `phrases::clocks::put_ref` meets its contract.
-use native.Mathlib.Omega.{arith}
-use Rattle.plan_text.proofs.Puts.{put-most}
 use Rattle.phrases.specs.Lines.{refLine}
 use Rattle.phrases.proofs.{Named.ref-named, clocks.put_ref.Statement.statement}
 use borrow.Author.Needs.{needs}
@@ -12,4 +10,4 @@ put-ref-spec = tie.close (tie.spec (λ c. search needs) (λ c. search needs) (λ
     (λ c. search needs) (λ c. search needs) (λ c κs. search needs) (λ c. search needs)
     (λ c. let put-named = c .before .before in let ref-code = put-named .before .before .before .before in
     rw (ref-named (ref-code .before .before .before .before .before .args .clock .src), ← ref-code .ref-code .ensures)
-    (put-most (omega arith) (put-named .put-named .ensures))))
+    ((put-named .put-named .ensures))))

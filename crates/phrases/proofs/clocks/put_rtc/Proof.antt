@@ -1,6 +1,4 @@
 -- `phrases::clocks::put_rtc` meets its contract.
-use native.Mathlib.Omega.{arith}
-use Rattle.plan_text.proofs.Puts.{put-most}
 use Rattle.phrases.specs.Lines.{rtcLine}
 use Rattle.phrases.proofs.{Named.aux-named, clocks.put_rtc.Statement.statement}
 use borrow.Author.Needs.{needs}
@@ -14,8 +12,8 @@ put-rtc-spec = tie.close (tie.spec (λ c. search needs) (λ c. search needs) (λ
     (λ c. let put-named = c .before .before in
     let aux-code = put-named .before .before .before .before .before .before in
     let told = aux-code .before .before .before .before .before in
-    rw (told .rtc .given .1, aux-named, ← aux-code .aux-code .ensures) (put-most (omega arith) (put-named .put-named .ensures)))
+    rw (told .rtc .given .1, aux-named, ← aux-code .aux-code .ensures) ((put-named .put-named .ensures)))
     (λ c. search needs)
     (λ c. let put-bytes = c .before .before in
     rw (put-bytes .before .before .before .enum-told .given .1)
-    (put-most (omega arith) (put-bytes .put-bytes .ensures))))
+    ((put-bytes .put-bytes .ensures))))

@@ -1,6 +1,4 @@
 -- `phrases::clocks::put_sys` meets its contract.
-use native.Mathlib.Omega.{arith}
-use Rattle.plan_text.proofs.Puts.{put-most}
 use Rattle.phrases.specs.Lines.{sysLine}
 use Rattle.phrases.proofs.{Named.sys-named, clocks.put_sys.Statement.statement}
 use borrow.Author.Needs.{needs}
@@ -12,4 +10,4 @@ put-sys-spec = tie.close (tie.spec (λ c. search needs) (λ c. search needs) (λ
     (λ c. search needs) (λ c κs. search needs) (λ c. search needs)
     (λ c. let put-named = c .before .before in let sys-code = put-named .before .before .before in
     rw (sys-named (sys-code .before .before .before .before .before .args .src), ← sys-code .sys-code .ensures)
-    (put-most (omega arith) (put-named .put-named .ensures))))
+    ((put-named .put-named .ensures))))

@@ -20,7 +20,7 @@ loop-holds c = (
   omega arith,
   omega arith,
   refl,
-  record { text = []; placed = record { index = omega arith; bytes = refl }; rest = refl; room = omega arith },
+  record { text = []; placed = record { index = omega arith; bytes = refl }; rest = refl },
 )
 
 loop-again : tie.Need-loop-again Inv-loop μ-loop

@@ -5,12 +5,8 @@ use borrow.Author.Needs.{needs}
 use Rattle.phrases.proofs.form.put_where.Statement.{statement}
 use Rattle.phrases.proofs.form.put_where.Tie as tie
 
-returns-2 : tie.Need-returns-2
-returns-2 c =
-    rw (c .before .if1 .left)
-    (record { placed = record { index = omega (arith, c .least .ensures); bytes = refl }; short = omega arith })
-
 pub put-where-spec : {M : Type 1} → statement M
 put-where-spec = tie.close (tie.spec (λ c κs. search needs) (λ c. search needs)
     (λ c. rw (c .before .before .before .before .if1 .taken) (c .before .before .put-bytes .ensures))
-    (λ c κs. search needs) returns-2)
+    (λ c κs. search needs)
+    (λ c. rw (c .before .if1 .left) (record { index = omega (arith, c .least .ensures); bytes = refl })))

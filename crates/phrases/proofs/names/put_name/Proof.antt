@@ -4,8 +4,6 @@ use mathlib.Core.Path.{_≡_, refl}
 use Prim.Native.Nat.{_-_, _≤_}
 use native.Mathlib.Omega.{arith}
 use borrow.Author.Needs.{needs}
-use lib.ListN.{length-take, length-drop}
-use Rattle.plan_text.proofs.Puts.{put-most}
 use Rattle.phrases.proofs.{Commas.Begins, Commas.name-next, Commas.name-cut, names.put_name.Statement.statement}
 use Rattle.phrases.proofs.names.put_name.Tie as tie
 
@@ -23,4 +21,4 @@ put-name-spec = tie.close (tie.spec (λ out at names number start₀ i₀ start 
     let from = end .before in let loop = from .before .before in
     let all : loop .loop .i ≡ loop .before .before .before .args .number = omega arith in
     let cut = name-cut (loop .loop .inv .1) (from .least .ensures) (end .index-from2 .ensures .0) in
-    rw (← all, ← cut) (put-most (simp (length-take, length-drop) (omega arith)) (put-bytes .put-bytes .ensures))))
+    rw (← all, ← cut) (put-bytes .put-bytes .ensures)))

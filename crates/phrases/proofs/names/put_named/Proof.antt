@@ -1,6 +1,6 @@
 -- `phrases::names::put_named` meets its contract.
 use borrow.Author.Needs.{needs}
-use Rattle.plan_text.proofs.Puts.{put-append}
+use Rattle.base.proofs.Placing.{placed-append}
 use Rattle.phrases.proofs.names.put_named.Statement.{statement}
 use Rattle.phrases.proofs.names.put_named.Tie as tie
 
@@ -8,5 +8,5 @@ pub put-named-spec : {M : Type 1} → statement M
 put-named-spec = tie.close (tie.spec (λ c. search needs) (λ c κs. search needs) (λ c κs. search needs)
     (λ c κs. search needs) (λ c. search needs)
     (λ c. let put-form2 = c .before .before in let put-name = put-form2 .before .before .before .before in
-    put-append (put-name .before .before .before .before .put-form .ensures) (put-append (put-name .put-name .ensures)
+    placed-append (put-name .before .before .before .before .put-form .ensures) (placed-append (put-name .put-name .ensures)
     (put-form2 .put-form2 .ensures))))

@@ -1,6 +1,4 @@
 -- `phrases::sources::put_ring` meets its contract.
-use native.Mathlib.Omega.{arith}
-use Rattle.plan_text.proofs.Puts.{put-most}
 use Rattle.phrases.specs.Lines.{ringLine}
 use Rattle.phrases.proofs.{Named.range-named, sources.put_ring.Statement.statement}
 use borrow.Author.Needs.{needs}
@@ -17,7 +15,7 @@ put-ring-spec = tie.close (tie.spec (λ c. search needs) (λ c. search needs) (�
     let range-code = put-named .before .before .before .before .before .before .before .before .before .before .before .before in
     let told = range-code .before .before .before .before .before .before .before in
     rw (told .ring .given .1, range-named, ← range-code .range-code .ensures)
-    (put-most (omega arith) (put-named .put-named .ensures))) (λ c. search needs)
+    ((put-named .put-named .ensures))) (λ c. search needs)
     (λ c. let put-bytes = c .before .before in
     rw (put-bytes .before .before .before .enum-told .given .1)
-    (put-most (omega arith) (put-bytes .put-bytes .ensures))))
+    ((put-bytes .put-bytes .ensures))))

@@ -1,6 +1,4 @@
 -- `phrases::sources::put_voltage` meets its contract.
-use native.Mathlib.Omega.{arith}
-use Rattle.plan_text.proofs.Puts.{put-most}
 use Rattle.phrases.specs.Lines.{voltageLine}
 use borrow.Author.Needs.{needs}
 use Rattle.phrases.proofs.sources.put_voltage.Statement.{statement}
@@ -11,4 +9,4 @@ unfolding voltageLine
 put-voltage-spec = tie.close (tie.spec (λ c. search needs) (λ c κs. search needs) (λ c. search needs)
     (λ c κs. search needs) (λ c. search needs)
     (λ c. let put-form = c .before .before in
-    rw (← put-form .before .before .millivolts .ensures) (put-most (omega arith) (put-form .put-form .ensures))))
+    rw (← put-form .before .before .millivolts .ensures) ((put-form .put-form .ensures))))
