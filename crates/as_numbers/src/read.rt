@@ -8,7 +8,7 @@ ghost use Rattle.config.specs.Presets.{plannedIs};
 ghost use Rattle.as_numbers.specs.Read.{planChip, RowCall};
 
 // The number of a plan's chip.
-fn plan_chip(plan: ClockConfig) -> u64
+pub fn plan_chip(plan: ClockConfig) -> u64
     ensures { λ r. ⌜ r ≡ planChip plan ⌝ }
 {
     let on = plan.chip;

@@ -1,30 +1,108 @@
--- The answer to a line: its first word names the kind, then come the kind's numbers.
-use mathlib.Core.List.{List, []}
-use Prim.Native.Nat.{ℕ}
-use lib.{ListN.replicate, Seq.sets}
-use Rattle.text.specs.Words.{upTo}
-use Rattle.fields.specs.Fields.{Tail, ended, more, bad, Fields, behind}
+-- The cases, a row for each: its name, its letters, and what it answers.
+use mathlib.Core.{Bool.true, Bool.false, List.List, List.[], List._∷_, List._++_, Option.Option, Option.none, Option.some}
+use Prim.Native.{Nat.ℕ, Nat.zero, Nat.suc, Nat._-_, String.String}
+use lib.{Dec.ltb, ListN.length, ListN.take, ListN.drop, ListN.replicate}
+use Rattle.base.specs.{Answer.value, Choice.pick, Choice.bit}
+use Rattle.text.specs.{Ascii.ascii, Words.upTo}
+use Rattle.pll.specs.{Setting.validOf, Setting.outputOf, Search.searchOf, Usb.usbOf}
+use Rattle.speed_book.specs.Book.{crystal}
+use Rattle.margin.specs.Margin.{marginOf}
+use Rattle.divider.specs.Pio.{pioOf}
+use Rattle.up.specs.ComesUp.{longestWait}
+use Rattle.config.specs.Presets.{defaultPlan, crystalPlan, roscPlan, systemPlan, systemPlanFrom}
+use Rattle.readback.specs.Read.{readOf}
+use Rattle.fields.specs.Row.{nth, byteAt, halfAt, pllAt, tenAt}
+use Rattle.as_numbers.specs.Numbers.{answerNumber, itself, chipNumbered, onChip, voltageNumber, dividerNumbered, gpoutNumber}
 use Rattle.replies.specs.Reply.{badCase}
-use Rattle.kinds.specs.declared.Kind.{Kind}
-use Rattle.kinds.specs.Kinds.{numbersOf, kindNamed}
-use Rattle.cases.specs.Texts.{textOf}
+use Rattle.words.specs.Words.{State, stateOf, given}
+use Rattle.cases.specs.Table.{linesOf, named, lettersOf}
+use Rattle.cases.specs.Say.{oneText, foundText, marginText, levelText, planText, plannedText}
+use Rattle.cases.specs.Calls.{chipAt, listText, manualText, sheetText, startText, runText, benchStartText, benchRunText, changeText}
 
--- by what stands behind the numbers
-abbrev pub tailText : Tail → Kind → List ℕ → List ℕ
-tailText ended kind n = textOf kind n []
-tailText (more word) kind n = textOf kind n word
-tailText bad kind n = badCase
+pub record Case (A : Type 0) : Type 0 where
+  pub words : List ℕ
+  pub text : A → List ℕ
 
--- the numbers stand in a row of 64, with zeros behind them
-abbrev pub inRow : Fields → List ℕ
-inRow f = sets (replicate 64 0) 0 (f .numbers)
+abbrev pub row : {A : Type 0} → String → (A → List ℕ) → Case A
+row words text = record { words = ascii words; text = text }
 
-abbrev pub fieldsText : Kind → Fields → List ℕ
-fieldsText kind f = tailText (f .tail) kind (inRow f)
+-- from the numbers n
+abbrev pub plainRows : List (Case (List ℕ))
+plainRows =
+    -- INPUT REFDIV FBDIV POST1 POST2
+    row "valid wbhbb" (λ n. oneText (bit (validOf (pllAt n 1) (nth n 0))))
+    ∷ row "output wbhbb" (λ n. oneText (answerNumber itself (outputOf (pllAt n 1) (nth n 0))))
+    -- INPUT TARGET
+    ∷ row "search ww" (λ n. foundText (searchOf (nth n 0) (nth n 1)))
+    -- CRYSTAL, TARGET
+    ∷ row "usb_pll w" (λ n. foundText (usbOf (nth n 0)))
+    ∷ row "book w" (λ n. foundText (searchOf crystal (nth n 0)))
+    -- INPUT TARGET
+    ∷ row "margin ww" (λ n. marginText (marginOf (nth n 0) (nth n 1)))
+    -- CHIP READING
+    ∷ row "voltage fb" (λ n. levelText (onChip (λ on. voltageNumber on (byteAt n 1)) (chipNumbered (byteAt n 0))))
+    -- SYSTEM TARGET
+    ∷ row "pio ww" (λ n. oneText (answerNumber itself (pioOf (nth n 0) (nth n 1))))
+    -- CHIP SOURCE WHOLE FRACTION F0 to F9
+    ∷ row "gpout fbwhwwwwwwwwww"
+    (λ n. oneText (gpoutNumber (dividerNumbered (nth n 2) (halfAt n 3) (chipNumbered (byteAt n 0))) (byteAt n 1) (tenAt n 4)))
+    -- POLLS
+    ∷ row "wait w" (λ n. oneText (longestWait (nth n 0)))
+    ∷ row "list wwr" listText
+    -- CHIP, and what the preset takes
+    ∷ row "crystal fw" (λ n. planText (crystalPlan (chipAt n) (nth n 1)))
+    ∷ row "rosc f" (λ n. planText (roscPlan (chipAt n)))
+    ∷ row "default f" (λ n. planText (defaultPlan (chipAt n)))
+    ∷ row "system fw" (λ n. plannedText (systemPlan (chipAt n) (nth n 1)))
+    ∷ row "system_from fww" (λ n. plannedText (systemPlanFrom (chipAt n) (nth n 1) (nth n 2)))
+    ∷ row "manual wbhbbb" manualText ∷ []
 
--- a line is a kind's name, and what stands behind it
-unfoldable pub fieldsOf : List ℕ → Fields
-fieldsOf line = numbersOf (kindNamed (upTo 32 line)) (behind line)
+-- SHEET, the first word
+abbrev pub sheetOf : State → List ℕ
+sheetOf s = take (nth (s .row) 0) (s .sheet)
 
+-- from the numbers and the bytes of the words of hex
+abbrev pub callRows : List (Case State)
+callRows =
+    row "sheet brfwwwwwwwwwwwwwwwwwwwwwwwwwwwwwwwwwwwwwwwwwwwooooo" (λ s. sheetText (s .row) (s .count))
+    -- SHEET READING
+    ∷ row "read xb" (λ s. plannedText (readOf (sheetOf s) (byteAt (s .row) 1)))
+    ∷ row "start xkwwwwwwwwwwwwwww" (λ s. startText (s .row) (s .kept) (sheetOf s))
+    ∷ row "run xkfwwwwwwwwwwwwwww" (λ s. runText (s .row) (s .kept) (sheetOf s))
+    ∷ row "bench_start xkbwwwwwwwwwwwwwwwwwwwwwwwwwwwwwwwwwwwwwwwwwwwwwwwwwwwwwwwwwwwwwwwwwwwwwwwwwwwwwwwwwwwwwwwwwwwwwwwwwwwwwwwwwwwwwwwww" (λ s. benchStartText (s .row) (s .kept) (sheetOf s))
+    ∷ row "bench_run xkbfwwwwwwwwwwwwwwwwwwwwwwwwwwwwwwwwwwwwwwwwwwwwwwwwwwwwwwwwwwwwwwwwwwwwwwwwwwwwwwwwwwwwwwwwwwwwwwwwwwwwwwwwwwwwwwwww" (λ s. benchRunText (s .row) (s .kept) (sheetOf s))
+    ∷ row "sleep bwwwwwwwwwwwwwwwwwwwwwwwwwwwwwwwwwwwwwwwwwwwwwwwwwwwwwwwwwww" (λ s. changeText false (s .row))
+    ∷ row "wake bwwwwwwwwwwwwwwwwwwwwwwwwwwwwwwwwwwwwwwwwwwwwwwwwwwwwwwwwwww" (λ s. changeText true (s .row)) ∷ []
+
+abbrev pub textAt : {A : Type 0} → List (Case A) → ℕ → A → List ℕ
+textAt [] k a = badCase
+textAt (c ∷ cs) zero a = c .text a
+textAt (c ∷ cs) (suc k) a = textAt cs k a
+
+abbrev pub wordsIn : {A : Type 0} → List (Case A) → List (List ℕ)
+wordsIn [] = []
+wordsIn (c ∷ cs) = c .words ∷ wordsIn cs
+
+unfoldable pub rows : List (List ℕ)
+rows = wordsIn plainRows ++ wordsIn callRows
+
+abbrev pub caseText : ℕ → State → List ℕ
+caseText k s = pick (ltb k 17) (textAt plainRows k (s .row)) (textAt callRows (k - 17) s)
+
+-- a line of which a word is not what its letter asks for is no case
+abbrev pub readText : ℕ → Option State → List ℕ
+readText k (some s) = caseText k s
+readText k none = badCase
+
+unfoldable pub lineText : ℕ → List ℕ → List ℕ → ℕ → List ℕ
+lineText k letters line at = readText k (given line letters at (stateOf 0 (replicate 128 0) (replicate 528 0) (replicate 2048 0)))
+
+abbrev pub rowAt : List (List ℕ) → List ℕ
+rowAt [] = []
+rowAt (r ∷ rs) = r
+
+-- the row of the line's first word, and the words behind it
 unfoldable pub answerTo : List ℕ → List ℕ
-answerTo line = fieldsText (kindNamed (upTo 32 line)) (fieldsOf line)
+answerTo line =
+    let k = named (upTo 32 line) rows in
+    lineText k (lettersOf (rowAt (drop k rows))) line (length (upTo 32 line))

@@ -1,104 +1,168 @@
-// Cases as text: a line in, its answer out.
-mod lists;
+// Cases as text: a line in, the answer to it out.
+mod calls;
+mod say;
+mod table;
 
-use chip::Chip;
-use fields::Rest;
-use kinds::ChipKind;
-use kinds::Kind;
-use kinds::PlainKind;
-use kinds::WordedKind;
+use as_numbers::numbers;
+use calls::chip_at;
+use config::ClockConfig;
+use fields::byte_at;
+use say::put_found;
+use say::put_one;
+use say::put_plan;
+use say::put_planned;
+use step::MAX_BYTES;
+use words::Words;
+ghost use mathlib.Core.Path.{_≡_};
+ghost use Prim.Native.Nat.{_≤_, _<_};
 ghost use Rattle.base.specs.Placed.{Placed};
-ghost use Rattle.fields.specs.Fields.{tailAt};
-ghost use Rattle.kinds.specs.Kinds.{numbersOf};
-ghost use Rattle.cases.specs.Texts.{plainText, chipText, wordedText, textOf};
-ghost use Rattle.cases.specs.Cases.{tailText, fieldsText, answerTo};
+ghost use Rattle.words.specs.Words.{stateOf};
+ghost use Rattle.cases.specs.Cases.{plainRows, callRows, textAt, caseText, lineText, answerTo};
 
-// The answer of a kind to its numbers n.
-fn put_plain(kind: PlainKind, n: &[u32; 64], out: &mut [u8]) -> usize
-    ensures { λ r. ⌜ Placed (now (out .entry)) 0 (plainText kind (now (n .entry))) r (now (out .exit)) ⌝ }
+// The cases of numbers alone, in the order of the table.
+fn put_numbers(k: usize, n: &[u32; 128], out: &mut [u8]) -> usize
+    requires { ⌜ k < 11 ⌝ }
+    ensures { λ x. ⌜ Placed (now (out .entry)) 0 (textAt plainRows k (now (n .entry))) x (now (out .exit)) ⌝ }
 {
-    match kind {
-        PlainKind::Valid => number_cases::put_valid(n, out),
-        PlainKind::Output => number_cases::put_output(n, out),
-        PlainKind::Search => number_cases::put_search(n, out),
-        PlainKind::UsbPll => number_cases::put_usb_pll(n, out),
-        PlainKind::Book => number_cases::put_book(n, out),
-        PlainKind::Margin => number_cases::put_margin(n, out),
-        PlainKind::Settings => lists::put_list(n, out),
-        PlainKind::Pio => number_cases::put_pio(n, out),
-        PlainKind::Manual => sheet_cases::put_manual(n, out),
-        PlainKind::Sleep => sleep_cases::put_sleep(n, out),
-        PlainKind::Wake => sleep_cases::put_wake(n, out),
+    match k {
+        0 => put_one(out, base::bit(fields::pll_at(n, 1).is_valid(n[0])) as u64),
+        1 => put_one(
+            out,
+            numbers::number(fields::pll_at(n, 1).output_frequency(n[0])),
+        ),
+        2 => put_found(out, pll::find_pll_params(n[0], n[1])),
+        3 => put_found(out, pll::usb::find_usb_pll(n[0])),
+        4 => put_found(out, speed_book::lookup(n[0])),
+        5 => say::put_margin(out, margin::target_margin(n[0], n[1])),
+        6 => say::put_level(
+            out,
+            export::dizbaral_core_voltage(byte_at(n, 0), byte_at(n, 1)),
+        ),
+        7 => put_one(out, export::dizbaral_pio_divider(n[0], n[1])),
+        8 => {
+            let freqs = fields::ten_at(n, 4);
+            let fraction = fields::half_at(n, 3);
+            put_one(
+                out,
+                export::dizbaral_gpout_frequency(
+                    byte_at(n, 0),
+                    byte_at(n, 1),
+                    n[2],
+                    fraction,
+                    &freqs,
+                ),
+            )
+        }
+        9 => put_one(out, up::longest_wait(n[0]) as u64),
+        _ => calls::put_list(n, out),
     }
 }
 
-// The same on a chip.
-fn put_on_chip(chip: Chip, kind: ChipKind, n: &[u32; 64], out: &mut [u8]) -> usize
-    ensures { λ r. ⌜ Placed (now (out .entry)) 0 (chipText chip kind (now (n .entry))) r (now (out .exit)) ⌝ }
+// The presets: the chip, then the preset's numbers.
+fn put_presets(k: usize, n: &[u32; 128], out: &mut [u8]) -> usize
+    requires { ⌜ (11 ≤ k) × (k < 17) ⌝ }
+    ensures { λ x. ⌜ Placed (now (out .entry)) 0 (textAt plainRows k (now (n .entry))) x (now (out .exit)) ⌝ }
 {
-    match kind {
-        ChipKind::Voltage => number_cases::put_voltage(chip, n, out),
-        ChipKind::Gpout => number_cases::put_gpout(chip, n, out),
-        ChipKind::Sheet => sheet_cases::put_plan_sheet(chip, n, out),
-        ChipKind::Crystal => sheet_cases::put_crystal(chip, n, out),
-        ChipKind::Rosc => sheet_cases::put_rosc(chip, n, out),
-        ChipKind::Default => sheet_cases::put_default(chip, n, out),
-        ChipKind::System => sheet_cases::put_system(chip, n, out),
-        ChipKind::SystemFrom => sheet_cases::put_system_from(chip, n, out),
+    match k {
+        11 => put_plan(out, ClockConfig::crystal(chip_at(n), n[1])),
+        12 => put_plan(out, ClockConfig::rosc(chip_at(n))),
+        13 => put_plan(out, ClockConfig::default(chip_at(n))),
+        14 => put_planned(out, ClockConfig::system_freq(chip_at(n), n[1])),
+        15 => put_planned(out, ClockConfig::system_freq_from(chip_at(n), n[1], n[2])),
+        _ => calls::put_manual(n, out),
     }
 }
 
-// The answer to the numbers and the words behind them.
-fn put_worded(kind: WordedKind, n: &[u32; 64], word: &[u8], out: &mut [u8]) -> usize
-    ensures { λ r. ⌜ Placed (now (out .entry)) 0 (wordedText kind (now (n .entry)) (now (word .entry))) r (now (out .exit)) ⌝ }
+// The cases of numbers and words of hex, of which the first is SHEET.
+fn put_called(
+    k: usize,
+    n: &[u32; 128],
+    count: usize,
+    kept: &[u8; MAX_BYTES],
+    bytes: &[u8; 2048],
+    out: &mut [u8],
+) -> usize
+    ensures { λ x. ⌜ Placed (now (out .entry)) 0 (textAt callRows k (stateOf count (now (n .entry)) (now (kept .entry)) (now (bytes .entry)))) x (now (out .exit)) ⌝ }
 {
-    match kind {
-        WordedKind::Run => run_cases::put_run(n, word, out),
-        WordedKind::Start => run_cases::put_start(n, word, out),
-        WordedKind::Bench => bench_cases::put_bench(word, out),
-        WordedKind::Read => read_cases::put_read(n, word, out),
+    let sheet = base::first(bytes, base::wide(n[0]) as usize);
+    match k {
+        0 => calls::put_sheet(n, count, out),
+        1 => put_planned(out, readback::read_sheet(sheet, byte_at(n, 1))),
+        2 => calls::put_start(n, kept, sheet, out),
+        3 => calls::put_run(n, kept, sheet, out),
+        4 => calls::put_bench_start(n, kept, sheet, out),
+        5 => calls::put_bench_run(n, kept, sheet, out),
+        6 => calls::put_change(false, n, out),
+        7 => calls::put_change(true, n, out),
+        _ => replies::put_bad(out),
     }
 }
 
-// The answer of a kind to its numbers n and what stands behind them.
-fn put_case(kind: Kind, n: &[u32; 64], word: &[u8], out: &mut [u8]) -> usize
-    ensures { λ r. ⌜ Placed (now (out .entry)) 0 (textOf kind (now (n .entry)) (now (word .entry))) r (now (out .exit)) ⌝ }
+fn put_case(
+    k: usize,
+    n: &[u32; 128],
+    count: usize,
+    kept: &[u8; MAX_BYTES],
+    bytes: &[u8; 2048],
+    out: &mut [u8],
+) -> usize
+    ensures { λ x. ⌜ Placed (now (out .entry)) 0 (caseText k (stateOf count (now (n .entry)) (now (kept .entry)) (now (bytes .entry)))) x (now (out .exit)) ⌝ }
 {
-    match kind {
-        Kind::Plain(plain) => put_plain(plain, n, out),
-        Kind::OnChip(chip, on_chip) => put_on_chip(chip, on_chip, n, out),
-        Kind::Worded(worded) => put_worded(worded, n, word, out),
-        Kind::Unknown => replies::put_bad(out),
+    if k < 11 {
+        return put_numbers(k, n, out);
     }
+    if k < 17 {
+        return put_presets(k, n, out);
+    }
+    put_called(k - 17, n, count, kept, bytes, out)
 }
 
-// The answer by what stands behind the numbers, whose last word ends at `end`.
-fn put_tail(kind: Kind, n: &[u32; 64], line: &[u8], end: usize, out: &mut [u8]) -> usize
-    ensures { λ r. ⌜ Placed (now (out .entry)) 0 (tailText (tailAt (now (line .entry)) end) kind (now (n .entry))) r (now (out .exit)) ⌝ }
+// The answer to a line whose name ends at `at`, by a row of the table.
+fn put_line(k: usize, letters: &[u8], line: &[u8], at: usize, out: &mut [u8]) -> usize
+    ensures { λ x. ⌜ Placed (now (out .entry)) 0 (lineText k (now (letters .entry)) (now (line .entry)) at) x (now (out .exit)) ⌝ }
 {
-    if end < line.len() {
-        let start = end + 1;
-        return put_case(kind, n, &line[start..], out);
-    }
-    put_case(kind, n, b"", out)
-}
-
-// The answer to a case of a kind whose name ends at `at`.
-fn put_kind(kind: Kind, line: &[u8], at: usize, out: &mut [u8]) -> usize
-    ensures { λ r. ⌜ Placed (now (out .entry)) 0 (fieldsText kind (numbersOf kind (tailAt (now (line .entry)) at))) r (now (out .exit)) ⌝ }
-{
-    let mut n = [0u32; 64];
-    match kinds::read(kind, line, at, &mut n) {
-        Rest::At(end) => put_tail(kind, &n, line, end, out),
-        Rest::Bad => replies::put_bad(out),
+    let mut n = [0u32; 128];
+    let mut kept = [0u8; MAX_BYTES];
+    let mut sheet = [0u8; 2048];
+    match words::read(letters, line, at, &mut n, &mut kept, &mut sheet) {
+        Words::Read(count) => put_case(k, &n, count, &kept, &sheet, out),
+        Words::Bad => replies::put_bad(out),
     }
 }
 
 // Answers a line: the answer is put at the buffer's start, and the index past it is returned.
 pub fn answer(line: &[u8], out: &mut [u8]) -> usize
-    ensures { λ r. ⌜ Placed (now (out .entry)) 0 (answerTo (now (line .entry))) r (now (out .exit)) ⌝ }
+    ensures { λ x. ⌜ Placed (now (out .entry)) 0 (answerTo (now (line .entry))) x (now (out .exit)) ⌝ }
 {
+    // f a flag, b 8 bits, h 16 bits, r a room, w and o 32 bits, from o on the words may be absent; x and k are hex
+    let table = b"valid wbhbb
+output wbhbb
+search ww
+usb_pll w
+book w
+margin ww
+voltage fb
+pio ww
+gpout fbwhwwwwwwwwww
+wait w
+list wwr
+crystal fw
+rosc f
+default f
+system fw
+system_from fww
+manual wbhbbb
+sheet brfwwwwwwwwwwwwwwwwwwwwwwwwwwwwwwwwwwwwwwwwwwwooooo
+read xb
+start xkwwwwwwwwwwwwwww
+run xkfwwwwwwwwwwwwwww
+bench_start xkbwwwwwwwwwwwwwwwwwwwwwwwwwwwwwwwwwwwwwwwwwwwwwwwwwwwwwwwwwwwwwwwwwwwwwwwwwwwwwwwwwwwwwwwwwwwwwwwwwwwwwwwwwwwwwwwww
+bench_run xkbfwwwwwwwwwwwwwwwwwwwwwwwwwwwwwwwwwwwwwwwwwwwwwwwwwwwwwwwwwwwwwwwwwwwwwwwwwwwwwwwwwwwwwwwwwwwwwwwwwwwwwwwwwwwwwwwww
+sleep bwwwwwwwwwwwwwwwwwwwwwwwwwwwwwwwwwwwwwwwwwwwwwwwwwwwwwwwwwww
+wake bwwwwwwwwwwwwwwwwwwwwwwwwwwwwwwwwwwwwwwwwwwwwwwwwwwwwwwwwwww
+";
     let at = text::index_from(line, 0, b' ');
-    let kind = kinds::named(&line[..at]);
-    put_kind(kind, line, at, out)
+    let row = table::find(table, &line[..at]);
+    let letters = table::letters(table, row.at);
+    put_line(row.number, letters, line, at, out)
 }

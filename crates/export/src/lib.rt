@@ -1,7 +1,7 @@
 // The product for programs in C and Rust: numbers and slices alone. Each answer is one number, by as_numbers/specs/Numbers.
-mod bench;
-mod read;
-mod slots;
+pub mod bench;
+pub mod read;
+pub mod slots;
 
 use as_numbers::numbers;
 use as_numbers::numbers::OptionChip;

@@ -1,53 +1,62 @@
--- A text that comes in pieces: one answer a line, in the order of the lines; a last line without a newline counts.
-use mathlib.Core.{Path._≡_, Bool.Bool, Bool.true, Bool.false, List.List, List.[], List._∷_, List._++_}
-use Prim.Native.Nat.{ℕ, suc, _≤_, _<_}
-use lib.{Dec.ltb, ListN.length, ListN.take}
-use Rattle.base.specs.{Choice.pick, Placed.Placed}
-use Rattle.text.specs.Words.{upTo}
+-- A text that comes in pieces: one answer a line, in the order of the lines.
+use mathlib.Core.{Path._≡_, Bool.Bool, List.List, List.[], List._∷_, List._++_}
+use Prim.Native.Nat.{ℕ, _+_, _≤_, _<_}
+use lib.{Dec.eqb, Dec.ltb, ListN.length, ListN.take, ListN.set, Seq.sets}
+use Rattle.base.specs.{Choice.pick, Placed.past}
 use Rattle.replies.specs.Reply.{badCase}
 use Rattle.cases.specs.Cases.{answerTo}
-use Rattle.lines.specs.declared.Taken.{Taken}
+use Rattle.lines.specs.declared.Fed.{Fed}
 
--- a buffer holds what came of a line: all of it, or that it is longer than the buffer
-pub record Holds (held : List ℕ) (len : ℕ) (over : Bool) (line : List ℕ) : Type 0 where
-  pub too-long : over ≡ ltb (length held) (length line)
-  pub kept : over ≡ false → (len ≡ length line) × (take len held ≡ line)
+-- what is held of a line: its bytes at the start of a buffer of 4096, and how many; more than 4096 were too many
+pub record Held : Type 0 where
+  pub bytes : List ℕ
+  pub len : ℕ
 
--- the answer to a line, and a newline; a line that is longer than the buffer is no case
-abbrev pub lineText : ℕ → List ℕ → List ℕ
-lineText room line = pick (ltb room (length line)) badCase (answerTo line) ++ (10 ∷ [])
+abbrev pub heldOf : List ℕ → ℕ → Held
+heldOf bytes len = record { bytes = bytes; len = len }
 
--- a line is answered, or nothing is written
-abbrev pub AnsweredIf : Bool → ℕ → List ℕ → List ℕ → ℕ → List ℕ → Type 0
-AnsweredIf true room line before r after = Placed before 0 (lineText room line) r after
-AnsweredIf false room line before r after = (r ≡ 0) × (after ≡ before)
+-- the answer to the line held, and a newline; a line that is too long is no case
+unfoldable pub heldText : Held → List ℕ
+heldText s = pick (ltb 4096 (s .len)) badCase (answerTo (take (s .len) (s .bytes))) ++ (10 ∷ [])
 
--- whether a text has a newline
-abbrev pub closes : List ℕ → Bool
-closes text = ltb (length (upTo 10 text)) (length text)
+-- a byte more of the line; a newline closes it, and the next begins
+abbrev pub pushed : Held → ℕ → Held
+pushed s b = pick (ltb (s .len) 4096) (heldOf (set (s .bytes) (s .len) b) (s .len + 1)) (heldOf (s .bytes) 4097)
 
--- the call that took a text: the line goes on up to the newline, which closes it; then it is answered, and the next begins
-pub record Taking (line text held : List ℕ) (r : Taken) (held′ out out′ : List ℕ) : Type 0 where
-  pub used : r .used ≡ pick (closes text) (suc (length (upTo 10 text))) (length text)
-  pub holds : Holds held′ (r .len) (r .over) (pick (closes text) [] (line ++ upTo 10 text))
-  pub answer : AnsweredIf (closes text) (length held) (line ++ upTo 10 text) out (r .answer) out′
+unfoldable pub fed : Held → ℕ → Held
+fed s b = pick (eqb b 10) (heldOf (s .bytes) 0) (pushed s b)
 
--- whether something came of a line
-abbrev pub lineBegun : List ℕ → Bool
-lineBegun [] = false
-lineBegun (c ∷ cs) = true
+unfoldable pub feeds : Held → List ℕ → Held
+feeds s [] = s
+feeds s (b ∷ bs) = feeds (fed s b) bs
 
--- what the two calls promise of every line that the buffer holds
-abbrev pub Takes : List ℕ → ℕ → Bool → List ℕ → Taken → List ℕ → List ℕ → List ℕ → Type 0
-Takes held len over text r held′ out out′ =
-    (line : List ℕ) → Holds held len over line → Taking line text held r held′ out out′
+-- the buffer of the answers: a newline has the line held answered from its start on, another byte changes nothing
+unfoldable pub fedOut : Held → List ℕ → ℕ → List ℕ
+fedOut s out b = pick (eqb b 10) (sets out 0 (heldText s)) out
 
-abbrev pub Ends : List ℕ → ℕ → Bool → List ℕ → ℕ → List ℕ → Type 0
-Ends held len over out r out′ =
-    (line : List ℕ) → Holds held len over line → AnsweredIf (lineBegun line) (length held) line out r out′
+unfoldable pub feedsOut : Held → List ℕ → List ℕ → List ℕ
+feedsOut s out [] = out
+feedsOut s out (b ∷ bs) = feedsOut (fed s b) (fedOut s out b) bs
 
--- at every state: some of a text is used, and the answer is in the buffer
-pub record Within (text : List ℕ) (r : Taken) (out : List ℕ) : Type 0 where
-  pub used : r .used ≤ length text
-  pub moves : 0 < length text → 0 < r .used
-  pub answer : r .answer ≤ length out
+-- the call that took a byte; the answer ends behind its newline, or at the buffer's end
+pub record Feeding (s : Held) (b : ℕ) (out : List ℕ) (r : Fed) (held′ out′ : List ℕ) : Type 0 where
+  pub held : heldOf held′ (r .len) ≡ fed s b
+  pub answer : r .answer ≡ pick (eqb b 10) (past out 0 (heldText s)) 0
+  pub inside : r .answer ≤ length out
+  pub buffer : out′ ≡ fedOut s out b
+
+-- a line is held as it is: what is held of up to 4096 bytes that are no newlines, whatever was in the buffer before, is
+-- answered as those bytes; a longer line is no case
+abbrev pub NoNewline : List ℕ → Type 0
+NoNewline [] = Unit {0}
+NoNewline (b ∷ bs) = (b ≡ 10 → ⊥) × NoNewline bs
+
+abbrev pub FedLine : Type 0
+FedLine =
+    (line before : List ℕ) → NoNewline line → length before ≡ 4096 → length line ≤ 4096
+    → heldText (feeds (heldOf before 0) line) ≡ answerTo line ++ (10 ∷ [])
+
+abbrev pub FedTooMuch : Type 0
+FedTooMuch =
+    (line before : List ℕ) → NoNewline line → 4096 < length line
+    → heldText (feeds (heldOf before 0) line) ≡ badCase ++ (10 ∷ [])

@@ -1,83 +1,83 @@
-// Lines gathered from pieces of a text, and the answer to each.
-ghost use Prim.Native.Nat.{_≤_};
-ghost use lib.ListN.{length};
+// Lines gathered byte by byte from pieces of a text of any size, and the answer to each on standard output.
+use libc::STDIN_FILENO;
+use libc::STDOUT_FILENO;
+ghost use mathlib.Core.Path.{_≡_};
 ghost use Rattle.base.specs.Placed.{Placed};
-ghost use Rattle.lines.specs.Held.{Holding, heldText};
-ghost use Rattle.lines.specs.Lines.{Takes, Ends, Within};
+ghost use Rattle.lines.specs.Lines.{heldOf, heldText, pushed, feeds, feedsOut, Feeding};
 
-// What is held of a line: how many bytes, whether there were more than the buffer holds, and how many bytes of the
-// last text were the line's.
-pub struct Held {
+// How many bytes of a line are held after a byte, 4097 for a line of more than 4096; and how long the answer is, 0 for none.
+pub struct Fed {
     pub len: usize,
-    pub over: bool,
-    pub used: usize,
-}
-
-// What is held after a text was taken, how many bytes of it were used, and how long the answer is, 0 for none.
-pub struct Taken {
-    pub len: usize,
-    pub over: bool,
-    pub used: usize,
     pub answer: usize,
 }
 
-// Adds a text's bytes, up to its newline or its end, to the `len` bytes held.
-fn hold(held: &mut [u8], len: usize, over: bool, text: &[u8]) -> Held
-    ensures { λ r. ⌜ Holding (now (held .entry)) len over (now (text .entry)) r (now (held .exit)) ⌝ }
+// A byte more of a line.
+fn push(held: &mut [u8; 4096], len: usize, b: u8) -> usize
+    ensures { λ r. ⌜ heldOf (now (held .exit)) r ≡ pushed (heldOf (now (held .entry)) len) b ⌝ }
 {
-    let used = text::index_from(text, 0, b'\n');
-    let room = base::less(held.len(), len);
-    let next = text::put_bytes(held, len, &text[..used]);
-    Held {
-        len: next,
-        over: over | (room < used),
-        used,
+    if len < 4096 {
+        held[len] = b;
+        return len + 1;
     }
+    4097
 }
 
 // Answers the line held, and closes the answer with a newline.
-fn answer_held(held: &[u8], len: usize, over: bool, out: &mut [u8]) -> usize
-    ensures { λ r. ⌜ Placed (now (out .entry)) 0 (heldText (now (held .entry)) len over) r (now (out .exit)) ⌝ }
+fn answer(held: &[u8], len: usize, out: &mut [u8]) -> usize
+    ensures { λ r. ⌜ Placed (now (out .entry)) 0 (heldText (heldOf (now (held .entry)) len)) r (now (out .exit)) ⌝ }
 {
-    if over | (held.len() < len) {
+    if 4096 < len {
         let bad = replies::put_bad(out);
         return text::put_byte(out, bad, b'\n');
     }
-    let end = cases::answer(&held[..len], out);
+    let end = cases::answer(base::first(held, len), out);
     text::put_byte(out, end, b'\n')
 }
 
-// Takes a text up to its first newline or its end. A newline closes the line held, which is then answered.
-pub fn next(held: &mut [u8], len: usize, over: bool, text: &[u8], out: &mut [u8]) -> Taken
-    ensures { λ r. ⌜ Takes (now (held .entry)) len over (now (text .entry)) r (now (held .exit)) (now (out .entry)) (now (out .exit)) ⌝ }
-    ensures { λ r. ⌜ Within (now (text .entry)) r (now (out .entry)) ⌝ }
+// Takes a byte. A newline closes the line held, which is then answered.
+fn feed(held: &mut [u8; 4096], len: usize, b: u8, out: &mut [u8]) -> Fed
+    ensures { λ r. ⌜ Feeding (heldOf (now (held .entry)) len) b (now (out .entry)) r (now (held .exit)) (now (out .exit)) ⌝ }
 {
-    let h = hold(held, len, over, text);
-    let used = h.used;
-    if used < text.len() {
-        let n = answer_held(held, h.len, h.over, out);
-        return Taken {
-            len: 0,
-            over: false,
-            used: used + 1,
-            answer: n,
-        };
+    if b == b'\n' {
+        let n = answer(held, len, out);
+        return Fed { len: 0, answer: n };
     }
-    Taken {
-        len: h.len,
-        over: h.over,
-        used,
-        answer: 0,
-    }
+    let len = push(held, len, b);
+    Fed { len, answer: 0 }
 }
 
-// Answers the line held where the text ends, if there is one.
-pub fn last(held: &[u8], len: usize, over: bool, out: &mut [u8]) -> usize
-    ensures { λ r. ⌜ Ends (now (held .entry)) len over (now (out .entry)) r (now (out .exit)) ⌝ }
-    ensures { λ r. ⌜ r ≤ length (now (out .entry)) ⌝ }
+// Answers each line that a piece closes, in their order, and holds what is behind the last.
+pub fn take_piece(piece: &[u8], held: &mut [u8; 4096], before: usize, out: &mut [u8]) -> usize
+    ensures held { λ r. ⌜ heldOf (now (held .exit)) r ≡ feeds (heldOf (now (held .entry)) before) (now (piece .entry)) ⌝ }
+    ensures out { λ _. ⌜ now (out .exit) ≡ feedsOut (heldOf (now (held .entry)) before) (now (out .entry)) (now (piece .entry)) ⌝ }
 {
-    if (0 < len) | over {
-        return answer_held(held, len, over, out);
+    let mut len = before;
+    let mut at = 0;
+    while at < piece.len() {
+        let next = feed(held, len, piece[at], out);
+        let n = next.answer;
+        io::write_all(STDOUT_FILENO, &out[..n]);
+        len = next.len;
+        at += 1;
     }
-    0
+    len
+}
+
+// Answers the lines of standard input. The last may lack its newline.
+pub fn serve() {
+    let mut held = [0u8; 4096];
+    let mut out = [0u8; 4096];
+    let mut len = 0;
+    // A loop has to end: no input has so many pieces.
+    let mut turns = u64::MAX;
+    while 0 < turns {
+        let mut piece = io::large_buffer();
+        let got = libc::read(STDIN_FILENO, &mut piece);
+        let n = io::count(got, &piece);
+        len = take_piece(&piece[..n], &mut held, len, &mut out);
+        turns = if n == 0 { 0 } else { turns - 1 };
+    }
+    if 0 < len {
+        let _last = take_piece(b"\n", &mut held, len, &mut out);
+    }
 }

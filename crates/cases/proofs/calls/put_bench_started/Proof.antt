@@ -1,0 +1,10 @@
+-- `cases::calls::put_bench_started` meets its contract.
+use borrow.Author.Needs.{needs}
+use Rattle.cases.proofs.calls.put_bench_started.Statement.{statement}
+use Rattle.cases.proofs.calls.put_bench_started.Tie as tie
+
+pub put-bench-started-spec : {M : Type 1} → statement M
+put-bench-started-spec = tie.close (tie.spec (λ c. search needs) (λ c κs. search needs) (λ c κs. search needs)
+    (λ c κs. search needs) (λ c. search needs)
+    (λ c. let first = c .before .before .before in
+    rw (first .first .ensures, first .before .before .before .before .wide .ensures .0) at (c .before .before .put-call .ensures)))
