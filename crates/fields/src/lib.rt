@@ -1,65 +1,8 @@
-// The words of a case's line: its name, and the decimal numbers behind it.
-use base::Number;
+// Numbers of a row by their places, at 8, 16 and 32 bits.
 use pll::PllConfig;
 ghost use mathlib.Core.Path.{_≡_};
 ghost use Prim.Native.Nat.{min};
-ghost use lib.ListN.{set};
-ghost use Rattle.fields.specs.Fields.{numbersIn, numbersOnly, tailAt, Reading};
 ghost use Rattle.fields.specs.Row.{nth, byteAt, halfAt, roomAt, pllAt, tenAt};
-
-// Where the last word that was read ends, or Bad where a word is no number up to its limit.
-pub enum Rest {
-    At(usize),
-    Bad,
-}
-
-// Sets a number, if the buffer reaches that far.
-fn set_number(numbers: &mut [u32], i: usize, n: u32)
-    ensures { λ _. ⌜ now (numbers .exit) ≡ set (now (numbers .entry)) i n ⌝ }
-{
-    if i < numbers.len() {
-        numbers[i] = n;
-    }
-}
-
-// Reads a number for each limit behind the word that ends at `at`. What the buffer has no place for is dropped.
-pub fn read(line: &[u8], at: usize, limits: &[u32], numbers: &mut [u32]) -> Rest
-    ensures { λ r. ⌜ Reading (numbersIn (now (limits .entry)) (tailAt (now (line .entry)) at)) (now (line .entry)) at (now (numbers .entry)) r (now (numbers .exit)) ⌝ }
-{
-    let mut end = at;
-    let mut i = 0;
-    while i < limits.len() {
-        if line.len() <= end {
-            return Rest::Bad;
-        }
-        let start = end + 1;
-        let Number::Value(n) = text::number_up_to(line, start, b' ') else {
-            return Rest::Bad;
-        };
-        if limits[i] < n {
-            return Rest::Bad;
-        }
-        set_number(numbers, i, n);
-        end = text::index_from(line, start, b' ');
-        i += 1;
-    }
-    Rest::At(end)
-}
-
-// The same where the line has to end behind the numbers.
-pub fn read_all(line: &[u8], at: usize, limits: &[u32], numbers: &mut [u32]) -> Rest
-    ensures { λ r. ⌜ Reading (numbersOnly (now (limits .entry)) (tailAt (now (line .entry)) at)) (now (line .entry)) at (now (numbers .entry)) r (now (numbers .exit)) ⌝ }
-{
-    match read(line, at, limits, numbers) {
-        Rest::At(end) => {
-            if end < line.len() {
-                return Rest::Bad;
-            }
-            Rest::At(end)
-        }
-        Rest::Bad => Rest::Bad,
-    }
-}
 
 // The number at a place of a row, 0 past the row's end.
 pub fn number_at(row: &[u32], i: usize) -> u32

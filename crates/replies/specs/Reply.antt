@@ -1,16 +1,12 @@
 -- The texts that answers are made of.
-use mathlib.Core.{Bool.Bool, List.List, List.[], List._∷_, List._++_}
+use mathlib.Core.List.{List, [], _∷_, _++_}
 use Prim.Native.Nat.{ℕ}
-use lib.ListN.{take}
-use Rattle.base.specs.{Answer.Answer, Answer.value, Answer.refusal, Choice.pick}
-use Rattle.text.specs.{Decimal.decimalOf, Hex.hexOf, Ascii.ascii}
+use Rattle.base.specs.Answer.{Answer, value, refusal}
+use Rattle.text.specs.{Decimal.decimalOf, Ascii.ascii}
 
 -- a line that is no case
 abbrev pub badCase : List ℕ
 badCase = ascii "bad case"
-
-abbrev pub yesNo : Bool → List ℕ
-yesNo test = pick test (ascii "yes") (ascii "no")
 
 -- a refusal by its number
 abbrev pub refusedText : ℕ → List ℕ
@@ -33,11 +29,3 @@ spaced (n ∷ ns) = 32 ∷ (decimalOf n ++ spaced ns)
 -- numbers with one space between
 abbrev pub rowText : ℕ → List ℕ → List ℕ
 rowText first more = decimalOf first ++ spaced more
-
--- a length, and the bytes in hex
-abbrev pub bytesText : ℕ → List ℕ → List ℕ
-bytesText n bytes = decimalOf n ++ (32 ∷ hexOf bytes)
-
--- of a buffer only the n bytes written are shown
-abbrev pub writtenText : List ℕ → ℕ → List ℕ
-writtenText buffer n = bytesText n (take n buffer)

@@ -1,23 +1,14 @@
 // The texts that answers are made of, each put into the caller's buffer.
-ghost use mathlib.Core.List.{[], _∷_, _++_};
+ghost use mathlib.Core.List.{_∷_};
 ghost use Rattle.base.specs.Placed.{Placed};
 ghost use Rattle.text.specs.Decimal.{decimalOf};
 ghost use Rattle.text.specs.Output.{Whole};
-ghost use Rattle.replies.specs.Reply.{badCase, yesNo, refusedText, refusedLine, spaced, rowText, writtenText};
+ghost use Rattle.replies.specs.Reply.{badCase, refusedText, refusedLine, spaced, rowText};
 
 pub fn put_bad(out: &mut [u8]) -> usize
     ensures { λ r. ⌜ Placed (now (out .entry)) 0 badCase r (now (out .exit)) ⌝ }
 {
     text::put_bytes(out, 0, b"bad case")
-}
-
-pub fn put_yes_no(out: &mut [u8], yes: bool) -> usize
-    ensures { λ r. ⌜ Placed (now (out .entry)) 0 (yesNo yes) r (now (out .exit)) ⌝ }
-{
-    if yes {
-        return text::put_bytes(out, 0, b"yes");
-    }
-    text::put_bytes(out, 0, b"no")
 }
 
 pub fn put_refused(out: &mut [u8], number: u8) -> usize
@@ -81,20 +72,4 @@ pub fn put_row(out: &mut [u8], at: usize, first: u64, more: &[u64]) -> usize
 {
     let end = text::put_decimal(out, at, first);
     put_spaced(out, end, more)
-}
-
-// A length, and as many of the buffer's first bytes in hex.
-pub fn put_written(out: &mut [u8], n: usize, buf: &[u8]) -> usize
-    ensures { λ r. ⌜ Placed (now (out .entry)) 0 (writtenText (now (buf .entry)) n) r (now (out .exit)) ⌝ }
-{
-    let end = put_length(out, n);
-    text::put_hex(out, end, base::first(buf, n))
-}
-
-// A number and a space.
-fn put_length(out: &mut [u8], n: usize) -> usize
-    ensures { λ r. ⌜ Placed (now (out .entry)) 0 (decimalOf n ++ (32 ∷ [])) r (now (out .exit)) ⌝ }
-{
-    let end = text::put_decimal(out, 0, n as u64);
-    text::put_byte(out, end, b' ')
 }
