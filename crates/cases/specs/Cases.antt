@@ -12,8 +12,7 @@ use Rattle.up.specs.ComesUp.{longestWait}
 use Rattle.config.specs.Presets.{defaultPlan, crystalPlan, roscPlan, systemPlan, systemPlanFrom}
 use Rattle.readback.specs.Read.{readOf}
 use Rattle.fields.specs.Row.{nth, byteAt, halfAt, pllAt, tenAt}
-use Rattle.as_numbers.specs.Numbers.{answerNumber, itself, chipNumbered, onChip, voltageNumber, dividerNumbered, gpoutNumber}
-use Rattle.replies.specs.Reply.{badCase}
+use Rattle.as_numbers.specs.Numbers.{answerNumber, itself, malformed, chipNumbered, onChip, voltageNumber, dividerNumbered, gpoutNumber}
 use Rattle.words.specs.Words.{State, stateOf, given}
 use Rattle.cases.specs.Table.{linesOf, named, lettersOf}
 use Rattle.cases.specs.Say.{oneText, foundText, marginText, levelText, planText, plannedText}
@@ -69,13 +68,17 @@ callRows =
     ∷ row "read xb" (λ s. plannedText (readOf (sheetOf s) (byteAt (s .row) 1)))
     ∷ row "start xkwwwwwwwwwwwwwww" (λ s. startText (s .row) (s .kept) (sheetOf s))
     ∷ row "run xkfwwwwwwwwwwwwwww" (λ s. runText (s .row) (s .kept) (sheetOf s))
-    ∷ row "bench_start xkbwwwwwwwwwwwwwwwwwwwwwwwwwwwwwwwwwwwwwwwwwwwwwwwwwwwwwwwwwwwwwwwwwwwwwwwwwwwwwwwwwwwwwwwwwwwwwwwwwwwwwwwwwwwwwwwww" (λ s. benchStartText (s .row) (s .kept) (sheetOf s))
-    ∷ row "bench_run xkbfwwwwwwwwwwwwwwwwwwwwwwwwwwwwwwwwwwwwwwwwwwwwwwwwwwwwwwwwwwwwwwwwwwwwwwwwwwwwwwwwwwwwwwwwwwwwwwwwwwwwwwwwwwwwwwwww" (λ s. benchRunText (s .row) (s .kept) (sheetOf s))
+    ∷ row
+    "bench_start xkbwwwwwwwwwwwwwwwwwwwwwwwwwwwwwwwwwwwwwwwwwwwwwwwwwwwwwwwwwwwwwwwwwwwwwwwwwwwwwwwwwwwwwwwwwwwwwwwwwwwwwwwwwwwwwwwww"
+    (λ s. benchStartText (s .row) (s .kept) (sheetOf s))
+    ∷ row
+    "bench_run xkbfwwwwwwwwwwwwwwwwwwwwwwwwwwwwwwwwwwwwwwwwwwwwwwwwwwwwwwwwwwwwwwwwwwwwwwwwwwwwwwwwwwwwwwwwwwwwwwwwwwwwwwwwwwwwwwwww"
+    (λ s. benchRunText (s .row) (s .kept) (sheetOf s))
     ∷ row "sleep bwwwwwwwwwwwwwwwwwwwwwwwwwwwwwwwwwwwwwwwwwwwwwwwwwwwwwwwwwww" (λ s. changeText false (s .row))
     ∷ row "wake bwwwwwwwwwwwwwwwwwwwwwwwwwwwwwwwwwwwwwwwwwwwwwwwwwwwwwwwwwww" (λ s. changeText true (s .row)) ∷ []
 
 abbrev pub textAt : {A : Type 0} → List (Case A) → ℕ → A → List ℕ
-textAt [] k a = badCase
+textAt [] k a = oneText malformed
 textAt (c ∷ cs) zero a = c .text a
 textAt (c ∷ cs) (suc k) a = textAt cs k a
 
@@ -92,7 +95,7 @@ caseText k s = pick (ltb k 17) (textAt plainRows k (s .row)) (textAt callRows (k
 -- a line of which a word is not what its letter asks for is no case
 abbrev pub readText : ℕ → Option State → List ℕ
 readText k (some s) = caseText k s
-readText k none = badCase
+readText k none = oneText malformed
 
 unfoldable pub lineText : ℕ → List ℕ → List ℕ → ℕ → List ℕ
 lineText k letters line at = readText k (given line letters at (stateOf 0 (replicate 128 0) (replicate 528 0) (replicate 2048 0)))

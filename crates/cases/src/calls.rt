@@ -1,26 +1,29 @@
 // The cases that lend a buffer, a runner, a bench or slots. Each takes the row n of the case's numbers.
+use crate::Given;
+use crate::KeptBytes;
+use crate::say::put;
 use crate::say::put_one;
 use crate::say::put_planned;
 use crate::say::put_written;
-use as_numbers::numbers;
+use as_numbers::numbers::MALFORMED;
 use chip::Chip;
 use config::ClockConfig;
 use fields::byte_at;
 use fields::room_at;
-use step::MAX_BYTES;
 use voltage::VoltageRead;
-use words::put_call;
 ghost use mathlib.Core.Path.{_≡_};
 ghost use mathlib.Core.List.{[]};
-ghost use Rattle.base.specs.Placed.{Placed};
+ghost use Prim.Native.Nat.{_≤_};
+ghost use lib.ListN.{length};
 ghost use Rattle.as_numbers.specs.Numbers.{chipNumbered};
 ghost use Rattle.export.specs.Sheet.{planOn};
 ghost use Rattle.words.specs.Said.{callText};
+ghost use Rattle.cases.specs.Say.{Answered};
 ghost use Rattle.cases.specs.Calls.{chipAt, listIn, listText, manualText, planAt, sheetIn, sheetText};
 ghost use Rattle.cases.specs.Calls.{keptText, startText, runText, benchStartOf, benchStartText, benchRunText, changedText, changeOf, changeText};
 
 // The chip that the case's first number names.
-pub(crate) fn chip_at(n: &[u32; 128]) -> Chip
+pub(crate) fn chip_at(n: &Given) -> Chip
     ensures { λ r. ⌜ r ≡ chipAt (now (n .entry)) ⌝ }
 {
     if n[0] == 1 {
@@ -31,32 +34,33 @@ pub(crate) fn chip_at(n: &[u32; 128]) -> Chip
 }
 
 fn put_list_in(out: &mut [u8], input: u32, target: u32, buf: &mut [u8]) -> usize
-    ensures { λ x. ⌜ Placed (now (out .entry)) 0 (listIn input target (now (buf .entry))) x (now (out .exit)) ⌝ }
+    requires { ⌜ length (now buf) ≤ 1024 ⌝ }
+    ensures { λ x. ⌜ Answered (now (out .entry)) (listIn input target (now (buf .entry))) x (now (out .exit)) ⌝ }
 {
     let r = export::dizbaral_list(input, target, buf);
     put_written(out, r, buf)
 }
 
-pub(crate) fn put_list(n: &[u32; 128], out: &mut [u8]) -> usize
-    ensures { λ x. ⌜ Placed (now (out .entry)) 0 (listText (now (n .entry))) x (now (out .exit)) ⌝ }
+pub(crate) fn put_list(n: &Given, out: &mut [u8]) -> usize
+    ensures { λ x. ⌜ Answered (now (out .entry)) (listText (now (n .entry))) x (now (out .exit)) ⌝ }
 {
     let mut buf = [238u8; 1024];
     let room = room_at(n, 2);
     put_list_in(out, n[0], n[1], &mut buf[..room])
 }
 
-pub(crate) fn put_manual(n: &[u32; 128], out: &mut [u8]) -> usize
-    ensures { λ x. ⌜ Placed (now (out .entry)) 0 (manualText (now (n .entry))) x (now (out .exit)) ⌝ }
+pub(crate) fn put_manual(n: &Given, out: &mut [u8]) -> usize
+    ensures { λ x. ⌜ Answered (now (out .entry)) (manualText (now (n .entry))) x (now (out .exit)) ⌝ }
 {
     let pll = fields::pll_at(n, 1);
     match voltage::core_voltage(byte_at(n, 5)) {
         VoltageRead::Voltage(v) => put_planned(out, ClockConfig::manual_pll(n[0], pll, v)),
-        VoltageRead::Refused(_) => put_one(out, numbers::MALFORMED),
+        VoltageRead::Refused(_) => put_one(out, MALFORMED),
     }
 }
 
 // The plan's numbers behind READING, ROOM and CHIP.
-fn plan_at(n: &[u32; 128], count: usize) -> &[u32]
+fn plan_at(n: &Given, count: usize) -> &[u32]
     ensures { λ r. ⌜ now r ≡ planAt (now (n .entry)) count ⌝ }
 {
     let all = &n[..];
@@ -70,14 +74,15 @@ fn plan_at(n: &[u32; 128], count: usize) -> &[u32]
 }
 
 fn put_sheet_in(out: &mut [u8], chip: u8, plan: &[u32], reading: u8, buf: &mut [u8]) -> usize
-    ensures { λ x. ⌜ Placed (now (out .entry)) 0 (sheetIn (planOn (now (plan .entry)) (chipNumbered chip)) reading (now (buf .entry))) x (now (out .exit)) ⌝ }
+    requires { ⌜ length (now buf) ≤ 1024 ⌝ }
+    ensures { λ x. ⌜ Answered (now (out .entry)) (sheetIn (planOn (now (plan .entry)) (chipNumbered chip)) reading (now (buf .entry))) x (now (out .exit)) ⌝ }
 {
     let r = export::dizbaral_plan_sheet(chip, plan, reading, buf);
     put_written(out, r, buf)
 }
 
-pub(crate) fn put_sheet(n: &[u32; 128], count: usize, out: &mut [u8]) -> usize
-    ensures { λ x. ⌜ Placed (now (out .entry)) 0 (sheetText (now (n .entry)) count) x (now (out .exit)) ⌝ }
+pub(crate) fn put_sheet(n: &Given, count: usize, out: &mut [u8]) -> usize
+    ensures { λ x. ⌜ Answered (now (out .entry)) (sheetText (now (n .entry)) count) x (now (out .exit)) ⌝ }
 {
     let mut buf = [238u8; 1024];
     let reading = byte_at(n, 0);
@@ -88,20 +93,15 @@ pub(crate) fn put_sheet(n: &[u32; 128], count: usize, out: &mut [u8]) -> usize
 }
 
 // What a start leaves: the runner's numbers, and the bytes that are kept.
-fn put_started(out: &mut [u8], r: u64, runner: &[u32; 15], held: &[u8; MAX_BYTES]) -> usize
-    ensures { λ x. ⌜ Placed (now (out .entry)) 0 (keptText 4 r (now (runner .entry)) (now (held .entry))) x (now (out .exit)) ⌝ }
+fn put_started(out: &mut [u8], r: u64, runner: &[u32; 15], held: &KeptBytes) -> usize
+    ensures { λ x. ⌜ Answered (now (out .entry)) (keptText 4 r (now (runner .entry)) (now (held .entry))) x (now (out .exit)) ⌝ }
 {
     let len = base::wide(runner[4]) as usize;
-    put_call(out, r, runner, base::first(held, len))
+    put(out, r, runner, base::first(held, len))
 }
 
-pub(crate) fn put_start(
-    n: &[u32; 128],
-    kept: &[u8; MAX_BYTES],
-    sheet: &[u8],
-    out: &mut [u8],
-) -> usize
-    ensures { λ x. ⌜ Placed (now (out .entry)) 0 (startText (now (n .entry)) (now (kept .entry)) (now (sheet .entry))) x (now (out .exit)) ⌝ }
+pub(crate) fn put_start(n: &Given, kept: &KeptBytes, sheet: &[u8], out: &mut [u8]) -> usize
+    ensures { λ x. ⌜ Answered (now (out .entry)) (startText (now (n .entry)) (now (kept .entry)) (now (sheet .entry))) x (now (out .exit)) ⌝ }
 {
     let all = &n[..];
     let mut runner = [0u32; 15];
@@ -112,13 +112,13 @@ pub(crate) fn put_start(
 }
 
 fn put_runner(out: &mut [u8], r: u64, runner: &[u32; 15]) -> usize
-    ensures { λ x. ⌜ Placed (now (out .entry)) 0 (callText r (now (runner .entry)) []) x (now (out .exit)) ⌝ }
+    ensures { λ x. ⌜ Answered (now (out .entry)) (callText r (now (runner .entry)) []) x (now (out .exit)) ⌝ }
 {
-    put_call(out, r, runner, b"")
+    put(out, r, runner, b"")
 }
 
-pub(crate) fn put_run(n: &[u32; 128], kept: &[u8; MAX_BYTES], sheet: &[u8], out: &mut [u8]) -> usize
-    ensures { λ x. ⌜ Placed (now (out .entry)) 0 (runText (now (n .entry)) (now (kept .entry)) (now (sheet .entry))) x (now (out .exit)) ⌝ }
+pub(crate) fn put_run(n: &Given, kept: &KeptBytes, sheet: &[u8], out: &mut [u8]) -> usize
+    ensures { λ x. ⌜ Answered (now (out .entry)) (runText (now (n .entry)) (now (kept .entry)) (now (sheet .entry))) x (now (out .exit)) ⌝ }
 {
     let all = &n[..];
     let mut runner = [0u32; 15];
@@ -128,20 +128,15 @@ pub(crate) fn put_run(n: &[u32; 128], kept: &[u8; MAX_BYTES], sheet: &[u8], out:
 }
 
 // The same of a bench.
-fn put_bench_started(out: &mut [u8], r: u64, bench: &[u32; 113], held: &[u8; MAX_BYTES]) -> usize
-    ensures { λ x. ⌜ Placed (now (out .entry)) 0 (keptText 112 r (now (bench .entry)) (now (held .entry))) x (now (out .exit)) ⌝ }
+fn put_bench_started(out: &mut [u8], r: u64, bench: &[u32; 113], held: &KeptBytes) -> usize
+    ensures { λ x. ⌜ Answered (now (out .entry)) (keptText 112 r (now (bench .entry)) (now (held .entry))) x (now (out .exit)) ⌝ }
 {
     let len = base::wide(bench[112]) as usize;
-    put_call(out, r, bench, base::first(held, len))
+    put(out, r, bench, base::first(held, len))
 }
 
-fn put_bench_start_of(
-    out: &mut [u8],
-    given: [u32; 113],
-    kept: &[u8; MAX_BYTES],
-    sheet: &[u8],
-) -> usize
-    ensures { λ x. ⌜ Placed (now (out .entry)) 0 (benchStartOf given (now (kept .entry)) (now (sheet .entry))) x (now (out .exit)) ⌝ }
+fn put_bench_start_of(out: &mut [u8], given: [u32; 113], kept: &KeptBytes, sheet: &[u8]) -> usize
+    ensures { λ x. ⌜ Answered (now (out .entry)) (benchStartOf given (now (kept .entry)) (now (sheet .entry))) x (now (out .exit)) ⌝ }
 {
     let mut bench = given;
     let mut held = *kept;
@@ -149,13 +144,8 @@ fn put_bench_start_of(
     put_bench_started(out, r, &bench, &held)
 }
 
-pub(crate) fn put_bench_start(
-    n: &[u32; 128],
-    kept: &[u8; MAX_BYTES],
-    sheet: &[u8],
-    out: &mut [u8],
-) -> usize
-    ensures { λ x. ⌜ Placed (now (out .entry)) 0 (benchStartText (now (n .entry)) (now (kept .entry)) (now (sheet .entry))) x (now (out .exit)) ⌝ }
+pub(crate) fn put_bench_start(n: &Given, kept: &KeptBytes, sheet: &[u8], out: &mut [u8]) -> usize
+    ensures { λ x. ⌜ Answered (now (out .entry)) (benchStartText (now (n .entry)) (now (kept .entry)) (now (sheet .entry))) x (now (out .exit)) ⌝ }
 {
     let all = &n[..];
     let mut bench = [0u32; 113];
@@ -164,18 +154,13 @@ pub(crate) fn put_bench_start(
 }
 
 fn put_bench(out: &mut [u8], r: u64, bench: &[u32; 113]) -> usize
-    ensures { λ x. ⌜ Placed (now (out .entry)) 0 (callText r (now (bench .entry)) []) x (now (out .exit)) ⌝ }
+    ensures { λ x. ⌜ Answered (now (out .entry)) (callText r (now (bench .entry)) []) x (now (out .exit)) ⌝ }
 {
-    put_call(out, r, bench, b"")
+    put(out, r, bench, b"")
 }
 
-pub(crate) fn put_bench_run(
-    n: &[u32; 128],
-    kept: &[u8; MAX_BYTES],
-    sheet: &[u8],
-    out: &mut [u8],
-) -> usize
-    ensures { λ x. ⌜ Placed (now (out .entry)) 0 (benchRunText (now (n .entry)) (now (kept .entry)) (now (sheet .entry))) x (now (out .exit)) ⌝ }
+pub(crate) fn put_bench_run(n: &Given, kept: &KeptBytes, sheet: &[u8], out: &mut [u8]) -> usize
+    ensures { λ x. ⌜ Answered (now (out .entry)) (benchRunText (now (n .entry)) (now (kept .entry)) (now (sheet .entry))) x (now (out .exit)) ⌝ }
 {
     let all = &n[..];
     let mut bench = [0u32; 113];
@@ -193,17 +178,17 @@ fn put_changed(
     slots: &[u32; 48],
     steps: &[u32; 28],
 ) -> usize
-    ensures { λ x. ⌜ Placed (now (out .entry)) 0 (changedText r (now (words .entry)) (now (slots .entry)) (now (steps .entry))) x (now (out .exit)) ⌝ }
+    ensures { λ x. ⌜ Answered (now (out .entry)) (changedText r (now (words .entry)) (now (slots .entry)) (now (steps .entry))) x (now (out .exit)) ⌝ }
 {
     let mut row = [0u32; 87];
     let at = base::put_numbers(&mut row, 0, words);
     let at = base::put_numbers(&mut row, at, slots);
     let _n = base::put_numbers(&mut row, at, steps);
-    put_call(out, r, &row, b"")
+    put(out, r, &row, b"")
 }
 
 fn put_asked(out: &mut [u8], wakes: bool, kept: [u32; 48], slot: u8, given: [u32; 11]) -> usize
-    ensures { λ x. ⌜ Placed (now (out .entry)) 0 (changeOf wakes kept slot given) x (now (out .exit)) ⌝ }
+    ensures { λ x. ⌜ Answered (now (out .entry)) (changeOf wakes kept slot given) x (now (out .exit)) ⌝ }
 {
     let mut slots = kept;
     let mut words = given;
@@ -213,8 +198,8 @@ fn put_asked(out: &mut [u8], wakes: bool, kept: [u32; 48], slot: u8, given: [u32
 }
 
 // A sleep or a wake: SLOT, eleven words, four slots.
-pub(crate) fn put_change(wakes: bool, n: &[u32; 128], out: &mut [u8]) -> usize
-    ensures { λ x. ⌜ Placed (now (out .entry)) 0 (changeText wakes (now (n .entry))) x (now (out .exit)) ⌝ }
+pub(crate) fn put_change(wakes: bool, n: &Given, out: &mut [u8]) -> usize
+    ensures { λ x. ⌜ Answered (now (out .entry)) (changeText wakes (now (n .entry))) x (now (out .exit)) ⌝ }
 {
     let all = &n[..];
     let mut slots = [0u32; 48];

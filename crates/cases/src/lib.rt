@@ -6,7 +6,10 @@ mod table;
 use as_numbers::numbers;
 use calls::chip_at;
 use config::ClockConfig;
+use export::dizbaral_core_voltage;
+use export::dizbaral_gpout_frequency;
 use fields::byte_at;
+use fields::pll_at;
 use say::put_found;
 use say::put_one;
 use say::put_plan;
@@ -15,42 +18,37 @@ use step::MAX_BYTES;
 use words::Words;
 ghost use mathlib.Core.Path.{_≡_};
 ghost use Prim.Native.Nat.{_≤_, _<_};
-ghost use Rattle.base.specs.Placed.{Placed};
 ghost use Rattle.words.specs.Words.{stateOf};
+ghost use Rattle.cases.specs.Say.{Answered};
 ghost use Rattle.cases.specs.Cases.{plainRows, callRows, textAt, caseText, lineText, answerTo};
 
+// The numbers of a case, a row of which its words fill the start; and a runner's kept bytes.
+pub type Given = [u32; 128];
+
+pub type KeptBytes = [u8; MAX_BYTES];
+
 // The cases of numbers alone, in the order of the table.
-fn put_numbers(k: usize, n: &[u32; 128], out: &mut [u8]) -> usize
+fn put_numbers(k: usize, n: &Given, out: &mut [u8]) -> usize
     requires { ⌜ k < 11 ⌝ }
-    ensures { λ x. ⌜ Placed (now (out .entry)) 0 (textAt plainRows k (now (n .entry))) x (now (out .exit)) ⌝ }
+    ensures { λ x. ⌜ Answered (now (out .entry)) (textAt plainRows k (now (n .entry))) x (now (out .exit)) ⌝ }
 {
     match k {
-        0 => put_one(out, base::bit(fields::pll_at(n, 1).is_valid(n[0])) as u64),
-        1 => put_one(
-            out,
-            numbers::number(fields::pll_at(n, 1).output_frequency(n[0])),
-        ),
+        0 => put_one(out, base::bit(pll_at(n, 1).is_valid(n[0])) as u64),
+        1 => put_one(out, numbers::number(pll_at(n, 1).output_frequency(n[0]))),
         2 => put_found(out, pll::find_pll_params(n[0], n[1])),
         3 => put_found(out, pll::usb::find_usb_pll(n[0])),
         4 => put_found(out, speed_book::lookup(n[0])),
         5 => say::put_margin(out, margin::target_margin(n[0], n[1])),
-        6 => say::put_level(
-            out,
-            export::dizbaral_core_voltage(byte_at(n, 0), byte_at(n, 1)),
-        ),
+        6 => say::put_level(out, dizbaral_core_voltage(byte_at(n, 0), byte_at(n, 1))),
         7 => put_one(out, export::dizbaral_pio_divider(n[0], n[1])),
         8 => {
             let freqs = fields::ten_at(n, 4);
             let fraction = fields::half_at(n, 3);
+            let source = byte_at(n, 1);
+            let chip = byte_at(n, 0);
             put_one(
                 out,
-                export::dizbaral_gpout_frequency(
-                    byte_at(n, 0),
-                    byte_at(n, 1),
-                    n[2],
-                    fraction,
-                    &freqs,
-                ),
+                dizbaral_gpout_frequency(chip, source, n[2], fraction, &freqs),
             )
         }
         9 => put_one(out, up::longest_wait(n[0]) as u64),
@@ -59,9 +57,9 @@ fn put_numbers(k: usize, n: &[u32; 128], out: &mut [u8]) -> usize
 }
 
 // The presets: the chip, then the preset's numbers.
-fn put_presets(k: usize, n: &[u32; 128], out: &mut [u8]) -> usize
+fn put_presets(k: usize, n: &Given, out: &mut [u8]) -> usize
     requires { ⌜ (11 ≤ k) × (k < 17) ⌝ }
-    ensures { λ x. ⌜ Placed (now (out .entry)) 0 (textAt plainRows k (now (n .entry))) x (now (out .exit)) ⌝ }
+    ensures { λ x. ⌜ Answered (now (out .entry)) (textAt plainRows k (now (n .entry))) x (now (out .exit)) ⌝ }
 {
     match k {
         11 => put_plan(out, ClockConfig::crystal(chip_at(n), n[1])),
@@ -76,13 +74,13 @@ fn put_presets(k: usize, n: &[u32; 128], out: &mut [u8]) -> usize
 // The cases of numbers and words of hex, of which the first is SHEET.
 fn put_called(
     k: usize,
-    n: &[u32; 128],
+    n: &Given,
     count: usize,
-    kept: &[u8; MAX_BYTES],
+    kept: &KeptBytes,
     bytes: &[u8; 2048],
     out: &mut [u8],
 ) -> usize
-    ensures { λ x. ⌜ Placed (now (out .entry)) 0 (textAt callRows k (stateOf count (now (n .entry)) (now (kept .entry)) (now (bytes .entry)))) x (now (out .exit)) ⌝ }
+    ensures { λ x. ⌜ Answered (now (out .entry)) (textAt callRows k (stateOf count (now (n .entry)) (now (kept .entry)) (now (bytes .entry)))) x (now (out .exit)) ⌝ }
 {
     let sheet = base::first(bytes, base::wide(n[0]) as usize);
     match k {
@@ -94,19 +92,19 @@ fn put_called(
         5 => calls::put_bench_run(n, kept, sheet, out),
         6 => calls::put_change(false, n, out),
         7 => calls::put_change(true, n, out),
-        _ => replies::put_bad(out),
+        _ => put_one(out, numbers::MALFORMED),
     }
 }
 
 fn put_case(
     k: usize,
-    n: &[u32; 128],
+    n: &Given,
     count: usize,
-    kept: &[u8; MAX_BYTES],
+    kept: &KeptBytes,
     bytes: &[u8; 2048],
     out: &mut [u8],
 ) -> usize
-    ensures { λ x. ⌜ Placed (now (out .entry)) 0 (caseText k (stateOf count (now (n .entry)) (now (kept .entry)) (now (bytes .entry)))) x (now (out .exit)) ⌝ }
+    ensures { λ x. ⌜ Answered (now (out .entry)) (caseText k (stateOf count (now (n .entry)) (now (kept .entry)) (now (bytes .entry)))) x (now (out .exit)) ⌝ }
 {
     if k < 11 {
         return put_numbers(k, n, out);
@@ -119,20 +117,20 @@ fn put_case(
 
 // The answer to a line whose name ends at `at`, by a row of the table.
 fn put_line(k: usize, letters: &[u8], line: &[u8], at: usize, out: &mut [u8]) -> usize
-    ensures { λ x. ⌜ Placed (now (out .entry)) 0 (lineText k (now (letters .entry)) (now (line .entry)) at) x (now (out .exit)) ⌝ }
+    ensures { λ x. ⌜ Answered (now (out .entry)) (lineText k (now (letters .entry)) (now (line .entry)) at) x (now (out .exit)) ⌝ }
 {
     let mut n = [0u32; 128];
     let mut kept = [0u8; MAX_BYTES];
     let mut sheet = [0u8; 2048];
     match words::read(letters, line, at, &mut n, &mut kept, &mut sheet) {
         Words::Read(count) => put_case(k, &n, count, &kept, &sheet, out),
-        Words::Bad => replies::put_bad(out),
+        Words::Bad => put_one(out, numbers::MALFORMED),
     }
 }
 
 // Answers a line: the answer is put at the buffer's start, and the index past it is returned.
 pub fn answer(line: &[u8], out: &mut [u8]) -> usize
-    ensures { λ x. ⌜ Placed (now (out .entry)) 0 (answerTo (now (line .entry))) x (now (out .exit)) ⌝ }
+    ensures { λ x. ⌜ Answered (now (out .entry)) (answerTo (now (line .entry))) x (now (out .exit)) ⌝ }
 {
     // f a flag, b 8 bits, h 16 bits, r a room, w and o 32 bits, from o on the words may be absent; x and k are hex
     let table = b"valid wbhbb

@@ -2,6 +2,8 @@
 use libc::STDIN_FILENO;
 use libc::STDOUT_FILENO;
 ghost use mathlib.Core.Path.{_≡_};
+ghost use Prim.Native.Nat.{_≤_};
+ghost use lib.ListN.{length};
 ghost use Rattle.base.specs.Placed.{Placed};
 ghost use Rattle.lines.specs.Lines.{heldOf, heldText, pushed, feeds, feedsOut, Feeding};
 
@@ -24,7 +26,8 @@ fn push(held: &mut [u8; 4096], len: usize, b: u8) -> usize
 
 // Answers the line held, and closes the answer with a newline.
 fn answer(held: &[u8], len: usize, out: &mut [u8]) -> usize
-    ensures { λ r. ⌜ Placed (now (out .entry)) 0 (heldText (heldOf (now (held .entry)) len)) r (now (out .exit)) ⌝ }
+    ensures placed { λ r. ⌜ Placed (now (out .entry)) 0 (heldText (heldOf (now (held .entry)) len)) r (now (out .exit)) ⌝ }
+    ensures short { λ _. ⌜ length (heldText (heldOf (now (held .entry)) len)) ≤ 3478 ⌝ }
 {
     if 4096 < len {
         let bad = replies::put_bad(out);

@@ -1,5 +1,7 @@
 -- `lines::answer` meets its contract: the answer, and right behind it the newline.
+use native.Mathlib.Omega.{arith}
 use borrow.{Author.Needs.needs, Author.Tests.lt-ltb, Author.Tests.le-ltb}
+use lib.ListN.{length-append}
 use Rattle.base.proofs.Placing.{placed-append}
 use Rattle.lines.specs.Lines.{heldText}
 use Rattle.lines.proofs.answer.Statement.{statement}
@@ -9,8 +11,10 @@ pub answer-spec : {M : Type 1} → statement M
 unfolding heldText
 answer-spec = tie.close (tie.spec (λ c κs. search needs) (λ c κs. search needs) (λ c. search needs)
     (λ c. let byte = c .before .before in let bad = byte .before .before .before .before in
-    rw (lt-ltb _ _ (bad .before .before .if1 .taken)) (placed-append (bad .put-bad .ensures) (byte .put-byte .ensures)))
+    rw (lt-ltb _ _ (bad .before .before .if1 .taken))
+    (placed-append (bad .put-bad .ensures) (byte .put-byte .ensures), omega arith))
     (λ c κs. search needs) (λ c κs. search needs) (λ c κs. search needs) (λ c. search needs)
     (λ c. let byte = c .before .before in let put = byte .before .before .before .before in
     let first = put .before .before in let line = rw (first .first .ensures) at (put .answer .ensures) in
-    rw (le-ltb _ _ (first .before .if1 .left)) (placed-append line (byte .put-byte2 .ensures))))
+    rw (le-ltb _ _ (first .before .if1 .left))
+    (placed-append (line .placed) (byte .put-byte2 .ensures), simp length-append (omega (arith, line .short)))))

@@ -11,12 +11,19 @@ unfolding fed fedOut
 feed-spec = tie.close (tie.spec (λ c κs. search needs) (λ c. search needs)
     (λ c. let put = c .before .before in let test = put .before .before .before .before in
     let newline = eq-eqb (test .before .before .args .b) 10 (test .if1 .taken) in
-    record {
+    let call = put .answer .ensures in record {
       held = rw newline;
-      answer = rw newline (put .answer .ensures .index);
-      inside = omega (arith, put .answer .ensures .index);
-      buffer = rw newline (put .answer .ensures .bytes);
+      answer = rw newline (call .0 .index);
+      inside = omega (arith, call .0 .index);
+      whole = λ room. rw newline (omega (arith, call .0 .index, call .1));
+      buffer = rw newline (call .0 .bytes);
     })
     (λ c κs. search needs)
     (λ c. let test = c .before .before in let other = ne-eqb (test .before .before .args .b) 10 (test .if1 .left) in
-    record { held = rw other (c .push .ensures); answer = rw other refl; inside = omega arith; buffer = rw other refl }))
+    record {
+      held = rw other (c .push .ensures);
+      answer = rw other refl;
+      inside = omega arith;
+      whole = λ room. rw other refl;
+      buffer = rw other refl;
+    }))
