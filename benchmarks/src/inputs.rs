@@ -32,7 +32,7 @@ impl Inputs {
             random: (0..100)
                 .map(|_| (r.between(5 * MHZ, 50 * MHZ), r.between(10 * MHZ, 300 * MHZ)))
                 .collect(),
-            plans: std::iter::repeat_with(|| random_plan::plan(&mut r).try_into().unwrap())
+            plans: std::iter::repeat_with(|| random_plan::plan(&mut r, 0).try_into().unwrap())
                 .filter(accepted)
                 .take(200)
                 .collect(),

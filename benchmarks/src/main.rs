@@ -12,12 +12,6 @@ mod plain;
 mod recorder;
 
 // Of the oracle: the stand-in for rp-pac, plans as 48 numbers, random ones, and the plain runner.
-#[allow(dead_code)]
-#[path = "../../oracle/src/case.rs"]
-mod case;
-#[allow(dead_code)]
-#[path = "../../oracle/src/limits.rs"]
-mod limits;
 #[allow(dead_code, unused_imports)]
 #[path = "../../oracle/src/pac/mod.rs"]
 mod pac;
@@ -28,17 +22,20 @@ mod plain_runner;
 #[path = "../../oracle/src/plan.rs"]
 mod plan;
 #[allow(dead_code)]
+#[path = "../../oracle/src/plan_numbers.rs"]
+mod plan_numbers;
+#[allow(dead_code)]
 #[path = "../../oracle/src/random.rs"]
 mod random;
 #[allow(dead_code)]
 #[path = "../../oracle/src/random_plan.rs"]
 mod random_plan;
 #[allow(dead_code)]
-#[path = "../../oracle/src/run.rs"]
-mod run;
-#[allow(dead_code)]
 #[path = "../../oracle/src/standins.rs"]
 mod standins;
+#[allow(dead_code)]
+#[path = "../../oracle/src/values.rs"]
+mod values;
 
 // What the published code finds at its crate's root.
 use standins::{Peri, atomics, cortex_m, fixed, gpio, peripherals};

@@ -1,291 +1,162 @@
-//! Cases as text: a word, then decimal numbers with one space between. What is no case is `None`.
+//! Cases as text, by one table of names and letters. What is no case is `None`.
 
-use crate::run;
+use crate::plain_runner::MAX_BYTES;
+use crate::plan_numbers::{self, Fits};
+use crate::text::{bytes, hex, number};
 
-#[derive(Clone, Copy, Debug, PartialEq, Eq)]
-pub enum Kind {
-    Valid,
-    Output,
-    Search,
-    UsbPll,
-    Book,
-    Margin,
-    List,
-    Voltage,
-    Pio,
-    Gpout,
-    Sheet,
-    Crystal,
-    Rosc,
-    Default,
-    System,
-    SystemFrom,
-    Manual,
-    Run,
-    Start,
-    Bench,
-    Sleep,
-    Wake,
-    Read,
-    Voltage235,
-    Gpout235,
-    Sheet235,
-    Crystal235,
-    Rosc235,
-    Default235,
-    System235,
-    SystemFrom235,
-}
+/// A letter for each word behind the name: f a flag, b 8 bits, h 16 bits, w 32 bits, o the same and absent from there on or
+/// not, r a room; x and k the bytes of the sheet and those kept, in hex. A count before a letter repeats it.
+pub const ROWS: [(&str, &str); 25] = [
+    // INPUT REFDIV FBDIV POST1 POST2
+    ("valid", "wbhbb"),
+    ("output", "wbhbb"),
+    // INPUT TARGET, or one of the two
+    ("search", "ww"),
+    ("usb_pll", "w"),
+    ("book", "w"),
+    ("margin", "ww"),
+    // CHIP READING
+    ("voltage", "fb"),
+    // SYSTEM TARGET
+    ("pio", "ww"),
+    // CHIP SOURCE WHOLE FRACTION F0 to F9
+    ("gpout", "fbwh10w"),
+    // POLLS
+    ("wait", "w"),
+    // INPUT TARGET ROOM
+    ("list", "wwr"),
+    // CHIP, and what the preset takes
+    ("crystal", "fw"),
+    ("rosc", "f"),
+    ("default", "f"),
+    ("system", "fw"),
+    ("system_from", "fww"),
+    // HZ REFDIV FBDIV POST1 POST2 CODE
+    ("manual", "wbhbbb"),
+    // READING ROOM CHIP PLAN
+    ("sheet", "brf43w5o"),
+    // SHEET READING
+    ("read", "xb"),
+    // SHEET KEPT, at a bench BOARD, at a call READY, and the numbers of the runner or the bench
+    ("start", "xk15w"),
+    ("run", "xkf15w"),
+    ("bench_start", "xkb113w"),
+    ("bench_run", "xkbf113w"),
+    // SLOT, eleven words, four slots
+    ("sleep", "b59w"),
+    ("wake", "b59w"),
+];
 
-/// A case with its numbers in the order of the text; the bytes of its words of hex are numbers too (`run`).
+/// A case: its numbers in the order of the text, and the bytes of its words of hex.
 #[derive(Clone, Debug, PartialEq, Eq)]
 pub struct Case {
-    pub kind: Kind,
+    pub name: &'static str,
     pub numbers: Vec<u32>,
+    pub sheet: Vec<u8>,
+    pub kept: Vec<u8>,
 }
 
-/// Which numbers may stand at a place.
-#[derive(Clone, Copy)]
-pub enum Fits {
-    /// 0 up to this, included.
-    UpTo(u32),
-    /// A voltage code: 0 or 6 to 15.
-    Code,
-}
-use Fits::{Code, UpTo};
-
-impl Fits {
-    pub fn accepts(self, number: u32) -> bool {
-        match self {
-            UpTo(top) => number <= top,
-            Code => number == 0 || (6..=15).contains(&number),
-        }
-    }
-}
-
-pub const FLAG: Fits = UpTo(1);
-pub const U8: Fits = UpTo(u8::MAX as u32);
-pub const U16: Fits = UpTo(u16::MAX as u32);
-pub const U32: Fits = UpTo(u32::MAX);
-pub const ROOM: Fits = UpTo(1024);
-
-/// A line with more bytes is no case.
+/// A line with more bytes is no case, and of a sheet more bytes are not read.
 const LONGEST: usize = 4096;
+const LONGEST_SHEET: usize = 2048;
 
-pub const KINDS: [(&str, Kind); 31] = [
-    ("valid", Kind::Valid),
-    ("output", Kind::Output),
-    ("search", Kind::Search),
-    ("usb_pll", Kind::UsbPll),
-    ("book", Kind::Book),
-    ("margin", Kind::Margin),
-    ("list", Kind::List),
-    ("voltage", Kind::Voltage),
-    ("pio", Kind::Pio),
-    ("gpout", Kind::Gpout),
-    ("sheet", Kind::Sheet),
-    ("crystal", Kind::Crystal),
-    ("rosc", Kind::Rosc),
-    ("default", Kind::Default),
-    ("system", Kind::System),
-    ("system_from", Kind::SystemFrom),
-    ("manual", Kind::Manual),
-    ("run", Kind::Run),
-    ("start", Kind::Start),
-    ("bench", Kind::Bench),
-    ("sleep", Kind::Sleep),
-    ("wake", Kind::Wake),
-    ("read", Kind::Read),
-    ("voltage235", Kind::Voltage235),
-    ("gpout235", Kind::Gpout235),
-    ("sheet235", Kind::Sheet235),
-    ("crystal235", Kind::Crystal235),
-    ("rosc235", Kind::Rosc235),
-    ("default235", Kind::Default235),
-    ("system235", Kind::System235),
-    ("system_from235", Kind::SystemFrom235),
-];
-
-impl Kind {
-    pub fn of(word: &str) -> Option<Kind> {
-        KINDS.iter().find(|(name, _)| *name == word).map(|&(_, kind)| kind)
-    }
-
-    /// The numbers before a plan, or before words of hex; `read` is not taken apart.
-    pub fn numbers(self) -> &'static [Fits] {
-        match self {
-            Kind::Valid | Kind::Output => &[U32, U8, U16, U8, U8],
-            Kind::Search | Kind::Margin | Kind::Pio => &[U32, U32],
-            Kind::UsbPll | Kind::Book => &[U32],
-            Kind::List => &[U32, U32, ROOM],
-            Kind::Voltage | Kind::Voltage235 => &[U8],
-            Kind::Gpout => &[U8, U32, U8, U32, U32, U32, U32, U32, U32, U32, U32, U32, U32],
-            Kind::Gpout235 => &[U8, U32, U16, U32, U32, U32, U32, U32, U32, U32, U32, U32, U32],
-            Kind::Sheet | Kind::Rosc | Kind::Default => &[U8, ROOM],
-            Kind::Sheet235 | Kind::Rosc235 | Kind::Default235 => &[U8, ROOM],
-            Kind::Crystal | Kind::System | Kind::Crystal235 | Kind::System235 => &[U8, ROOM, U32],
-            Kind::SystemFrom | Kind::SystemFrom235 => &[U8, ROOM, U32, U32],
-            Kind::Manual => &[U8, ROOM, U32, U8, U16, U8, U8, Code],
-            Kind::Run => &run::RUN_NUMBERS,
-            Kind::Start => &run::START_NUMBERS,
-            Kind::Bench | Kind::Read => &[],
-            Kind::Sleep | Kind::Wake => &SLEEP_NUMBERS,
-        }
-    }
-
-    /// The numbers of its plan.
-    pub fn plan(self) -> &'static [Fits] {
-        match self {
-            Kind::Sheet => &PLAN_NUMBERS,
-            Kind::Sheet235 => &PLAN_NUMBERS_235,
-            _ => &[],
-        }
-    }
+/// The letters of a row, a count as so many letters.
+pub fn letters(row: &str) -> impl Iterator<Item = char> {
+    let mut count = 0;
+    row.chars().flat_map(move |c| {
+        let repeats = match c.to_digit(10) {
+            Some(digit) => {
+                count = count * 10 + digit as usize;
+                0
+            }
+            None => std::mem::take(&mut count).max(1),
+        };
+        std::iter::repeat_n(c, repeats)
+    })
 }
 
-/// The slot, eleven words, and four slots with a flag and eleven words each.
-const SLEEP_NUMBERS: [Fits; 60] = {
-    let mut numbers = [U32; 60];
-    numbers[0] = U8;
-    let mut flag = 12;
-    while flag < 60 {
-        numbers[flag] = FLAG;
-        flag += 12;
+fn limit(letter: char) -> u32 {
+    match letter {
+        'f' => 1,
+        'b' => u8::MAX.into(),
+        'h' => u16::MAX.into(),
+        'r' => 1024,
+        _ => u32::MAX,
     }
-    numbers
-};
-
-/// A plan's place in the numbers of a `sheet` case.
-pub const PLAN: usize = 2;
-
-/// The 48 numbers of a plan.
-#[rustfmt::skip]
-pub const PLAN_NUMBERS: [Fits; 48] = [
-    FLAG, U32, UpTo(3), U8, U8, U8, U8, U8, U8, U8, U8, U16, // ring: Hz, range, strengths, divider
-    FLAG, U32, U32, // crystal: Hz, multiplier
-    FLAG, U8, U16, U8, U8, // system PLL
-    FLAG, U8, U16, U8, U8, // USB PLL
-    Code, // voltage
-    FLAG, U32, // settling time
-    UpTo(2), U8, // reference: source, divider
-    UpTo(4), U32, U8, // system: source, whole, fraction
-    FLAG, UpTo(4), // peripheral: source
-    FLAG, UpTo(3), U8, U8, // USB: source, divider, phase
-    FLAG, UpTo(3), U8, U8, // ADC: the same
-    FLAG, UpTo(3), U32, U8, U8, // RTC: source, whole, fraction, phase
-];
-
-/// The 43 numbers of a plan for the RP235x: no RTC, every code from 0 to 15, a system divider of two 16-bit numbers.
-pub const PLAN_NUMBERS_235: [Fits; at::RTC] = {
-    let mut numbers = *PLAN_NUMBERS.first_chunk().unwrap();
-    numbers[at::VOLTAGE] = UpTo(15);
-    numbers[at::SYSTEM + 1] = U16;
-    numbers[at::SYSTEM + 2] = U16;
-    numbers
-};
-
-/// Where the parts of a plan begin; a part that may be absent begins with its flag.
-pub mod at {
-    pub const RING: usize = 0;
-    pub const CRYSTAL: usize = 12;
-    pub const SYSTEM_PLL: usize = 15;
-    pub const USB_PLL: usize = 20;
-    pub const VOLTAGE: usize = 25;
-    pub const SETTLING: usize = 26;
-    pub const REFERENCE: usize = 28;
-    pub const SYSTEM: usize = 30;
-    pub const PERIPHERAL: usize = 33;
-    pub const USB: usize = 35;
-    pub const ADC: usize = 39;
-    pub const RTC: usize = 43;
 }
-
-/// The parts that may be absent: place of the flag, and of the part's end.
-pub const PARTS: [(usize, usize); 9] = [
-    (at::RING, 12),
-    (at::CRYSTAL, 15),
-    (at::SYSTEM_PLL, 20),
-    (at::USB_PLL, 25),
-    (at::SETTLING, 28),
-    (at::PERIPHERAL, 35),
-    (at::USB, 39),
-    (at::ADC, 43),
-    (at::RTC, 48),
-];
 
 impl Case {
-    pub fn new(kind: Kind, numbers: &[u32]) -> Case {
-        Case { kind, numbers: numbers.to_vec() }
+    pub fn new(name: &'static str, numbers: &[u32]) -> Case {
+        Case { name, numbers: numbers.to_vec(), sheet: vec![], kept: vec![] }
+    }
+
+    pub fn sheet(reading: u32, room: u32, chip: u32, plan: &[u32]) -> Case {
+        Case::new("sheet", &[&[reading, room, chip], plan].concat())
     }
 
     pub fn parse(line: &str) -> Option<Case> {
         let mut words = line.split(' ');
-        let word = words.next()?;
-        let kind = Kind::of(word)?;
-        if kind == Kind::Read {
-            return Some(Case::new(kind, &[]));
-        }
-        let mut words: Vec<&str> = words.collect();
-        let mut bytes = Vec::new();
-        if let Some(most) = run::two_words(kind) {
-            let (second, first) = (words.pop()?, words.pop()?);
-            bytes = run::bytes_of(most, first, second)?;
-            if words.len() != kind.numbers().len() {
-                return None;
+        let first = words.next()?;
+        let &(name, row) = ROWS.iter().find(|(name, _)| *name == first)?;
+        let mut case = Case::new(name, &[]);
+        for letter in letters(row) {
+            match (letter, words.next()) {
+                ('o', None) => break,
+                ('x', word) => case.sheet = bytes(word?).filter(|sheet| sheet.len() <= LONGEST_SHEET)?,
+                ('k', word) => case.kept = bytes(word?).filter(|kept| kept.len() <= MAX_BYTES)?,
+                (_, word) => case.numbers.push(number(word?).filter(|&number| number <= limit(letter))?),
             }
         }
-        let mut numbers = words.into_iter().map(number).collect::<Option<Vec<u32>>>()?;
-        numbers.extend(bytes);
-        let case = Case { kind, numbers };
-        (line.len() <= LONGEST && case.well_formed()).then_some(case)
+        (words.next().is_none() && line.len() <= LONGEST && case.well_formed()).then_some(case)
     }
 
-    pub fn word(&self) -> &'static str {
-        KINDS.iter().find(|(_, kind)| *kind == self.kind).unwrap().0
+    fn letters(&self) -> impl Iterator<Item = char> {
+        letters(ROWS.iter().find(|(name, _)| *name == self.name).expect("a row").1)
     }
 
     pub fn text(&self) -> String {
-        let mut text = self.word().to_string();
-        let worded = run::two_words(self.kind).is_some();
-        let plain = if worded { self.kind.numbers().len() } else { self.numbers.len() };
-        for number in &self.numbers[..plain] {
-            text.push(' ');
-            text.push_str(&number.to_string());
-        }
-        if worded {
-            text.push(' ');
-            text.push_str(&run::words_of(&self.numbers[plain..]));
-        }
-        text
+        let mut numbers = self.numbers.iter();
+        let word = |bytes: &[u8]| if bytes.is_empty() { "-".to_string() } else { hex(bytes) };
+        let words = self.letters().map_while(|letter| match letter {
+            'x' => Some(word(&self.sheet)),
+            'k' => Some(word(&self.kept)),
+            _ => numbers.next().map(u32::to_string),
+        });
+        words.fold(self.name.to_string(), |text, word| text + " " + &word)
     }
 
-    /// The lent buffer's length.
+    /// 0 the RP2040, 1 the RP235x, where the case names one.
+    pub fn chip(&self) -> Option<u32> {
+        match self.name {
+            "voltage" | "gpout" | "crystal" | "rosc" | "default" | "system" | "system_from" => {
+                Some(self.numbers[0])
+            }
+            "sheet" => Some(self.numbers[2]),
+            _ => None,
+        }
+    }
+
+    /// The lent buffer's length, and the plan, of a `sheet`.
     pub fn room(&self) -> usize {
         self.numbers[1] as usize
     }
 
-    /// Whether it is a case: parse and generate use the same rules.
-    pub fn well_formed(&self) -> bool {
-        let before = self.kind.numbers();
-        let plan = self.kind.plan();
-        let fits = before.iter().chain(plan);
-        (run::two_words(self.kind).is_some() || self.numbers.len() == before.len() + plan.len())
-            && fits.zip(&self.numbers).all(|(fits, &number)| fits.accepts(number))
-            && (plan.is_empty() || whole_plan(&self.numbers[PLAN..]))
+    pub fn plan(&self) -> &[u32] {
+        &self.numbers[3..]
     }
-}
 
-/// An absent part's numbers are 0, and a PLL needs the crystal.
-fn whole_plan(plan: &[u32]) -> bool {
-    let absent_zero =
-        |&(flag, end): &(usize, usize)| plan[flag] == 1 || plan[flag..end].iter().all(|&n| n == 0);
-    let pll_with_crystal = |pll: usize| plan[pll] <= plan[at::CRYSTAL];
-    let mut parts = PARTS.iter().filter(|&&(flag, _)| flag < plan.len());
-    parts.all(absent_zero) && pll_with_crystal(at::SYSTEM_PLL) && pll_with_crystal(at::USB_PLL)
-}
-
-/// One to ten decimal digits, of a number of 32 bits.
-pub fn number(word: &str) -> Option<u32> {
-    let digits = (1..=10).contains(&word.len()) && word.bytes().all(|byte| byte.is_ascii_digit());
-    digits.then(|| word.parse().ok()).flatten()
+    /// Whether the call takes the numbers: those of no plan, no divider, no voltage, no runner and no slots are no case. That
+    /// there is no such board or slot is said before.
+    pub fn well_formed(&self) -> bool {
+        let n = &self.numbers;
+        match self.name {
+            "gpout" => n[0] == 1 || n[3] <= u8::MAX.into(),
+            "manual" => Fits::Code.accepts(n[5]),
+            "sheet" => plan_numbers::whole(n[2], self.plan()),
+            "run" => n[1 + 3] <= 1,
+            "bench_run" => n[0] > 7 || n[2 + 14 * n[0] as usize + 3] <= 1,
+            "sleep" | "wake" => n[0] > 3 || n[12..].iter().step_by(12).all(|&flag| flag <= 1),
+            _ => true,
+        }
+    }
 }

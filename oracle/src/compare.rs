@@ -6,8 +6,10 @@ use std::io::{self, Read, Write};
 use std::process::{Command, Stdio};
 
 use crate::answer::{Answer, answer};
-use crate::case::{Case, Kind, PLAN, at};
+use crate::case::Case;
+use crate::plan_numbers::at;
 use crate::rules;
+use crate::text::refused;
 
 /// Cases a run of the program gets at once.
 const BATCH: usize = 20_000;
@@ -72,60 +74,72 @@ impl Class {
     }
 }
 
-/// The class of an answer of ours beside the Rust's; nothing where it is a finding.
-pub fn class(case: &Case, rust: &Answer, ours: &str) -> Option<Class> {
-    let refused: Option<u8> = ours.strip_prefix("refused ").and_then(|number| number.parse().ok());
-    match (rust, refused) {
-        (Answer::Sheet(steps) | Answer::Settled(steps) | Answer::Scaled(steps), _)
+/// What is owed where the Rust answers so, and how the two go together; nothing where the stand-in does not know.
+pub fn owed(case: &Case, rust: &Answer) -> Option<(Class, String)> {
+    let same = |class: Class| (class, rust.to_string());
+    let refuses = |class: Class, number: u8| (class, refused(number));
+    Some(match rust {
+        Answer::Sheet(steps) | Answer::Settled(steps) | Answer::Scaled(steps)
             if case.room() < steps.len() * 8 =>
         {
-            (refused == Some(19)).then_some(Class::Room)
+            refuses(Class::Room, 19)
         }
-        (Answer::Panic(_), None) => (exact_vco(case) && ours == "no").then_some(Class::ExactVco),
-        (Answer::Panic(refusals), Some(number)) => {
-            refusals.contains(&number).then_some(Class::Panics(number))
+        Answer::Panic(_) if case.name == "valid" => (Class::ExactVco, exact_vco(case)?),
+        Answer::Panic(refusals) => {
+            let number = first_due(case, refusals)?;
+            refuses(Class::Panics(number), number)
         }
-        (Answer::Drops(_), None) => (pio_value(case)? == ours).then_some(Class::PioShift),
-        (Answer::Drops(number), Some(refused)) => {
-            (refused == *number && pio_value(case).is_none()).then_some(Class::Loses(refused))
+        Answer::Drops(number) => match pio_value(case) {
+            Some(value) => (Class::PioShift, value),
+            None => refuses(Class::Loses(*number), *number),
+        },
+        Answer::Says(says) if gpout_ruled(case).is_some() && gpout_value(case) != *says => {
+            (gpout_ruled(case)?, gpout_value(case))
         }
-        (Answer::Says(says), _) if gpout_ruled(case).is_some() && gpout_value(case) != *says => {
-            gpout_ruled(case).filter(|_| gpout_value(case) == ours)
+        Answer::Says(_) if case.name == "search" && case.numbers[0] < rules::MINIMUM => {
+            refuses(Class::UnderMinimum, 15)
         }
-        (Answer::Says(_), _) if under_minimum(case) => (refused == Some(15)).then_some(Class::UnderMinimum),
-        (Answer::Unknown(_), _) => None,
-        _ if rust.to_string() != ours => None,
-        (Answer::Ruled(_), None) if sleeps(case) => Some(Class::CrystalCode),
-        (Answer::Ruled(_), _) => Some(Class::SameByRule(case.word())),
-        (Answer::Settled(_), _) => Some(Class::SameSettling),
-        (Answer::Scaled(_), _) => Some(Class::SameScale),
-        _ if ring_divider(case) => Some(Class::SameRingDivider),
-        _ => Some(Class::Same),
+        Answer::Unknown(_) => return None,
+        Answer::Ruled(text) if ["sleep", "wake"].contains(&case.name) && !text.starts_with("refused") => {
+            same(Class::CrystalCode)
+        }
+        Answer::Ruled(_) => same(Class::SameByRule(case.name)),
+        Answer::Settled(_) => same(Class::SameSettling),
+        Answer::Scaled(_) => same(Class::SameScale),
+        _ if ring_divider(case) => same(Class::SameRingDivider),
+        _ => same(Class::Same),
+    })
+}
+
+/// The class of an answer of ours; nothing where it is a finding.
+pub fn class(case: &Case, rust: &Answer, ours: &str) -> Option<Class> {
+    owed(case, rust).filter(|(_, owed)| owed == ours).map(|(class, _)| class)
+}
+
+/// Of the refusals at one place of the Rust the one that is due: a divider out of its range comes before a frequency.
+fn first_due(case: &Case, refusals: &[u8]) -> Option<u8> {
+    match refusals {
+        [7, 8] => Some(if (1..=4).contains(&case.plan()[at::REFERENCE + 1]) { 8 } else { 7 }),
+        [9, 10] => Some(if (1..=16_777_215).contains(&case.plan()[at::SYSTEM + 1]) { 10 } else { 9 }),
+        [number] => Some(*number),
+        _ => None,
     }
 }
 
 /// Over what the datasheet's field holds, 0xAA0 included.
-pub fn ring_divider(case: &Case) -> bool {
-    case.kind == Kind::Sheet && case.numbers[PLAN + at::RING + 11] > 0xfff - 0xaa0
+fn ring_divider(case: &Case) -> bool {
+    case.name == "sheet" && case.chip() == Some(0) && case.plan()[at::RING + 11] > 0xfff - 0xaa0
 }
 
-/// One of `sleep` or `wake`: where a rule answers it without a refusal, the crystal's enable code is none.
-pub fn sleeps(case: &Case) -> bool {
-    [Kind::Sleep, Kind::Wake].contains(&case.kind)
-}
-
-pub fn under_minimum(case: &Case) -> bool {
-    case.kind == Kind::Search && case.numbers[0] < rules::MINIMUM
-}
-
-fn exact_vco(case: &Case) -> bool {
+/// No, where the VCO is over 32 bits.
+fn exact_vco(case: &Case) -> Option<String> {
     let n = &case.numbers;
-    case.kind == Kind::Valid && (n[0] / n[1]) as u64 * n[2] as u64 > u32::MAX as u64
+    ((n[0] / n[1]) as u64 * n[2] as u64 > u32::MAX as u64).then(|| "0".to_string())
 }
 
 /// The value by docs/FORMAT.md, PIO divider, where there is one.
 fn pio_value(case: &Case) -> Option<String> {
-    if case.kind != Kind::Pio || case.numbers[1] == 0 {
+    if case.name != "pio" || case.numbers[1] == 0 {
         return None;
     }
     let value = case.numbers[0] as u64 * 256 / case.numbers[1] as u64;
@@ -133,10 +147,10 @@ fn pio_value(case: &Case) -> Option<String> {
 }
 
 /// The class of a Gpout whose divider the Rust takes otherwise than the datasheet.
-pub fn gpout_ruled(case: &Case) -> Option<Class> {
-    match (case.kind, &case.numbers[..]) {
-        (Kind::Gpout, [_, 0, _, ..]) | (Kind::Gpout235, [_, 0, 0, ..]) => Some(Class::GpoutWhole0),
-        (Kind::Gpout235, [_, _, fraction, ..]) if *fraction != 0 => Some(Class::GpoutScale),
+fn gpout_ruled(case: &Case) -> Option<Class> {
+    match (case.name, &case.numbers[..]) {
+        ("gpout", [0, _, 0, _, ..] | [1, _, 0, 0, ..]) => Some(Class::GpoutWhole0),
+        ("gpout", [1, _, _, fraction, ..]) if *fraction != 0 => Some(Class::GpoutScale),
         _ => None,
     }
 }
@@ -145,19 +159,19 @@ pub fn gpout_ruled(case: &Case) -> Option<Class> {
 fn gpout_value(case: &Case) -> String {
     let n = &case.numbers;
     // The clock's number of each source.
-    let clock = match (case.kind, n[0]) {
+    let clock = match (n[0], n[1]) {
         (_, 0) => 2,
         (_, 3) => 3,
-        (Kind::Gpout, 4) | (Kind::Gpout235, 5) => 0,
-        (Kind::Gpout, 5) | (Kind::Gpout235, 6) => 1,
-        (Kind::Gpout, 6) | (Kind::Gpout235, 8) => 5,
-        (Kind::Gpout, 7) | (Kind::Gpout235, 9) => 7,
-        (Kind::Gpout, 8) | (Kind::Gpout235, 10) => 8,
+        (0, 4) | (1, 5) => 0,
+        (0, 5) | (1, 6) => 1,
+        (0, 6) | (1, 8) => 5,
+        (0, 7) | (1, 9) => 7,
+        (0, 8) | (1, 10) => 8,
         _ => 4,
     };
-    let scale = if case.kind == Kind::Gpout { 256 } else { 65_536 };
-    let whole = if n[1] == 0 { 65_536 } else { n[1] as u64 };
-    (n[3 + clock] as u64 * scale / (whole * scale + n[2] as u64)).to_string()
+    let scale = [256, 65_536][n[0] as usize];
+    let whole = if n[2] == 0 { 65_536 } else { n[2] as u64 };
+    (n[4 + clock] as u64 * scale / (whole * scale + n[3] as u64)).to_string()
 }
 
 /// Compares, prints the counts by class, and says whether there was no finding.

@@ -3,9 +3,10 @@
 
 use std::collections::BTreeMap;
 
-use crate::answer::{Answer, answer, answer_line};
-use crate::case::{Case, KINDS, Kind};
-use crate::compare::class;
+use crate::answer::{answer, answer_line};
+use crate::case::{Case, ROWS, letters};
+use crate::replay::owed_line;
+use crate::steps::Step;
 
 const PAPERS: &str = concat!(
     include_str!("../../docs/FORMAT.md"),
@@ -68,12 +69,21 @@ fn packed(step: &str, widths: &BTreeMap<u64, Vec<u64>>) -> u64 {
     word
 }
 
+/// The case of a preset's sheet at reading 11.
+fn sheet_line(preset: &str) -> String {
+    format!("sheet 11 528 {}", answer_line(preset))
+}
+
+fn steps(line: &str) -> Vec<Step> {
+    Case::parse(line).and_then(|case| answer(&case).steps()).unwrap_or_else(|| panic!("no sheet: {line}"))
+}
+
 #[test]
 fn the_worked_sheet_is_the_rusts() {
     let _alone = crate::tests::alone();
     let rows = rows("A worked sheet");
     let bytes: String = rows.iter().map(|cells| cells[1].trim_matches('`')).collect();
-    assert_eq!(format!("496 {bytes}"), answer_line("crystal 11 520 12000000"));
+    assert_eq!(format!("496 {bytes}"), answer_line(&sheet_line("crystal 0 12000000")));
     assert!(rows.iter().enumerate().all(|(position, cells)| number(cells[0]) == position as u64));
 }
 
@@ -99,13 +109,13 @@ fn its_words_say_what_it_stores() {
 #[test]
 fn the_voltages_are_the_rusts() {
     let _alone = crate::tests::alone();
-    for (heading, word, readings) in [("Voltages", "voltage", 0..=15), ("The RP235x", "voltage235", 0..=31)] {
+    for (heading, chip, readings) in [("Voltages", 0, 0..=15), ("The RP235x", 1, 0..=31)] {
         let row = |name: &str| cells(heading).into_iter().find(|cells| cells[0] == name).unwrap();
         let (codes, levels) = (row("code"), row("brownout level"));
         for reading in readings {
             let known = codes.iter().position(|code| *code == reading.to_string());
             let expected = known.map_or("refused 18".to_string(), |at| format!("{reading} {}", levels[at]));
-            assert_eq!(answer_line(&format!("{word} {reading}")), expected);
+            assert_eq!(answer_line(&format!("voltage {chip} {reading}")), expected);
         }
     }
 }
@@ -114,17 +124,15 @@ fn the_voltages_are_the_rusts() {
 #[test]
 fn the_settling_times_are_the_rusts() {
     let _alone = crate::tests::alone();
-    for (heading, word, end) in [("Voltages", "sheet", " 0 0 0 0 0"), ("The RP235x", "sheet235", "")] {
+    for (heading, chip, end) in [("Voltages", 0, " 0 0 0 0 0"), ("The RP235x", 1, "")] {
         let row = |name: &str| cells(heading).into_iter().find(|cells| cells[0].starts_with(name)).unwrap();
         for (code, time) in row("code").iter().zip(row("settling time where none is given")).skip(1) {
             let reading = if *code == "11" { 12 } else { 11 };
             let ring = "1 1000000 1 0 0 0 0 0 0 0 0 16 0 0 0 0 0 0 0 0 0 0 0 0 0";
-            let case = format!("{word} {reading} 528 {ring} {code} 0 0 0 1 0 1 0 0 0 0 0 0 0 0 0 0 0{end}");
-            let Some(Answer::Sheet(steps)) = Case::parse(&case).map(|case| answer(&case)) else {
-                panic!("no sheet: {case}");
-            };
-            let delays: Vec<u64> =
-                steps.iter().filter(|step| step.kind == 14).map(|step| step.word << 6 >> 32).collect();
+            let case =
+                format!("sheet {reading} 528 {chip} {ring} {code} 0 0 0 1 0 1 0 0 0 0 0 0 0 0 0 0 0{end}");
+            let delays = steps(&case).into_iter().filter(|step| step.kind == 14);
+            let delays: Vec<u64> = delays.map(|step| step.word << 6 >> 32).collect();
             let times: Vec<u64> = time.parse().into_iter().filter(|time| *time != 0).collect();
             assert_eq!(delays, times, "{case}");
         }
@@ -144,26 +152,20 @@ fn the_usb_plls_are_those_of_every_setting_tried() {
 #[test]
 fn the_example_of_clocks_is_what_the_rust_stores() {
     let _alone = crate::tests::alone();
-    let Some(Answer::Sheet(steps)) = Case::parse("system 11 520 125000000").map(|case| answer(&case)) else {
-        panic!("no sheet");
-    };
+    let steps = steps(&sheet_line("system 0 125000000"));
     let stored = steps.iter().filter_map(|step| step.stored());
     let stored = stored.map(|(clock, hz)| format!("{} {hz}", CLOCKS[clock as usize]));
     let shown = section("Program clocks").skip_while(|line| *line != "```").skip(1);
     assert!(shown.take(10).eq(stored));
 }
 
-/// `limits` holds docs/FORMAT.md: its stored answers are the Rust's too, or differ as docs/DIFFERENCES.md says.
+/// `limits` holds docs/FORMAT.md: its stored answers are those that are owed.
 #[test]
 fn the_answers_of_limits_are_right() {
     let _alone = crate::tests::alone();
     let cases = include_str!("../../crates/limits/stdin").lines();
     for (line, stored) in cases.zip(include_str!("../../crates/limits/stdout").lines()) {
-        match Case::parse(line) {
-            None => assert_eq!(stored, "bad case", "{line}"),
-            Some(case) if case.kind == Kind::Read => assert_eq!(answer_line(line), stored, "{line}"),
-            Some(case) => assert!(class(&case, &answer(&case), stored).is_some(), "{line}: {stored}"),
-        }
+        assert_eq!(owed_line(line).as_deref(), Some(stored), "{line}");
     }
 }
 
@@ -180,9 +182,9 @@ fn the_example_of_explain_is_its_replay() {
     let stored = include_str!("../../crates/explain/stdout");
     assert!(shown.take_while(|line| *line != "```").eq(stored.lines()));
     let (reading, hex) = include_str!("../../crates/explain/stdin").trim_end().split_once('\n').unwrap();
-    assert_eq!(answer_line(&format!("crystal {reading} 520 12000000")), format!("{} {hex}", hex.len() / 2));
-    let plan = stored.lines().last().unwrap().replace("plan", "rp2040");
-    assert_eq!(answer_line(&format!("read {reading} {hex}")), plan);
+    assert_eq!(answer_line(&sheet_line("crystal 0 12000000")), format!("{} {hex}", hex.len() / 2));
+    let plan = stored.lines().last().unwrap().replace("plan", "0");
+    assert_eq!(answer_line(&format!("read {hex} {reading}")), plan);
 }
 
 #[test]
@@ -192,9 +194,22 @@ fn the_load_of_0_1_is_as_shown() {
     assert!(shown.take(2).eq(crate::load::output("0 1").lines()));
 }
 
+/// The rows of docs/CASES.md have the names and, by its table of words, the letters of the table here.
 #[test]
 fn the_cases_are_those_that_are_answered() {
-    let asked = cells("Text cases").into_iter().filter_map(|cells| cells[0].strip_prefix('`'));
-    let words: Vec<&str> = asked.map(|case| case.split(' ').next().unwrap()).collect();
-    assert_eq!(words, KINDS.map(|(word, _)| word));
+    let words: BTreeMap<&str, &str> = cells("Words")
+        .into_iter()
+        .flat_map(|cells| {
+            cells[0].split(' ').map(move |word| (word.trim_matches('`'), cells[1].trim_matches('`')))
+        })
+        .collect();
+    let rows =
+        cells("Text cases").into_iter().filter_map(|cells| cells[0].strip_prefix('`')?.strip_suffix('`'));
+    let row = |case: &'static str| {
+        let (name, rest) = case.split_once(' ').unwrap_or((case, ""));
+        let of_word = |word: &str| *words.get(word).unwrap_or_else(|| panic!("{case}: {word}"));
+        (name, letters(&rest.split(' ').map(of_word).collect::<String>()).collect::<String>())
+    };
+    let ours = ROWS.map(|(name, row)| (name, letters(row).collect::<String>()));
+    assert_eq!(rows.map(row).collect::<Vec<_>>(), ours);
 }

@@ -1,139 +1,151 @@
-//! Cases from a seed: first every limit, the same for all seeds, then random ones. `voltage` has 256 inputs
+//! Cases from a seed: first every limit, the same for all seeds, then random ones. `voltage` has 256 inputs of each chip
 //! and all of them are among the first.
 
-use crate::bench;
-use crate::case::{Case, Kind};
+use crate::answer::planned;
+use crate::case::Case;
 use crate::generate_ruled as ruled;
 use crate::limits;
+use crate::plan_numbers::at;
 use crate::random::Random;
 use crate::random_plan;
-use crate::rp235x::generate as rp235x;
 use crate::run;
 use crate::sleep::cases as sleep;
+use crate::values;
 
 /// Lines: cases, and a few lines that are none.
 pub fn lines(seed: u64, count: usize) -> impl Iterator<Item = String> {
-    let fixed = limits::all().into_iter().chain(ruled::limits()).chain(rp235x::limits());
-    let (mut of_rust, mut of_rules) = (random_lines(seed, case), random_lines(!seed, ruled_case));
-    let mut of_rp235x = random_lines(seed ^ RP235X, rp235x::case);
+    let (mut of_rust, mut of_rules) = (random_lines(seed, |r| case(r, 0)), random_lines(!seed, ruled_case));
+    let mut of_rp235x = random_lines(seed ^ RP235X, |r| case(r, 1));
     // Of random cases one in five rests on rules of the port's own, and one in five is the RP235x's.
     let random = (1..).map(move |at: usize| match at % 5 {
         0 => of_rules(),
         1 => of_rp235x(),
         _ => of_rust(),
     });
-    fixed.map(|case| case.text()).chain(random).take(count)
+    limits::all().into_iter().chain(ruled::limits()).map(|case| case.text()).chain(random).take(count)
 }
 
 /// Those that stored files are made from, the cases that rest on the Rust: so many of them, then those of `sleep` and `wake`.
 pub fn stored_lines(seed: u64, count: usize) -> impl Iterator<Item = String> {
-    let fixed = limits::all().into_iter().chain(rp235x::limits());
-    let (mut of_rust, mut of_rp235x) = (random_lines(seed, case), random_lines(seed ^ RP235X, rp235x::case));
-    let random = (0..).map(move |at: usize| if at.is_multiple_of(2) { of_rust() } else { of_rp235x() });
-    fixed.map(|case| case.text()).chain(random).take(count).chain(sleeps(seed))
+    let mut chips = [0, 0, 1].into_iter().cycle();
+    let random = random_lines(seed, move |r| case(r, chips.next().unwrap()));
+    let mut names = ["sleep", "wake"].into_iter().cycle();
+    let sleeps = random_lines(seed ^ SLEEP, move |r| of(r, names.next().unwrap(), 0));
+    let rust = limits::all().into_iter().map(|case| case.text()).chain(std::iter::repeat_with(random));
+    let fixed = sleep::limits().into_iter().map(|case| case.text());
+    rust.take(count).chain(fixed).chain(std::iter::repeat_with(sleeps).take(SLEEPS))
 }
 
 /// Random cases of `sleep` and `wake` in stored files, half of them of each.
-const SLEEPS: usize = 600;
+const SLEEPS: usize = 660;
 
-fn sleeps(seed: u64) -> impl Iterator<Item = String> {
-    let mut kinds = [Kind::Sleep, Kind::Wake].into_iter().cycle();
-    let random = random_lines(seed ^ SLEEP, move |r| of_kind(r, kinds.next().unwrap()));
-    let fixed = sleep::limits().into_iter().map(|case| case.text());
-    fixed.chain(std::iter::repeat_with(random).take(SLEEPS))
-}
-
-/// Sets the seed of the stored sleeps apart.
+// Set the seeds of the RP235x's cases and of the stored sleeps apart.
+const RP235X: u64 = 235 << 32;
 const SLEEP: u64 = 11 << 32;
 
-/// Sets the seed of the RP235x's cases apart.
-const RP235X: u64 = 235 << 32;
-
-/// Cases of the words that end so.
-pub fn lines_ending(word: String, seed: u64, count: usize) -> impl Iterator<Item = String> {
-    let asked = move |line: &String| line.split(' ').next().is_some_and(|first| first.ends_with(&word));
-    lines(seed, usize::MAX).filter(asked).take(count)
-}
-
-/// Lines of one kind: its limits, then random ones.
-pub fn lines_of(kind: Kind, seed: u64, count: usize) -> impl Iterator<Item = String> {
-    // A bench is compared by its own word alone: one case holds hundreds of calls.
-    let all = limits::all().into_iter().chain(ruled::limits()).chain(bench::limits());
-    let fixed = all.filter(move |case| case.kind == kind);
-    let random = random_lines(seed, move |r| of_kind(r, kind));
-    fixed.map(|case| case.text()).chain(std::iter::repeat_with(random)).take(count)
+/// What may stand for cases that are compared alone: a name, `bench` for both of its calls, `235x` for all of that chip.
+pub fn lines_of(word: &str, seed: u64, count: usize) -> Option<Box<dyn Iterator<Item = String>>> {
+    if word == "235x" {
+        let asked = |line: &String| Case::parse(line).is_some_and(|case| case.chip() == Some(1));
+        return Some(Box::new(lines(seed, usize::MAX).filter(asked).take(count)));
+    }
+    let all = crate::case::ROWS.map(|(name, _)| name).into_iter();
+    let names: Vec<&str> = match word {
+        "bench" => all.filter(|name| name.starts_with("bench")).collect(),
+        _ => all.filter(|name| *name == word).collect(),
+    };
+    // A bench and `read` are compared by their own words alone.
+    let fixed = limits::all().into_iter().chain(ruled::limits()).chain(run::limits());
+    let fixed: Vec<Case> = fixed.filter(|case| names.contains(&case.name)).collect();
+    let mut names = (!names.is_empty()).then_some(names)?.into_iter().cycle();
+    let random = random_lines(seed, move |r| {
+        let chip = r.between(0, 1);
+        of(r, names.next().unwrap(), chip)
+    });
+    let lines = fixed.into_iter().map(|case| case.text()).chain(std::iter::repeat_with(random));
+    Some(Box::new(lines.take(count)))
 }
 
 fn random_lines(seed: u64, mut case: impl FnMut(&mut Random) -> Case) -> impl FnMut() -> String {
     let mut r = Random::new(seed);
     move || {
         let case = case(&mut r);
-        debug_assert!(case.well_formed());
         if r.percent(1) { no_case(&mut r, &case) } else { case.text() }
     }
 }
 
-fn case(r: &mut Random) -> Case {
-    let kind = match r.between(0, 99) {
-        0..=13 => Kind::Search,
-        14..=22 => Kind::Valid,
-        23..=30 => Kind::Output,
-        31..=38 => Kind::Pio,
-        39..=46 => Kind::Gpout,
-        47..=50 => Kind::Crystal,
-        51..=55 => Kind::System,
-        56..=60 => Kind::Manual,
-        61 => r.pick(&[Kind::Rosc, Kind::Default]),
-        _ => Kind::Sheet,
+fn case(r: &mut Random, chip: u32) -> Case {
+    let name = match r.between(0, 99) {
+        0..=7 => "gpout",
+        8..=11 => "crystal",
+        12..=16 => "system",
+        17..=20 => "system_from",
+        21 => r.pick(&["rosc", "default"]),
+        22..=33 if chip == 0 => "search",
+        34..=40 if chip == 0 => "valid",
+        41..=47 if chip == 0 => "output",
+        48..=54 if chip == 0 => "pio",
+        55..=58 if chip == 0 => "manual",
+        22..=25 => "crystal",
+        _ => "sheet",
     };
-    of_kind(r, kind)
+    of(r, name, chip)
 }
 
 fn ruled_case(r: &mut Random) -> Case {
-    let kind = r.pick(&ruled::KINDS);
-    of_kind(r, kind)
+    let (name, chip) = (r.pick(&ruled::NAMES), r.between(0, 1));
+    of(r, name, chip)
 }
 
-pub fn of_kind(r: &mut Random, kind: Kind) -> Case {
-    let numbers = match kind {
-        Kind::Valid | Kind::Output => setting(r),
-        Kind::Search | Kind::Margin => search(r),
-        Kind::UsbPll => vec![ruled::crystal(r)],
-        Kind::Book => vec![search_target(r, 12_000_000)],
-        Kind::List => ruled::list(r),
-        Kind::Sleep | Kind::Wake => sleep::numbers(r),
-        Kind::Voltage => vec![r.between(0, 255)],
-        Kind::Pio => pio(r),
-        Kind::Gpout => gpout(r),
-        Kind::Sheet => with_buffer(r, random_plan::plan),
-        Kind::Crystal => with_buffer(r, |r| vec![random_plan::crystal_hz(r)]),
-        Kind::Rosc | Kind::Default => with_buffer(r, |_| vec![]),
-        Kind::System => with_buffer(r, |r| search(r)[1..].to_vec()),
-        Kind::SystemFrom => with_buffer(r, ruled::system_from),
-        Kind::Manual => with_buffer(r, manual),
-        Kind::Run | Kind::Start => run::numbers(kind, r),
-        Kind::Bench => bench::numbers(r),
-        // Made in `rp235x`: no case of these is made here.
-        _ => vec![],
+/// A random case of this name, for this chip where it takes one.
+pub fn of(r: &mut Random, name: &'static str, chip: u32) -> Case {
+    let numbers = match name {
+        "valid" | "output" => setting(r),
+        "search" | "margin" => search(r),
+        "usb_pll" => vec![ruled::crystal(r)],
+        "book" => vec![search_target(r, 12_000_000)],
+        "voltage" => vec![chip, r.between(0, 255)],
+        "pio" => pio(r),
+        "gpout" => gpout(r, chip),
+        "wait" => vec![if r.percent(50) { r.between(0, 1_000_001) } else { r.any() }],
+        "list" => ruled::list(r),
+        "crystal" => vec![chip, random_plan::crystal_hz(r)],
+        "rosc" | "default" => vec![chip],
+        "system" => vec![chip, search(r)[1]],
+        "system_from" => ruled::system_from(r, chip),
+        "manual" => [setting(r), vec![r.pick(&[0, 6, 7, 8, 9, 10, 11, 12, 13, 14, 15])]].concat(),
+        "sheet" => return sheet(r, chip),
+        "read" => return ruled::read(r, chip),
+        "sleep" | "wake" => sleep::numbers(r),
+        _ => return run::random(r, name),
     };
-    Case { kind, numbers }
+    Case::new(name, &numbers)
 }
 
-/// A reading and a buffer's length before the rest.
-pub fn with_buffer(r: &mut Random, rest: impl FnOnce(&mut Random) -> Vec<u32>) -> Vec<u32> {
+/// A random plan, or that of a preset, with a reading and a buffer's length.
+fn sheet(r: &mut Random, chip: u32) -> Case {
     let reading = match r.between(0, 49) {
         0..=15 => 11,
-        16..=48 => r.between(0, 15),
+        16..=48 => r.between(0, [15, 31][chip as usize]),
         _ => r.between(0, 255),
     };
+    let longest = values::longest(chip);
     let room = match r.between(0, 9) {
-        0..=4 => 520,
+        0..=4 => longest,
         5..=6 => 1024,
         7 => r.between(0, 1024),
-        8 => r.between(34, 66) * 8,
-        _ => r.pick(&limits::ROOMS),
+        8 => r.between(34, longest / 8 + 1) * 8,
+        _ => r.pick(&values::ROOMS),
     };
-    [vec![reading, room], rest(r)].concat()
+    let preset = if r.percent(20) {
+        let names = ["rosc", "crystal", "system", "system_from", "manual"];
+        let name = r.pick(&names[..names.len() - chip as usize]);
+        planned(&of(r, name, chip))
+    } else {
+        None
+    };
+    let plan = preset.unwrap_or_else(|| random_plan::plan(r, chip));
+    Case::sheet(reading, room, chip, &plan)
 }
 
 const POSTS: std::ops::RangeInclusive<u32> = 1..=7;
@@ -142,7 +154,7 @@ const POSTS: std::ops::RangeInclusive<u32> = 1..=7;
 pub fn search(r: &mut Random) -> Vec<u32> {
     let input = match r.between(0, 9) {
         0..=3 => 12_000_000,
-        4 => r.pick(&limits::SEARCH_INPUTS),
+        4 => r.pick(&values::SEARCH_INPUTS),
         5 => r.between(1, 100) * 1_000_000,
         6..=8 => r.between(2_343_750, 100_000_000),
         _ => r.any(),
@@ -194,12 +206,12 @@ fn between_outputs(r: &mut Random, input: u32) -> u32 {
 
 /// An input and a PLL's dividers: valid, at a limit, or anything.
 fn setting(r: &mut Random) -> Vec<u32> {
-    let input = if r.percent(30) { r.pick(&limits::PLL_INPUTS) } else { random_plan::crystal_hz(r) };
+    let input = if r.percent(30) { r.pick(&values::PLL_INPUTS) } else { random_plan::crystal_hz(r) };
     let mut dividers = random_plan::pll(r, input).unwrap_or([1, r.between(16, 320), 6, 2]);
     if r.percent(50) {
         let place = r.between(0, 3) as usize;
         dividers[place] = match place {
-            _ if r.percent(40) => r.pick(limits::values_at(crate::case::at::SYSTEM_PLL + 1 + place)),
+            _ if r.percent(40) => r.pick(values::values_at(0, at::SYSTEM_PLL + 1 + place)),
             1 => r.between(0, 700),
             _ => r.between(0, 70),
         };
@@ -213,11 +225,6 @@ fn setting(r: &mut Random) -> Vec<u32> {
         dividers = [r.between(0, 255), r.between(0, 65_535), r.between(0, 255), r.between(0, 255)];
     }
     [&[input], dividers.as_slice()].concat()
-}
-
-fn manual(r: &mut Random) -> Vec<u32> {
-    let code = r.pick(&[0, 6, 7, 8, 9, 10, 11, 12, 13, 14, 15]);
-    [setting(r), vec![code]].concat()
 }
 
 fn pio(r: &mut Random) -> Vec<u32> {
@@ -236,15 +243,19 @@ fn pio(r: &mut Random) -> Vec<u32> {
     vec![system, target]
 }
 
-fn gpout(r: &mut Random) -> Vec<u32> {
-    let source = if r.percent(80) { r.pick(&[0, 3, 4, 5, 6, 7, 8, 10]) } else { r.between(0, 255) };
+fn gpout(r: &mut Random, chip: u32) -> Vec<u32> {
+    let sources = [[0, 3, 4, 5, 6, 7, 8, 10], [0, 3, 5, 6, 8, 9, 10, 11]][chip as usize];
+    let source = if r.percent(80) { r.pick(&sources) } else { r.between(0, 255) };
     let whole = match r.between(0, 5) {
         0 => 0,
         1 => r.pick(&[1, 2, 65_535, 65_536, 16_777_215, 16_777_216, u32::MAX]),
         2 => r.any(),
         _ => r.between(1, 70_000),
     };
-    let mut numbers = vec![source, whole, r.between(0, 255)];
+    // Of the RP2040's one in fifty is none.
+    let most = if chip == 1 || r.percent(2) { 65_535 } else { 255 };
+    let fraction = if r.percent(40) { 0 } else { r.between(0, most) };
+    let mut numbers = vec![chip, source, whole, fraction];
     numbers.extend((0..9).map(|_| if r.percent(50) { r.any() } else { r.between(1_000_000, 300_000_000) }));
     numbers.push(r.between(0, 65_535));
     numbers
@@ -253,14 +264,21 @@ fn gpout(r: &mut Random) -> Vec<u32> {
 /// A line that is no case, near one that is.
 fn no_case(r: &mut Random, case: &Case) -> String {
     let text = case.text();
-    let damaged = match r.between(0, 6) {
+    let damaged = match r.between(0, 7) {
         0 => format!("{text} 0"),
         1 => text.rsplit_once(' ').map_or(String::new(), |(less, _)| less.to_string()),
         2 => text.replacen(' ', "  ", 1),
         3 => format!("{text}x"),
         4 => format!("x{text}"),
         5 => text.replacen(' ', " 4294967296 ", 1),
-        _ => text.replacen(' ', " -", 1),
+        6 => text.replacen(' ', " -", 1),
+        // Another number at one place: not all of these are no cases.
+        _ => {
+            let mut words: Vec<String> = text.split(' ').map(str::to_string).collect();
+            let place = r.between(1, words.len() as u32 - 1) as usize;
+            words[place] = r.any().to_string();
+            return words.join(" ");
+        }
     };
     if Case::parse(&damaged).is_none() && !damaged.is_empty() { damaged } else { text }
 }

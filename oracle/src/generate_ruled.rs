@@ -1,41 +1,42 @@
 //! Cases of requests, some of which rest on rules of the port's own, as `generate` has those that rest on the Rust:
 //! first the limits, then random ones. Of these, stored files hold those of `sleep` and `wake` that the Rust answers.
 
+use crate::answer::{answer, bytes};
 use crate::book;
-use crate::case::{Case, Kind};
+use crate::case::Case;
 use crate::generate;
-use crate::limits;
 use crate::random::Random;
 use crate::sleep::cases as sleep;
+use crate::values;
 
 #[rustfmt::skip]
-pub const KINDS: [Kind; 9] = [
-    Kind::UsbPll, Kind::Book, Kind::Margin, Kind::List, Kind::Run, Kind::Start, Kind::Sleep, Kind::Wake, Kind::SystemFrom,
-];
+pub const NAMES: [&str; 10] =
+    ["usb_pll", "book", "margin", "list", "wait", "run", "start", "sleep", "wake", "system_from"];
 
 pub fn limits() -> Vec<Case> {
     let mut cases = Vec::new();
-    for input in limits::SEARCH_INPUTS {
+    for input in values::SEARCH_INPUTS {
         for target in [0, 1, 48_000_000, 125_000_000, 200_000_000, 800_000_000, 1_600_000_000, u32::MAX] {
-            cases.extend([0, 2, 1024].map(|room| Case::new(Kind::List, &[input, target, room])));
-            cases.push(Case::new(Kind::Margin, &[input, target]));
+            cases.extend([0, 2, 1024].map(|room| Case::new("list", &[input, target, room])));
+            cases.push(Case::new("margin", &[input, target]));
         }
     }
-    for crystal in limits::CRYSTALS.into_iter().chain(limits::PLL_INPUTS) {
-        cases.push(Case::new(Kind::UsbPll, &[crystal]));
+    for crystal in values::CRYSTALS.into_iter().chain(values::PLL_INPUTS) {
+        cases.push(Case::new("usb_pll", &[crystal]));
     }
     // Every output, the middle to the next one, and their neighbours.
     let outputs: Vec<u32> = book::by_output(book::INPUT).into_iter().map(|(output, _)| output).collect();
     for (&output, &next) in outputs.iter().zip(outputs.iter().skip(1).chain([&u32::MAX])) {
         let middle = output + (next - output) / 2;
         cases.extend(
-            [output - 1, output, output + 1, middle, middle + 1]
-                .map(|target| Case::new(Kind::Book, &[target])),
+            [output - 1, output, output + 1, middle, middle + 1].map(|target| Case::new("book", &[target])),
         );
     }
-    cases.extend([0, u32::MAX].map(|target| Case::new(Kind::Book, &[target])));
+    cases.extend([0, u32::MAX].map(|target| Case::new("book", &[target])));
     // 8 settings, up to a buffer that is just long enough.
-    cases.extend((0..=17).map(|room| Case::new(Kind::List, &[12_000_000, 48_000_000, room])));
+    cases.extend((0..=17).map(|room| Case::new("list", &[12_000_000, 48_000_000, room])));
+    let polls = [0, 1, 999_998, 999_999, 1_000_000, 1_000_001, u32::MAX];
+    cases.extend(polls.map(|polls| Case::new("wait", &[polls])));
     cases.extend(sleep::limits());
     cases
 }
@@ -46,15 +47,27 @@ pub fn list(r: &mut Random) -> Vec<u32> {
     numbers
 }
 
-pub fn system_from(r: &mut Random) -> Vec<u32> {
+pub fn system_from(r: &mut Random, chip: u32) -> Vec<u32> {
     let crystal = crystal(r);
-    vec![crystal, generate::search_target(r, crystal)]
+    vec![chip, crystal, generate::search_target(r, crystal)]
+}
+
+/// A sheet of the Rust, or one with a bit turned over, or none; mostly at its own reading.
+pub fn read(r: &mut Random, chip: u32) -> Case {
+    let written = generate::of(r, "sheet", chip);
+    let mut sheet = bytes(&answer(&written).steps().unwrap_or_default());
+    if !sheet.is_empty() && r.percent(50) {
+        let at = r.between(0, sheet.len() as u32 - 1) as usize;
+        sheet[at] ^= 1 << r.between(0, 7);
+    }
+    let reading = if r.percent(90) { written.numbers[0] } else { r.between(0, 40) };
+    Case { sheet, ..Case::new("read", &[reading]) }
 }
 
 /// Most have a USB PLL, and most of those a startup delay that fits.
 pub fn crystal(r: &mut Random) -> u32 {
     match r.between(0, 9) {
-        0 => r.pick(&limits::CRYSTALS),
+        0 => r.pick(&values::CRYSTALS),
         1..=2 => r.between(10, 64) * 500_000,
         3..=7 => {
             // From a setting: a reference that divides without a remainder, where one is found soon.

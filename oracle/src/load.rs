@@ -3,12 +3,13 @@
 use std::collections::BTreeMap;
 use std::io;
 
-use crate::answer::answer_line;
-use crate::case::number;
+use crate::answer::{answer, bytes, planned};
+use crate::case::Case;
 use crate::clocks;
 use crate::compare::ask;
 use crate::plain_runner::Runner;
 use crate::random::Random;
+use crate::text::number;
 
 const CRYSTAL_HZ: u32 = 12_000_000;
 const MOST: u32 = 10_000;
@@ -47,10 +48,8 @@ fn trials(seed: u32, count: usize) -> String {
 
 /// The bytes of the crystal preset's sheet for 12 MHz at reading 11, by the Rust.
 fn crystal_sheet() -> Vec<u8> {
-    let sheet = answer_line("crystal 11 520 12000000");
-    let hex = sheet.split(' ').nth(1).expect("a sheet");
-    let byte = |at: usize| u8::from_str_radix(&hex[at..at + 2], 16).expect("hex");
-    (0..hex.len()).step_by(2).map(byte).collect()
+    let plan = planned(&Case::new("crystal", &[0, CRYSTAL_HZ])).expect("a plan");
+    bytes(&answer(&Case::sheet(11, 520, 0, &plan)).steps().expect("a sheet"))
 }
 
 /// Inputs: the limits, then random ones.

@@ -5,10 +5,14 @@ use crate::answer::Answer;
 use crate::book;
 use crate::clocks;
 use crate::rules::{self, Setting};
+use crate::text::refused;
+
+/// What stands for an edge that is absent: 2^32.
+const ABSENT: u64 = 1 << 32;
 
 pub fn margin(input: u32, target: u32) -> Answer {
     if input < rules::MINIMUM {
-        return Answer::Ruled("refused 15".to_string());
+        return Answer::Ruled(refused(15));
     }
     let Some(chosen) = search(input, target) else {
         return Answer::Refused(15);
@@ -19,8 +23,8 @@ pub fn margin(input: u32, target: u32) -> Answer {
     if !probed(input, target, chosen, lower, higher) {
         return Answer::Unknown(format!("the search does not change at {lower:?} and {higher:?}"));
     }
-    let text = |edge: Option<u32>| edge.map_or("-".to_string(), |target| target.to_string());
-    Answer::Ruled(format!("{} {}", text(lower), text(higher)))
+    let number = |edge: Option<u32>| edge.map_or(ABSENT, u64::from);
+    Answer::Ruled(format!("{} {}", number(lower), number(higher)))
 }
 
 fn search(input: u32, target: u32) -> Option<Setting> {

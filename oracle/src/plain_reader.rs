@@ -1,56 +1,33 @@
 //! Reading a sheet back by the papers: of each kind the first step is taken, and the plan made of them has to be written
 //! to exactly these bytes by the Rust.
 
-use crate::answer::{Answer, answer};
-use crate::case::{Case, Kind, PLAN, at, number};
+use crate::answer::answer;
+use crate::case::Case;
+use crate::plan_numbers;
 use crate::read::smallest;
 use crate::rules;
+use crate::text::refused;
 
 const ROOM: u32 = 528;
-
-/// The answer to `READING SHEET`.
-pub fn answer_line(words: &str) -> String {
-    let bad = || "bad case".to_string();
-    let Some((reading, word)) = words.split_once(' ') else {
-        return bad();
-    };
-    match (number(reading), bytes(word)) {
-        (Some(reading), Some(bytes)) if reading <= 255 && bytes.len() <= 2048 => read(reading, &bytes),
-        _ => bad(),
-    }
-}
-
-pub fn bytes(word: &str) -> Option<Vec<u8>> {
-    if word == "-" {
-        return Some(vec![]);
-    }
-    let digits = word.bytes().map(|c| (c as char).to_digit(16)).collect::<Option<Vec<u32>>>()?;
-    let pairs = digits.chunks(2).map(|pair| Some(pair[0] as u8 * 16 + *pair.get(1)? as u8));
-    pairs.collect::<Option<Vec<u8>>>().filter(|bytes| !bytes.is_empty())
-}
 
 pub fn words(bytes: &[u8]) -> Vec<u64> {
     bytes.chunks_exact(8).map(|eight| u64::from_be_bytes(eight.try_into().unwrap())).collect()
 }
 
-pub fn read(reading: u32, bytes: &[u8]) -> String {
+/// The chip and the plan of a sheet at a reading.
+pub fn read(bytes: &[u8], reading: u32) -> String {
     let words = words(bytes);
     // The six kind bits of the first step tell the chip, whatever its spare bits.
     let sheet = Sheet { rp235x: words.first().is_some_and(|word| word >> 58 == 38), words };
     if reading > if sheet.rp235x { 31 } else { 15 } {
-        return "refused 18".to_string();
+        return refused(18);
     }
-    let none = || "refused 26".to_string();
-    if !bytes.len().is_multiple_of(8) {
-        return none();
-    }
-    let Some(case) = sheet.plan(reading).and_then(|plan| sheet.case(reading, &plan)) else {
-        return none();
-    };
-    let (Answer::Sheet(steps) | Answer::Settled(steps) | Answer::Scaled(steps)) = answer(&case) else {
-        return none();
-    };
-    if steps.iter().map(|step| step.word).eq(sheet.words.iter().copied()) { smallest(&case) } else { none() }
+    let case = sheet.plan(reading).map(|plan| sheet.case(reading, &plan)).filter(Case::well_formed);
+    let steps = case.as_ref().and_then(|case| answer(case).steps()).unwrap_or_default();
+    let same = bytes.len().is_multiple_of(8)
+        && !steps.is_empty()
+        && steps.iter().map(|step| step.word).eq(sheet.words.iter().copied());
+    case.filter(|_| same).map_or(refused(26), |case| smallest(&case))
 }
 
 struct Sheet {
@@ -146,12 +123,8 @@ impl Sheet {
         Some(plan)
     }
 
-    /// The plan's case, where its numbers are of one.
-    fn case(&self, reading: u32, plan: &[u32]) -> Option<Case> {
-        let (word, kind, count) =
-            if self.rp235x { ("sheet235", Kind::Sheet235, at::RTC) } else { ("sheet", Kind::Sheet, 48) };
-        let numbers = [reading, ROOM].into_iter().chain(plan[..count].iter().copied());
-        let line = numbers.fold(word.to_string(), |line, number| format!("{line} {number}"));
-        Case::parse(&line).filter(|case| case.kind == kind && case.numbers.len() == PLAN + count)
+    fn case(&self, reading: u32, plan: &[u32]) -> Case {
+        let chip = self.rp235x as u32;
+        Case::sheet(reading, ROOM, chip, &plan[..plan_numbers::of(chip).len()])
     }
 }

@@ -1,10 +1,8 @@
 //! Random plans: every shape, most of them accepted, then some damaged.
 
-use crate::case::{Fits, PARTS, PLAN_NUMBERS, PLAN_NUMBERS_235, at};
-use crate::limits;
+use crate::plan_numbers::{self, Fits, PARTS, at};
 use crate::random::Random;
-
-type Plan = [u32; PLAN_NUMBERS.len()];
+use crate::values::{PLL_INPUTS, values_at};
 
 /// The frequencies that a source can have: ring, crystal, system PLL, USB PLL.
 #[derive(Default)]
@@ -15,33 +13,25 @@ struct Sources {
     usb_pll: u32,
 }
 
-pub fn plan(r: &mut Random) -> Vec<u32> {
+/// For the RP235x without RTC, and with numbers of its own in three places.
+pub fn plan(r: &mut Random, chip: u32) -> Vec<u32> {
     let mut plan = whole(r);
-    damage_some(r, &mut plan, &PLAN_NUMBERS, limits::values_at);
-    plan.to_vec()
-}
-
-/// A plan for the RP235x: without RTC, and with numbers of its own in three places.
-pub fn plan_235(r: &mut Random, values_at: fn(usize) -> &'static [u32]) -> Vec<u32> {
-    let mut plan = whole(r);
-    plan[at::VOLTAGE] = r.between(0, 15);
-    if plan[11] > 22_015 && r.percent(90) {
-        plan[11] = r.between(0, 22_015);
+    if chip == 1 {
+        plan.truncate(plan_numbers::of(chip).len());
+        plan[at::VOLTAGE] = r.between(0, 15);
+        if plan[11] > 22_015 && r.percent(90) {
+            plan[11] = r.between(0, 22_015);
+        }
+        let whole = if r.percent(70) { 1 } else { r.any().clamp(1, 65_535) };
+        let fraction = if r.percent(60) { 0 } else { r.any() & 0xffff };
+        set(&mut plan, at::SYSTEM + 1, &[whole, fraction]);
     }
-    let whole = if r.percent(70) { 1 } else { r.any().clamp(1, 65_535) };
-    let fraction = if r.percent(60) { 0 } else { r.any() & 0xffff };
-    set(&mut plan, at::SYSTEM + 1, &[whole, fraction]);
-    let plan = &mut plan[..PLAN_NUMBERS_235.len()];
-    damage_some(r, plan, &PLAN_NUMBERS_235, values_at);
-    plan.to_vec()
-}
-
-fn damage_some(r: &mut Random, plan: &mut [u32], numbers: &[Fits], values_at: fn(usize) -> &'static [u32]) {
     if r.percent(40) {
         for _ in 0..r.between(1, 2) {
-            damage(r, plan, numbers, values_at);
+            damage(r, &mut plan, chip);
         }
     }
+    plan
 }
 
 pub fn crystal_hz(r: &mut Random) -> u32 {
@@ -49,7 +39,7 @@ pub fn crystal_hz(r: &mut Random) -> u32 {
         0..=3 => 12_000_000,
         4..=6 => r.between(6_200_000, 12_900_000),
         7 => r.between(4_900_000, 60_000_000),
-        8 => r.pick(&limits::PLL_INPUTS),
+        8 => r.pick(&PLL_INPUTS),
         _ => r.any(),
     }
 }
@@ -79,12 +69,12 @@ fn output(input: u32, dividers: [u32; 4]) -> u32 {
     input / dividers[0] * dividers[1] / (dividers[2] * dividers[3])
 }
 
-fn whole(r: &mut Random) -> Plan {
-    let mut plan = [0; PLAN_NUMBERS.len()];
+fn whole(r: &mut Random) -> Vec<u32> {
+    let mut plan = vec![0; plan_numbers::of(0).len()];
     let mut hz = Sources::default();
     ring(r, &mut plan, &mut hz);
     crystal(r, &mut plan, &mut hz);
-    plan[at::VOLTAGE] = r.pick(limits::values_at(at::VOLTAGE));
+    plan[at::VOLTAGE] = r.pick(values_at(0, at::VOLTAGE));
     if r.percent(30) {
         let time = if r.percent(80) { r.between(0, 5000) } else { r.any() };
         set(&mut plan, at::SETTLING, &[1, time]);
@@ -121,7 +111,7 @@ fn whole(r: &mut Random) -> Plan {
     plan
 }
 
-fn ring(r: &mut Random, plan: &mut Plan, hz: &mut Sources) {
+fn ring(r: &mut Random, plan: &mut [u32], hz: &mut Sources) {
     if !r.percent(75) {
         return;
     }
@@ -141,7 +131,7 @@ fn ring(r: &mut Random, plan: &mut Plan, hz: &mut Sources) {
     };
 }
 
-fn crystal(r: &mut Random, plan: &mut Plan, hz: &mut Sources) {
+fn crystal(r: &mut Random, plan: &mut [u32], hz: &mut Sources) {
     if !r.percent(80) {
         return;
     }
@@ -165,7 +155,7 @@ fn crystal(r: &mut Random, plan: &mut Plan, hz: &mut Sources) {
     }
 }
 
-fn set(plan: &mut Plan, place: usize, values: &[u32]) {
+fn set(plan: &mut [u32], place: usize, values: &[u32]) {
     plan[place..place + values.len()].copy_from_slice(values);
 }
 
@@ -176,7 +166,8 @@ fn with_hz(hz: &[u32]) -> Vec<u32> {
 }
 
 /// Another number at one place. A part that goes away leaves zeros, a part that comes starts with them.
-fn damage(r: &mut Random, plan: &mut [u32], numbers: &[Fits], values_at: fn(usize) -> &'static [u32]) {
+fn damage(r: &mut Random, plan: &mut [u32], chip: u32) {
+    let numbers = plan_numbers::of(chip);
     let place = r.between(0, numbers.len() as u32 - 1) as usize;
     let &(flag, end) =
         PARTS.iter().find(|&&(flag, end)| (flag..end).contains(&place)).unwrap_or(&(place, place));
@@ -190,10 +181,10 @@ fn damage(r: &mut Random, plan: &mut [u32], numbers: &[Fits], values_at: fn(usiz
             plan[flag] = 1;
         }
     } else if flag == end || plan[flag] == 1 {
-        let value = if r.percent(50) { r.pick(values_at(place)) } else { r.any() };
+        let value = if r.percent(50) { r.pick(values_at(chip, place)) } else { r.any() };
         let value = match numbers[place] {
             Fits::UpTo(top) if value > top => r.between(0, top),
-            Fits::Code => r.pick(values_at(at::VOLTAGE)),
+            Fits::Code => r.pick(values_at(chip, at::VOLTAGE)),
             _ => value,
         };
         plan[place] = value;

@@ -5,15 +5,15 @@
 use std::collections::BTreeMap;
 use std::io;
 
-use crate::answer::{Answer, answer};
-use crate::case::{Case, Kind, PLAN, at};
+use crate::answer::{answer, bytes};
+use crate::case::Case;
 use crate::compare::ask;
 use crate::generate;
 use crate::plain_reader;
+use crate::plan_numbers::at;
 use crate::random::Random;
-use crate::random_plan;
-use crate::rp235x;
 use crate::rules;
+use crate::text::{call, hex};
 
 const BATCH: usize = 10_000;
 const SHOWN_FINDINGS: usize = 20;
@@ -21,14 +21,14 @@ const SHOWN_FINDINGS: usize = 20;
 /// A sheet as it is handed over, whole or damaged, and what has to be answered.
 struct Asked {
     reading: u32,
-    hex: String,
+    sheet: Vec<u8>,
     whole: bool,
     expected: String,
 }
 
 impl Asked {
     fn line(&self) -> String {
-        format!("read {} {}", self.reading, self.hex)
+        format!("read {} {}", hex(&self.sheet), self.reading)
     }
 }
 
@@ -74,7 +74,7 @@ pub fn read(seed: u64, count: usize, program: &str) -> io::Result<bool> {
 }
 
 fn class(asked: &Asked, ours: &str, again: Option<&str>) -> Option<&'static str> {
-    let same_bytes = again == Some(&format!("{} {}", asked.hex.len() / 2, asked.hex));
+    let same_bytes = again == Some(&call(asked.sheet.len(), &[], &asked.sheet));
     let class = match (asked.whole, ours) {
         (true, _) => "read back to its plan, written to the same bytes",
         (false, "refused 26") => "one bit turned over: refused 26",
@@ -86,10 +86,9 @@ fn class(asked: &Asked, ours: &str, again: Option<&str>) -> Option<&'static str>
 
 /// The sheet of each answered plan, by the program's own writer.
 fn written_again(program: &str, batch: &[Asked], answers: &[&str]) -> io::Result<Vec<Option<String>>> {
+    // What is answered is CHIP PLAN, as `sheet` takes it.
     let again = |(asked, ours): (&Asked, &&str)| {
-        let word = [("rp2040 ", "sheet"), ("rp235x ", "sheet235")];
-        let (plan, word) = word.iter().find_map(|(chip, word)| Some((ours.strip_prefix(chip)?, word)))?;
-        Some(format!("{word} {} 528 {plan}", asked.reading))
+        (!ours.starts_with("refused")).then(|| format!("sheet {} 528 {ours}", asked.reading))
     };
     let lines: Vec<Option<String>> = batch.iter().zip(answers).map(again).collect();
     let asked: Vec<&str> = lines.iter().flatten().map(String::as_str).collect();
@@ -100,45 +99,33 @@ fn written_again(program: &str, batch: &[Asked], answers: &[&str]) -> io::Result
 
 /// A random plan's sheet, then the same with a bit turned over; nothing where the plan is refused.
 fn accepted(r: &mut Random) -> Vec<Asked> {
-    let case = if r.percent(50) {
-        Case { kind: Kind::Sheet, numbers: generate::with_buffer(r, random_plan::plan) }
-    } else {
-        Case { kind: Kind::Sheet235, numbers: rp235x::generate::numbers(r, Kind::Sheet235) }
-    };
-    let (Answer::Sheet(steps) | Answer::Settled(steps) | Answer::Scaled(steps)) = answer(&case) else {
+    let chip = r.between(0, 1);
+    let case = generate::of(r, "sheet", chip);
+    let Some(steps) = answer(&case).steps() else {
         return vec![];
     };
-    let mut words: Vec<u64> = steps.iter().map(|step| step.word).collect();
-    let reading = case.numbers[0];
-    let whole = Asked { reading, hex: hex(&words), whole: true, expected: smallest(&case) };
-    let step = r.between(0, words.len() as u32 - 1) as usize;
-    words[step] ^= 1 << r.between(0, 63);
-    vec![whole, damaged(reading, &words)]
+    let (sheet, reading) = (bytes(&steps), case.numbers[0]);
+    let bit = r.between(0, 8 * sheet.len() as u32 - 1) as usize;
+    let whole = Asked { reading, sheet, whole: true, expected: smallest(&case) };
+    let damaged = damaged(&whole, bit);
+    vec![whole, damaged]
 }
 
-fn damaged(reading: u32, words: &[u64]) -> Asked {
-    let bytes: Vec<u8> = words.iter().flat_map(|word| word.to_be_bytes()).collect();
-    Asked { reading, hex: hex(words), whole: false, expected: plain_reader::read(reading, &bytes) }
+/// The sheet with one of its bits turned over.
+fn damaged(asked: &Asked, bit: usize) -> Asked {
+    let mut sheet = asked.sheet.clone();
+    sheet[bit / 8] ^= 1 << (bit % 8);
+    let expected = plain_reader::read(&sheet, asked.reading);
+    Asked { reading: asked.reading, sheet, whole: false, expected }
 }
 
-/// The sheet with each of its bits turned over.
 fn each_bit(asked: &Asked) -> Vec<Asked> {
-    let words: Vec<u64> = plain_reader::words(&plain_reader::bytes(&asked.hex).unwrap_or_default());
-    let flipped = |at: usize| {
-        let mut words = words.clone();
-        words[at / 64] ^= 1 << (at % 64);
-        damaged(asked.reading, &words)
-    };
-    (0..words.len() * 64).map(flipped).collect()
-}
-
-fn hex(words: &[u64]) -> String {
-    words.iter().map(|word| format!("{word:016x}")).collect()
+    (0..asked.sheet.len() * 8).map(|bit| damaged(asked, bit)).collect()
 }
 
 /// The plan with the smallest multiplier and the smallest settling time that give the same steps; the time is given.
 pub fn smallest(case: &Case) -> String {
-    let mut plan = case.numbers[PLAN..].to_vec();
+    let mut plan = case.plan().to_vec();
     if plan[at::CRYSTAL] == 1 {
         let khz = plan[at::CRYSTAL + 1] as u64 / 1000;
         plan[at::CRYSTAL + 2] =
@@ -155,8 +142,7 @@ pub fn smallest(case: &Case) -> String {
     let ring = plan[at::RING + 1];
     plan[at::SETTLING] = 1;
     plan[at::SETTLING + 1] = least(time, |time| rules::settling_cycles(time, ring));
-    let chip = if case.kind == Kind::Sheet { "rp2040" } else { "rp235x" };
-    plan.iter().fold(chip.to_string(), |text, number| format!("{text} {number}"))
+    call(case.numbers[2], &plan, &[])
 }
 
 /// The least number up to this one with the same value; the value rises with the number.

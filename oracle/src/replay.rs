@@ -1,78 +1,67 @@
-//! Writes cases and the Rust's answers to them, for a program to be tested without the Rust.
+//! Writes cases and the answers to them, for a program to be tested without the Rust.
 
-use std::collections::BTreeMap;
+use std::collections::{BTreeMap, BTreeSet};
 use std::fs;
 use std::io;
 use std::path::Path;
 
-use crate::answer::{Answer, answer};
+use crate::answer::answer;
 use crate::case::Case;
-use crate::compare::{gpout_ruled, named, ring_divider, sleeps, under_minimum};
+use crate::compare::{Class, named, owed};
 use crate::generate;
 
-/// Why a case is left out; nothing where it stays.
-fn left_out(case: &Case, rust: &Answer) -> Option<String> {
-    Some(match rust {
-        Answer::Panic(refusals) if refusals.is_empty() => {
-            "the Rust panics, the VCO's product overflows".to_string()
-        }
-        Answer::Panic(refusals) => format!("the Rust panics, refusal {}", either(refusals)),
-        Answer::Drops(3) => "the Rust settles for a shorter time, refusal 3".to_string(),
-        Answer::Settled(_) => "the Rust settles for a shorter time".to_string(),
-        Answer::Drops(number) => format!("the Rust loses bits, refusal {number}"),
-        Answer::Ruled(text) if sleeps(case) && !text.starts_with("refused") => {
-            "the Rust takes a crystal's enable code otherwise".to_string()
-        }
-        Answer::Ruled(_) => "no counterpart, a rule of our own".to_string(),
-        Answer::Sheet(steps) if case.room() < steps.len() * 8 => {
-            "buffer too short, no counterpart".to_string()
-        }
-        Answer::Sheet(_) if ring_divider(case) => "ring divider over the register's 12 bits".to_string(),
-        Answer::Scaled(_) => "the Rust scales a divider otherwise".to_string(),
-        Answer::Says(_) if gpout_ruled(case).is_some() => {
-            "the Rust takes a Gpout divider otherwise".to_string()
-        }
-        Answer::Says(_) if under_minimum(case) => "reference under 5 MHz".to_string(),
-        _ => return None,
-    })
-}
-
-fn either(numbers: &[u8]) -> String {
-    numbers.iter().map(u8::to_string).collect::<Vec<_>>().join(" or ")
-}
-
-/// Says whether the stand-in knew everything.
+/// Cases that the Rust answers, each once; what is left out is counted by class. Says whether the stand-in knew everything.
 pub fn replay(seed: u64, count: usize, folder: &Path) -> io::Result<bool> {
-    let mut counts: BTreeMap<String, u64> = BTreeMap::new();
-    let (mut cases, mut answers) = (String::new(), String::new());
-    let mut known = true;
-    let mut kept = 0;
+    let mut counts: BTreeMap<Class, u64> = BTreeMap::new();
+    let (mut seen, mut known) = (BTreeSet::new(), true);
+    let (mut cases, mut answers) = (vec![], vec![]);
     for line in generate::stored_lines(seed, count) {
-        let Some(case) = Case::parse(&line) else {
-            *counts.entry("no case".to_string()).or_default() += 1;
+        let Some(case) = Case::parse(&line).filter(|_| seen.insert(line.clone())) else {
             continue;
         };
         let rust = answer(&case);
-        if let Answer::Unknown(what) = &rust {
-            eprintln!("unknown {what}: {line}");
-            known = false;
-        }
-        match left_out(&case, &rust) {
-            Some(class) => *counts.entry(class).or_default() += 1,
+        match owed(&case, &rust) {
             None => {
-                kept += 1;
-                cases += &(line + "\n");
-                answers += &(rust.to_string() + "\n");
+                eprintln!("{rust}: {line}");
+                known = false;
             }
+            Some((Class::Same, text)) => {
+                cases.push(line);
+                answers.push(text);
+            }
+            Some((class, _)) => *counts.entry(class).or_default() += 1,
         }
     }
-    let written = fs::create_dir_all(folder)
-        .and_then(|()| fs::write(folder.join("stdin"), cases))
-        .and_then(|()| fs::write(folder.join("stdout"), answers));
-    written.map_err(|why| named(folder.display(), why))?;
-    eprintln!("{kept:>9}  written");
+    write(folder, "stdin", &cases)?;
+    write(folder, "stdout", &answers)?;
+    eprintln!("{:>9}  written", cases.len());
     for (class, count) in counts {
-        eprintln!("{count:>9}  left out, {class}");
+        eprintln!("{count:>9}  left out, {}", class.text());
     }
     Ok(known)
+}
+
+/// What is owed to a line.
+pub fn owed_line(line: &str) -> Option<String> {
+    match Case::parse(line) {
+        None => Some("bad case".to_string()),
+        Some(case) => owed(&case, &answer(&case)).map(|(_, text)| text),
+    }
+}
+
+/// To the lines of the folder's stdin its stdout: what is owed by our papers, where the Rust has another answer or none too.
+pub fn limits(folder: &Path) -> io::Result<bool> {
+    let path = folder.join("stdin");
+    let text = fs::read_to_string(&path).map_err(|why| named(path.display(), why))?;
+    let answers: Vec<Option<String>> = text.lines().map(owed_line).collect();
+    let unknown = text.lines().zip(&answers).filter(|(_, answer)| answer.is_none());
+    unknown.for_each(|(line, _)| eprintln!("unknown: {line}"));
+    let known = answers.iter().all(Option::is_some);
+    write(folder, "stdout", &answers.into_iter().flatten().collect::<Vec<_>>())?;
+    Ok(known)
+}
+
+fn write(folder: &Path, name: &str, lines: &[String]) -> io::Result<()> {
+    let path = folder.join(name);
+    fs::write(&path, lines.join("\n") + "\n").map_err(|why| named(path.display(), why))
 }

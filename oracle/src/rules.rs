@@ -1,5 +1,7 @@
 //! What the Rust has no counterpart for, worked out plainly from docs/FORMAT.md and docs/PLL.md: every setting is tried.
 
+use crate::text::{call, refused};
+
 /// A setting of the search: feedback divider, post 1, post 2.
 pub type Setting = (u32, u32, u32);
 
@@ -58,13 +60,15 @@ pub fn list(input: u32, target: u32, room: usize) -> String {
     };
     let mut settings: Vec<Setting> = candidates(input).filter(exact).collect();
     settings.sort_by_key(|&(feedback, post1, post2)| (feedback, 7 - post1, 7 - post2));
-    let length = settings.len() * 2;
-    if length > room {
-        return "refused 19".to_string();
+    if settings.len() * 2 > room {
+        return refused(19);
     }
-    if length == 0 {
-        return "0 -".to_string();
-    }
-    let packed = |(feedback, post1, post2)| format!("{:04x}", feedback << 7 | post1 << 4 | post2 << 1);
-    format!("{length} {}", settings.into_iter().map(packed).collect::<String>())
+    let packed = |(feedback, post1, post2): Setting| (feedback << 7 | post1 << 4 | post2 << 1) as u16;
+    let bytes: Vec<u8> = settings.into_iter().flat_map(|setting| packed(setting).to_be_bytes()).collect();
+    call(bytes.len(), &[], &bytes)
+}
+
+/// The most calls before a run is done where each wait hears at most so many unready polls: 66 steps, of which 10 are waits.
+pub fn longest_wait(polls: u32) -> u32 {
+    if polls < 1_000_000 { 66 + 10 * polls } else { u32::MAX }
 }

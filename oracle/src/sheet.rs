@@ -2,16 +2,9 @@
 
 use crate::answer::{Answer, run};
 use crate::cuts::Cuts;
-use crate::panics::{Panic, catch};
 
-/// No reading where the regulator's field does not hold it. The plan is what has to be known of it, and its `init`.
-pub fn sheet<Init: FnOnce()>(reading: Option<u8>, plan: impl FnOnce() -> (Cuts, Init)) -> Answer {
-    let (cuts, init) = match catch(plan) {
-        Ok(plan) => plan,
-        // Only `manual_pll` panics before there is a plan.
-        Err(Panic::Published) => return Answer::Panic(vec![5]),
-        Err(Panic::Elsewhere(place)) => return Answer::Unknown(place),
-    };
+/// No reading where the regulator's field does not hold it.
+pub fn sheet(reading: Option<u8>, cuts: Cuts, init: impl FnOnce()) -> Answer {
     let Some(reading) = reading else {
         return Answer::Drops(18);
     };

@@ -4,7 +4,7 @@ use std::sync::{Mutex, MutexGuard, Once, PoisonError};
 
 use crate::answer::{Answer, answer, answer_line};
 use crate::book;
-use crate::case::{Case, Kind, at};
+use crate::case::{Case, ROWS};
 use crate::compare::{Class, class, compare};
 use crate::cortex_m::asm::delay;
 use crate::generate;
@@ -13,6 +13,7 @@ use crate::load;
 use crate::pac::values::clocks::{ClkRefCtrlAuxsrc, ClkRefCtrlSrc, ClkSysCtrlSrc};
 use crate::pac::{self, fields};
 use crate::plan;
+use crate::plan_numbers::at;
 use crate::recorder::{self, Record};
 use crate::reset;
 use crate::rules;
@@ -35,6 +36,15 @@ fn kinds(record: &Record) -> Vec<u8> {
     record.steps.iter().map(|step| step.kind).collect()
 }
 
+/// A preset's sheet.
+fn sheet_case(preset: &str, reading: u32, room: u32) -> Case {
+    Case::parse(&format!("sheet {reading} {room} {}", answer_line(preset))).unwrap()
+}
+
+fn sheet_of(preset: &str, reading: u32) -> Answer {
+    answer(&sheet_case(preset, reading, 528))
+}
+
 #[test]
 fn worked_values() {
     let _alone = alone();
@@ -45,27 +55,29 @@ fn worked_values() {
         ("search 12000000 0", "1 63 7 7"),
         ("search 2343749 125000000", "refused 15"),
         ("search 100000001 125000000", "refused 15"),
-        ("valid 5000000 1 150 1 1", "yes"),
-        ("valid 5000000 1 149 1 1", "no"),
+        ("valid 5000000 1 150 1 1", "1"),
+        ("valid 5000000 1 149 1 1", "0"),
         // docs/DIFFERENCES.md.
         ("valid 50000000 1 106 1 1", "panic"),
-        ("gpout 0 0 0 0 0 131070000 0 0 0 0 0 0 0", "2000"),
+        ("gpout 0 0 0 0 0 0 131070000 0 0 0 0 0 0 0", "2000"),
         ("pio 125000000 100000000", "drops 17"),
         ("pio 124999999 125000000", "panic"),
-        ("default 11 520", "panic"),
-        ("voltage 5", "refused 18"),
-        ("voltage 6", "6 5"),
+        ("manual 12000000 1 321 6 2 11", "panic"),
+        ("voltage 0 5", "refused 18"),
+        ("voltage 0 6", "6 5"),
         ("list 12000000 125000000 1024", "4 3ee43ec6"),
         ("list 12000000 125000000 3", "refused 19"),
-        ("list 12000000 125000001 0", "0 -"),
-        ("list 3000000 125000000 1024", "0 -"),
+        ("list 12000000 125000001 0", "0"),
+        ("list 3000000 125000000 1024", "0"),
         ("margin 4999999 125000000", "refused 15"),
         ("margin 100000001 125000000", "refused 15"),
-        ("margin 12000000 0", "- 15551020"),
-        ("margin 12000000 4294967295", "1589999999 -"),
-        ("system_from 11 520 4999999 125000000", "refused 15"),
-        ("system_from 16 520 100000001 125000000", "refused 15"),
-        ("system_from 16 520 12000000 125000000", "drops 18"),
+        ("margin 12000000 0", "4294967296 15551020"),
+        ("margin 12000000 4294967295", "1589999999 4294967296"),
+        ("system_from 0 4999999 125000000", "refused 15"),
+        ("system_from 1 100000001 125000000", "refused 15"),
+        ("system_from 0 11000000 125000000", "refused 25"),
+        ("wait 999999", "10000056"),
+        ("wait 1000000", "4294967295"),
     ];
     for (case, answer) in rows {
         assert_eq!(answer_line(case), answer, "{case}");
@@ -75,7 +87,7 @@ fn worked_values() {
 #[test]
 fn crystal_preset_has_62_steps() {
     let _alone = alone();
-    let sheet = answer_line("crystal 11 520 12000000");
+    let sheet = sheet_of("crystal 0 12000000", 11).to_string();
     assert!(sheet.starts_with("496 05f79b7e00000000"));
     // Startup delay 6000, then the RTC at 46875 Hz and the release of all 25.
     assert!(sheet.contains(&format!("{:016x}", 16u64 << 58 | 6000u64 << 44)));
@@ -90,9 +102,7 @@ fn crystal_preset_has_62_steps() {
 #[test]
 fn stored_values_of_125_mhz() {
     let _alone = alone();
-    let Answer::Sheet(steps) = answer(&Case::parse("system 11 520 125000000").unwrap()) else {
-        panic!("no sheet");
-    };
+    let steps = sheet_of("system 0 125000000", 11).steps().unwrap();
     let stored: Vec<(u32, u32)> = steps.iter().filter_map(|step| step.stored()).collect();
     let hz = [6_500_000, 12_000_000, 125_000_000, 48_000_000, 12_000_000];
     let more = [125_000_000, 125_000_000, 48_000_000, 48_000_000, 46_875];
@@ -101,13 +111,13 @@ fn stored_values_of_125_mhz() {
 
 /// The crystal preset with 1.15 V, a settling time and a ring of these hertz, or none.
 fn settling_case(time: u32, ring: Option<u32>) -> Case {
-    let mut plan = limits::CRYSTAL_PLAN;
+    let mut plan = limits::crystal_plan(0);
     plan[at::VOLTAGE..at::REFERENCE].copy_from_slice(&[12, 1, time]);
     match ring {
         Some(hz) => plan[at::RING + 1] = hz,
         None => plan[at::RING..at::CRYSTAL].fill(0),
     }
-    Case { kind: Kind::Sheet, numbers: [&[11, 520], plan.as_slice()].concat() }
+    Case::sheet(11, 520, 0, &plan)
 }
 
 #[test]
@@ -144,7 +154,7 @@ fn settling_is_the_rules() {
 #[test]
 fn a_shorter_settling_delay_is_a_finding() {
     let _alone = alone();
-    let case = Case::parse("system 11 520 133000001").unwrap();
+    let case = sheet_case("system 0 133000001", 11, 520);
     let rust = answer(&case);
     let ours = rust.to_string();
     assert_eq!(class(&case, &rust, &ours), Some(Class::SameSettling));
@@ -158,12 +168,10 @@ fn a_shorter_settling_delay_is_a_finding() {
 fn another_crystal_is_the_crystal_presets_own_at_12_mhz() {
     let _alone = alone();
     for hz in [125_000_000, 133_000_000, 133_000_001, 48_000_000, 0] {
-        let sheet = answer_line(&format!("system 11 520 {hz}"));
-        assert_eq!(answer_line(&format!("system_from 11 520 12000000 {hz}")), sheet);
+        let plan = answer_line(&format!("system 0 {hz}"));
+        assert_eq!(answer_line(&format!("system_from 0 12000000 {hz}")), plan);
     }
-    let Answer::Sheet(steps) = answer(&Case::parse("system_from 11 520 8000000 125000000").unwrap()) else {
-        panic!("no sheet");
-    };
+    let steps = sheet_of("system_from 0 8000000 125000000", 11).steps().unwrap();
     let stored: Vec<u32> = steps.iter().filter_map(|step| step.stored()).map(|(_, hz)| hz).collect();
     let frequencies = [6_500_000, 8_000_000, 125_000_000, 48_000_000, 8_000_000, 125_000_000];
     assert_eq!(stored[..6], frequencies);
@@ -250,7 +258,7 @@ fn differences_and_findings() {
         let case = Case::parse(case).unwrap();
         class(&case, &answer(&case), ours)
     };
-    let (pio, gpout) = ("pio 125000000 100000000", "gpout 0 0 0 0 0 131070000 0 0 0 0 0 0 0");
+    let (pio, gpout) = ("pio 125000000 100000000", "gpout 0 0 0 0 0 0 131070000 0 0 0 0 0 0 0");
     let rows = [
         (pio, "320", Some(Class::PioShift)),
         (pio, "refused 17", None),
@@ -258,31 +266,36 @@ fn differences_and_findings() {
         ("pio 1 0", "refused 17", Some(Class::Panics(17))),
         (gpout, "1999", Some(Class::GpoutWhole0)),
         (gpout, "2000", None),
-        ("valid 50000000 1 106 1 1", "no", Some(Class::ExactVco)),
-        ("valid 50000000 1 106 1 1", "yes", None),
-        ("crystal 11 495 12000000", "refused 19", Some(Class::Room)),
-        ("crystal 11 496 12000000", "refused 19", None),
-        ("crystal 16 520 12000000", "refused 18", Some(Class::Loses(18))),
-        ("default 11 520", "refused 8", Some(Class::Panics(8))),
-        ("default 11 520", "refused 9", None),
-        ("voltage 5", "refused 18", Some(Class::Same)),
-        ("voltage 16", "0 4", None),
+        ("valid 50000000 1 106 1 1", "0", Some(Class::ExactVco)),
+        ("valid 50000000 1 106 1 1", "1", None),
+        ("voltage 0 5", "refused 18", Some(Class::Same)),
+        ("voltage 0 16", "0 4", None),
         ("list 12000000 125000000 1024", "4 3ee43ec6", Some(Class::SameByRule("list"))),
         ("list 12000000 125000000 1024", "4 3ec63ee4", None),
         ("search 4999999 125000000", "refused 15", Some(Class::UnderMinimum)),
         ("search 4999999 125000000", "1 300 6 2", None),
         ("search 2343749 125000000", "refused 15", Some(Class::Same)),
         ("search 5000000 125000000", "refused 15", None),
-        ("system_from 11 520 4999999 125000000", "refused 15", Some(Class::SameByRule("system_from"))),
-        ("system_from 11 520 100000001 125000000", "refused 15", Some(Class::Same)),
-        ("system_from 11 520 11000000 125000000", "refused 25", Some(Class::SameByRule("system_from"))),
-        ("system_from 16 520 11000000 125000000", "refused 18", None),
-        ("system_from 16 520 12000000 125000000", "refused 18", Some(Class::Loses(18))),
+        ("system_from 0 4999999 125000000", "refused 15", Some(Class::SameByRule("system_from"))),
+        ("system_from 0 100000001 125000000", "refused 15", Some(Class::Same)),
+        ("system_from 0 11000000 125000000", "refused 25", Some(Class::SameByRule("system_from"))),
+        ("manual 12000000 1 321 6 2 11", "refused 5", Some(Class::Panics(5))),
         ("usb_pll 4999999", "refused 25", Some(Class::SameByRule("usb_pll"))),
         ("usb_pll 12000000", "1 60 5 3", None),
     ];
     for (case, ours, expected) in rows {
         assert_eq!(class(case, ours), expected, "{case}: {ours}");
+    }
+    let sheets = [
+        ("crystal 0 12000000", 11, 495, "refused 19", Some(Class::Room)),
+        ("crystal 0 12000000", 11, 496, "refused 19", None),
+        ("crystal 0 12000000", 16, 520, "refused 18", Some(Class::Loses(18))),
+        ("default 0", 11, 520, "refused 8", Some(Class::Panics(8))),
+        ("default 0", 11, 520, "refused 7", None),
+        ("default 0", 11, 520, "refused 9", None),
+    ];
+    for (preset, reading, room, ours, expected) in sheets {
+        assert_eq!(class(&sheet_case(preset, reading, room).text(), ours), expected, "{preset}: {ours}");
     }
 }
 
@@ -295,19 +308,66 @@ fn a_missing_program_is_named() {
 #[test]
 fn no_cases() {
     let lines = ["", " ", "valid", "valid 1 1 1 1", "valid 1 1 1 1 1 1", "valid 1 256 1 1 1", "pio +1 1"];
-    for line in lines.into_iter().chain(["pio  1 1", "pio 1 1 ", "rosc 11 1025", "manual 11 520 1 1 1 1 1 5"])
-    {
+    for line in lines.into_iter().chain(["pio  1 1", "pio 1 1 ", "rosc 2", "manual 1 1 1 1 1 5"]) {
         assert_eq!(answer_line(line), "bad case", "{line}");
+    }
+}
+
+/// Slots and boards that are none come before numbers that are none, and these before the other refusals.
+#[test]
+fn malformed_comes_after_28_and_29() {
+    let _alone = alone();
+    let words = "0 ".repeat(58);
+    let runner = |mark: u32| format!("67 0 0 {mark} 0 0 0 0 0 0 0 0 0 0 0");
+    let bench = |mark: u32| format!("67 0 0 {mark}{}", " 0".repeat(109));
+    let begins = [
+        (format!("sleep 4 {}2 {}0", "0 ".repeat(11), "0 ".repeat(46)), "refused 29"),
+        (format!("wake 3 {}2 {}0", "0 ".repeat(11), "0 ".repeat(46)), "bad case"),
+        (format!("run - - 0 {}", runner(2)), "bad case"),
+        (format!("run - - 0 {}", runner(1)), "refused 21 67 0 0 1 "),
+        (format!("start 00 - {}", runner(2)), "refused 20 67 0 0 2 "),
+        (format!("start - - {}", runner(2)), "0 0 0 0 0 "),
+        (format!("bench_run - - 8 0 {}", bench(2)), "refused 28 67 0 0 2 "),
+        (format!("bench_run - - 0 0 {}", bench(2)), "bad case"),
+        (format!("bench_run - - 1 0 {}", bench(2)), "0 67 0 0 2 "),
+        (format!("bench_start 00 - 8 {}", bench(2)), "refused 20 67 0 0 2 "),
+        ("gpout 0 1 1 256 0 0 0 0 0 0 0 0 0 0".to_string(), "bad case"),
+        ("gpout 0 1 1 255 0 0 0 0 0 0 0 0 0 0".to_string(), "panic"),
+        (format!("sheet 255 0 2 {words}"), "bad case"),
+    ];
+    for (case, begin) in begins {
+        assert!(answer_line(&case).starts_with(begin), "{case}: {}", answer_line(&case));
+    }
+}
+
+/// Every row's text is read back, and of every row there are random cases.
+#[test]
+fn cases_are_read_back() {
+    let _alone = alone();
+    let mut random = crate::random::Random::new(3);
+    for (name, _) in ROWS {
+        let mut read = 0;
+        for at in 0..200 {
+            let case = generate::of(&mut random, name, at % 2);
+            if let Some(back) = Case::parse(&case.text()) {
+                assert_eq!(back, case);
+                read += 1;
+            } else {
+                assert!(!case.well_formed(), "{}", case.text());
+            }
+        }
+        assert!(read > 150, "{name}: {read}");
     }
 }
 
 #[test]
 fn generated_lines_are_the_same_for_a_seed() {
-    let lines = |seed| generate::lines(seed, 40_000).collect::<Vec<_>>();
+    let _alone = alone();
+    let lines = |seed| generate::lines(seed, 50_000).collect::<Vec<_>>();
     assert_eq!(lines(1), lines(1));
     assert_ne!(lines(1), lines(2));
     let cases = lines(1).iter().filter(|line| Case::parse(line).is_some()).count();
-    assert!(cases > 38_000);
+    assert!(cases > 48_000);
 }
 
 #[test]

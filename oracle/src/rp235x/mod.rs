@@ -1,11 +1,12 @@
 //! The published code's RP235x branch, over a second recording stand-in.
 
-pub mod answer;
+mod chip;
 #[allow(dead_code, unused_imports, clippy::all)]
 pub mod clocks;
 #[path = "../cuts_of.rs"]
 mod cuts_of;
-pub mod generate;
+#[path = "../on_chip.rs"]
+pub mod on_chip;
 mod plan;
 #[cfg(test)]
 mod tests;

@@ -1,11 +1,11 @@
-//! A plan as 43 numbers, as the configuration of the published code.
+//! A plan as 43 numbers and as the configuration of the published code.
 
 #[path = "../plan_parts.rs"]
 mod parts;
 
 use super::clocks::*;
-use crate::case::at;
-pub use parts::{pll, system_freq_from};
+use crate::plan_numbers::at;
+pub use parts::{numbers, pll, system_freq_from};
 
 /// The voltage of a code from 0 to 15.
 fn voltage(code: u32) -> CoreVoltage {

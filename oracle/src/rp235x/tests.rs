@@ -1,10 +1,11 @@
 //! The RP235x's facts of docs/FORMAT.md, and that the stand-in says what it does not know.
 
 use super::{cortex_m, pac, reset};
-use crate::answer::{Answer, answer, answer_line};
-use crate::case::{Case, Kind, at};
+use crate::answer::{answer, answer_line};
+use crate::case::Case;
 use crate::compare::{Class, class};
 use crate::limits;
+use crate::plan_numbers::at;
 use crate::recorder::{self, Record};
 use crate::steps::Step;
 use crate::tests::alone;
@@ -15,25 +16,21 @@ fn record(code: impl FnOnce()) -> Record {
     recorder::finish()
 }
 
-fn steps(line: &str) -> Vec<Step> {
-    match Case::parse(line).map(|case| answer(&case)) {
-        Some(Answer::Sheet(steps) | Answer::Settled(steps) | Answer::Scaled(steps)) => steps,
-        other => panic!("{line}: {other:?}"),
-    }
+fn steps(case: &Case) -> Vec<Step> {
+    answer(case).steps().unwrap_or_else(|| panic!("{}", case.text()))
 }
 
 /// The crystal preset with these numbers in other places.
 fn sheet(reading: u32, edits: &[(usize, u32)]) -> Case {
-    let mut plan = limits::CRYSTAL_PLAN[..at::RTC].to_vec();
-    plan[at::SYSTEM_PLL + 3] = 5;
+    let mut plan = limits::crystal_plan(1);
     edits.iter().for_each(|&(place, value)| plan[place] = value);
-    Case { kind: Kind::Sheet235, numbers: [&[reading, 528], plan.as_slice()].concat() }
+    Case::sheet(reading, 528, 1, &plan)
 }
 
 #[test]
 fn the_crystal_preset_has_63_steps() {
     let _alone = alone();
-    let steps = steps("crystal235 11 528 12000000");
+    let steps = steps(&sheet(11, &[]));
     assert_eq!(steps.len(), 63);
     let words: Vec<u64> = steps.iter().map(|step| step.word).collect();
     assert_eq!(words[..2], [38 << 58, 1 << 58 | 0x1ef_3b7f << 33]);
@@ -51,22 +48,22 @@ fn the_crystal_preset_has_63_steps() {
 #[test]
 fn the_preset_is_its_plan() {
     let _alone = alone();
-    assert_eq!(answer(&sheet(11, &[])), answer(&Case::parse("crystal235 11 528 12000000").unwrap()));
-    assert_eq!(answer_line("system235 11 528 150000000"), answer_line("crystal235 11 528 12000000"));
+    let plan = limits::crystal_plan(1).iter().fold("1".to_string(), |text, n| format!("{text} {n}"));
+    assert_eq!(answer_line("crystal 1 12000000"), plan);
+    assert_eq!(answer_line("system 1 150000000"), plan);
 }
 
 #[test]
 fn the_longest_sheet_has_66_steps() {
     let _alone = alone();
     let case = sheet(0, &[(at::VOLTAGE, 15), (at::SETTLING, 1), (at::SETTLING + 1, 1)]);
-    assert_eq!(steps(&case.text()).len(), 66);
+    assert_eq!(steps(&case).len(), 66);
 }
 
 #[test]
 fn absent_clocks_are_not_released() {
     let _alone = alone();
-    let absent =
-        |edits: &[(usize, u32)]| steps(&sheet(11, edits).text()).pop().unwrap().word >> 33 & 0x1ff_ffff;
+    let absent = |edits: &[(usize, u32)]| steps(&sheet(11, edits)).pop().unwrap().word >> 33 & 0x1ff_ffff;
     assert_eq!(absent(&[(at::PERIPHERAL, 0)]), 0x1f3_fff7);
     let [usb, adc] = [at::USB, at::ADC].map(|part| absent(&[(part, 0), (part + 2, 0)]));
     assert_eq!((usb, adc), (0x1ff_fff7, 0x1ff_fff6));
@@ -111,7 +108,7 @@ fn a_fraction_is_of_65536ths() {
     let _alone = alone();
     let stored = |source: u32, whole: u32, fraction: u32| {
         let edits = [(1, source), (at::SYSTEM, 3), (at::SYSTEM + 1, whole), (at::SYSTEM + 2, fraction)];
-        let steps = steps(&sheet(11, &edits).text());
+        let steps = steps(&sheet(11, &edits));
         let divider = steps.iter().find(|step| step.kind == 45).unwrap().word << 6 >> 32;
         assert_eq!(divider, (whole << 16 | fraction) as u64);
         let hz = |clock| steps.iter().find_map(|step| step.stored().filter(|s| s.0 == clock)).unwrap().1;
@@ -129,20 +126,20 @@ fn outputs_are_the_datasheets() {
     let _alone = alone();
     let frequencies = "1 2 3 4 5 6 7 8 9 0";
     for (source, hz) in [(0, 3), (3, 4), (5, 1), (6, 2), (8, 6), (9, 8), (10, 9), (11, 5)] {
-        assert_eq!(answer_line(&format!("gpout235 {source} 1 0 {frequencies}")), hz.to_string());
+        assert_eq!(answer_line(&format!("gpout 1 {source} 1 0 {frequencies}")), hz.to_string());
     }
     for source in [1, 2, 4, 7, 12, 13, 14, 15] {
-        assert_eq!(answer_line(&format!("gpout235 {source} 1 0 {frequencies}")), "panic");
+        assert_eq!(answer_line(&format!("gpout 1 {source} 1 0 {frequencies}")), "panic");
     }
     let class = |line: &str, ours: &str| {
         let case = Case::parse(line).unwrap();
         class(&case, &answer(&case), ours)
     };
-    let fraction = "gpout235 0 1 257 0 0 2 0 0 0 0 0 0 0";
+    let fraction = "gpout 1 0 1 257 0 0 2 0 0 0 0 0 0 0";
     assert_eq!((class(fraction, "1"), class(fraction, "0")), (Some(Class::GpoutScale), None));
-    let whole_0 = "gpout235 0 0 0 0 0 65535 0 0 0 0 0 0 0";
+    let whole_0 = "gpout 1 0 0 0 0 0 65535 0 0 0 0 0 0 0";
     assert_eq!((class(whole_0, "0"), class(whole_0, "1")), (Some(Class::GpoutWhole0), None));
-    let whole_over = "gpout235 0 65536 0 0 0 1 0 0 0 0 0 0 0";
+    let whole_over = "gpout 1 0 65536 0 0 0 1 0 0 0 0 0 0 0";
     assert_eq!((class(whole_over, "refused 23"), class(whole_over, "0")), (Some(Class::Loses(23)), None));
 }
 

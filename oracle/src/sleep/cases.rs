@@ -1,6 +1,6 @@
 //! Cases of `sleep` and `wake`: first the limits, then random ones.
 
-use crate::case::{Case, Kind};
+use crate::case::Case;
 use crate::random::Random;
 
 /// Every slot and those past them; crystals and PLLs on, off and between.
@@ -15,11 +15,11 @@ pub fn limits() -> Vec<Case> {
         }
     }
     let mut cases = Vec::new();
-    for kind in [Kind::Sleep, Kind::Wake] {
+    for name in ["sleep", "wake"] {
         for board in &boards {
             let slots = [vec![0; 12], [&[1], board.as_slice()].concat(), vec![0; 12], vec![1; 12]].concat();
             let case = |slot: u32| [&[slot], board.as_slice(), &slots].concat();
-            cases.extend([0, 1, 2, 3, 4, 255].map(|slot| Case { kind, numbers: case(slot) }));
+            cases.extend([0, 1, 2, 3, 4, 255].map(|slot| Case::new(name, &case(slot))));
         }
     }
     cases
@@ -32,7 +32,8 @@ pub fn numbers(r: &mut Random) -> Vec<u32> {
     numbers.extend(words(r));
     for _ in 0..4 {
         let saved = r.percent(90);
-        numbers.push(saved as u32);
+        // One flag in a hundred is none.
+        numbers.push(if r.percent(1) { r.between(2, 255) } else { saved as u32 });
         numbers.extend(if saved { words(r) } else { [0; 11] });
     }
     numbers

@@ -7,8 +7,9 @@ mod registers;
 use std::cell::RefCell;
 
 use crate::answer::Answer;
-use crate::case::Kind;
+use crate::case::Case;
 use crate::panics::catch;
+use crate::text::call;
 use registers::{Board, Step, Words, exchange};
 
 mod published {
@@ -63,19 +64,21 @@ fn no_code(words: &Words) -> bool {
     ![0xfab, 0xd1e].contains(&(words[CRYSTAL] >> 12 & 0xfff))
 }
 
-/// `n` is slot, eleven words, four slots.
-pub fn answer(kind: Kind, n: &[u32]) -> Answer {
+/// The numbers are slot, eleven words, four slots.
+pub fn answer(case: &Case) -> Answer {
+    let n = &case.numbers;
     let (slot, handed) = (n[0] as usize, &n[1..SLOT]);
     let mut slots = n[SLOT..].to_vec();
+    let refused = |number: u8| Answer::Ruled(text(&format!("refused {number}"), handed, &n[SLOT..], &[]));
     if slot >= SLOTS {
-        return Answer::Ruled("refused 29".to_string());
+        return refused(29);
     }
     let saved = &mut slots[slot * SLOT..(slot + 1) * SLOT];
-    if kind == Kind::Sleep {
+    if case.name == "sleep" {
         saved[0] = 1;
         saved[1..].copy_from_slice(handed);
     } else if saved[0] == 0 {
-        return Answer::Ruled("refused 30".to_string());
+        return refused(30);
     }
     let words: Words = saved[1..].try_into().unwrap();
     let then: Words = handed.try_into().unwrap();
@@ -83,19 +86,17 @@ pub fn answer(kind: Kind, n: &[u32]) -> Answer {
     match night(words, then) {
         Err(what) => Answer::Unknown(what),
         Ok((asleep, awake)) => {
-            let board = if kind == Kind::Sleep { asleep } else { awake };
-            let text = text(&board, &slots);
+            let board = if case.name == "sleep" { asleep } else { awake };
+            let steps: Vec<u32> = board.steps.iter().flat_map(|step| step.numbers()).collect();
+            let text = text(&steps.len().to_string(), &board.words, &slots, &steps);
             if no_code(&words) { Answer::Ruled(text) } else { Answer::Says(text) }
         }
     }
 }
 
-fn text(board: &Board, slots: &[u32]) -> String {
-    let numbers = |numbers: &[u32]| numbers.iter().map(u32::to_string).collect::<Vec<_>>().join(" ");
-    let step = |step: &Step| match step {
-        Step::Write(register, word) => format!("w{register}={word}"),
-        Step::Wait(name) => name.to_string(),
-    };
-    let steps: Vec<String> = board.steps.iter().map(step).collect();
-    format!("{} / {} / {}", numbers(&board.words), steps.join(" "), numbers(slots))
+/// How many numbers of steps there are, the words, the slots, and 28 numbers of steps, zeros past those written.
+fn text(answer: &str, words: &[u32], slots: &[u32], steps: &[u32]) -> String {
+    let mut written = steps.to_vec();
+    written.resize(28, 0);
+    call(answer, &[words, slots, &written].concat(), &[])
 }

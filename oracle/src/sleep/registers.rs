@@ -15,6 +15,19 @@ pub enum Step {
     Wait(&'static str),
 }
 
+impl Step {
+    /// Two numbers: a register and its word, or a wait and 0.
+    pub fn numbers(&self) -> [u32; 2] {
+        match self {
+            Step::Write(register, word) => [*register as u32, *word],
+            Step::Wait(name) => [WAITS.iter().position(|wait| wait == name).unwrap() as u32 + 11, 0],
+        }
+    }
+}
+
+/// The waits, by their numbers from 11 on.
+const WAITS: [&str; 4] = ["ring", "crystal", "lock0", "lock1"];
+
 #[derive(Clone, Default)]
 pub struct Board {
     pub words: Words,
