@@ -167,8 +167,8 @@ class Runs(Test):
         for case, answer in cases:
             if not case.startswith("sheet ") or answer.startswith("refused") or came == 200:
                 continue
-            reading, _, *plan = map(int, case.split(" ")[1:])
-            sheet, runner, k = dizbaral.plan_sheet(Chip.RP2040, plan, reading), Runner(), draw.randrange(5)
+            reading, _, chip, *plan = map(int, case.split(" ")[1:])
+            sheet, runner, k = dizbaral.plan_sheet(Chip(chip), plan, reading), Runner(), draw.randrange(5)
             self.assertEqual(sheet.hex(), answer.split(" ")[1])
             runner.start(sheet)
             calls, left = 0, k
