@@ -43,7 +43,7 @@ const SLEEPS: usize = 660;
 const RP235X: u64 = 235 << 32;
 const SLEEP: u64 = 11 << 32;
 
-/// What may stand for cases that are compared alone: a name, `bench` for both of its calls, `235x` for all of that chip.
+/// Cases that are compared alone: those of a name, with `bench` those of both its calls, with `235x` all of that chip.
 pub fn lines_of(word: &str, seed: u64, count: usize) -> Option<Box<dyn Iterator<Item = String>>> {
     if word == "235x" {
         let asked = |line: &String| Case::parse(line).is_some_and(|case| case.chip() == Some(1));
@@ -54,8 +54,7 @@ pub fn lines_of(word: &str, seed: u64, count: usize) -> Option<Box<dyn Iterator<
         "bench" => all.filter(|name| name.starts_with("bench")).collect(),
         _ => all.filter(|name| *name == word).collect(),
     };
-    // A bench and `read` are compared by their own words alone.
-    let fixed = limits::all().into_iter().chain(ruled::limits()).chain(run::limits());
+    let fixed = limits::all().into_iter().chain(ruled::limits());
     let fixed: Vec<Case> = fixed.filter(|case| names.contains(&case.name)).collect();
     let mut names = (!names.is_empty()).then_some(names)?.into_iter().cycle();
     let random = random_lines(seed, move |r| {

@@ -6,12 +6,15 @@ use crate::book;
 use crate::case::Case;
 use crate::generate;
 use crate::random::Random;
+use crate::run;
 use crate::sleep::cases as sleep;
 use crate::values;
 
 #[rustfmt::skip]
-pub const NAMES: [&str; 10] =
-    ["usb_pll", "book", "margin", "list", "wait", "run", "start", "sleep", "wake", "system_from"];
+pub const NAMES: [&str; 13] = [
+    "usb_pll", "book", "margin", "list", "wait", "start", "run", "bench_start", "bench_run", "sleep", "wake", "read",
+    "system_from",
+];
 
 pub fn limits() -> Vec<Case> {
     let mut cases = Vec::new();
@@ -37,6 +40,7 @@ pub fn limits() -> Vec<Case> {
     cases.extend((0..=17).map(|room| Case::new("list", &[12_000_000, 48_000_000, room])));
     let polls = [0, 1, 999_998, 999_999, 1_000_000, 1_000_001, u32::MAX];
     cases.extend(polls.map(|polls| Case::new("wait", &[polls])));
+    cases.extend(run::limits());
     cases.extend(sleep::limits());
     cases
 }
