@@ -104,7 +104,7 @@ abbrev pub rowAt : List (List ℕ) → List ℕ
 rowAt [] = []
 rowAt (r ∷ rs) = r
 
--- the row of the line's first word, and the words behind it
+-- the row of the line's first word, and the words after it
 unfoldable pub answerTo : List ℕ → List ℕ
 answerTo line =
     let k = named (upTo 32 line) rows in

@@ -59,7 +59,7 @@ pub(crate) fn put_manual(n: &Given, out: &mut [u8]) -> usize
     }
 }
 
-// The plan's numbers behind READING, ROOM and CHIP.
+// The plan's numbers, which follow READING, ROOM and CHIP.
 fn plan_at(n: &Given, count: usize) -> &[u32]
     ensures { λ r. ⌜ now r ≡ planAt (now (n .entry)) count ⌝ }
 {

@@ -1,4 +1,4 @@
--- A line that is fed byte by byte is the line: each byte is set behind the last, and a byte too many stays one too many.
+-- A line that is fed byte by byte is the line: each byte is set after the last, and a byte too many stays one too many.
 use mathlib.Core.{Path._≡_, Path.refl, Path.ap, Path._∙_, List.List, List.[], List._∷_}
 use Prim.Native.Nat.{ℕ, suc, _+_, _≤_, _<_}
 use native.Mathlib.{Nat.add-zero, Nat.zero-add, Decide.decLe, Omega.arith}

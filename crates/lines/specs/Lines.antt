@@ -38,7 +38,7 @@ unfoldable pub feedsOut : Held → List ℕ → List ℕ → List ℕ
 feedsOut s out [] = out
 feedsOut s out (b ∷ bs) = feedsOut (fed s b) (fedOut s out b) bs
 
--- the call that took a byte; the answer ends behind its newline, or at the end of a buffer of less than 3478 bytes
+-- the call that took a byte; the answer ends after its newline, or at the end of a buffer of less than 3478 bytes
 pub record Feeding (s : Held) (b : ℕ) (out : List ℕ) (r : Fed) (held′ out′ : List ℕ) : Type 0 where
   pub held : heldOf held′ (r .len) ≡ fed s b
   pub answer : r .answer ≡ pick (eqb b 10) (past out 0 (heldText s)) 0

@@ -49,7 +49,7 @@ fn feed(held: &mut [u8; 4096], len: usize, b: u8, out: &mut [u8]) -> Fed
     Fed { len, answer: 0 }
 }
 
-// Answers each line that a piece closes, in their order, and holds what is behind the last.
+// Answers each line that a piece closes, in their order, and holds what follows the last.
 pub fn take_piece(piece: &[u8], held: &mut [u8; 4096], before: usize, out: &mut [u8]) -> usize
     ensures held { λ r. ⌜ heldOf (now (held .exit)) r ≡ feeds (heldOf (now (held .entry)) before) (now (piece .entry)) ⌝ }
     ensures out { λ _. ⌜ now (out .exit) ≡ feedsOut (heldOf (now (held .entry)) before) (now (out .entry)) (now (piece .entry)) ⌝ }

@@ -1,4 +1,4 @@
--- `lines::answer` meets its contract: the answer, and right behind it the newline.
+-- `lines::answer` meets its contract: the answer, and after it the newline.
 use native.Mathlib.Omega.{arith}
 use borrow.{Author.Needs.needs, Author.Tests.lt-ltb, Author.Tests.le-ltb}
 use lib.ListN.{length-append}

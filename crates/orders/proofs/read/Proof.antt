@@ -21,4 +21,6 @@ read-spec = tie.close (tie.spec (λ c. search needs) (λ c κs. search needs)
     (λ c. rw (c .before .before .before .before .before .match .keys4) (c .read4 .ensures))
     (λ c. rw (c .before .before .before .before .before .match .keys5) (c .read5 .ensures))
     (λ c. rw (c .before .before .before .before .before .match .keys6) (c .read6 .ensures))
-    (λ c. let rest = c .before .before .before .before .before .match .rest in rw (letters-rest _ (next (next (next (next (next (next zero-le (rest .0 .0 .0 .0 .0 .1)) (rest .0 .0 .0 .0 .1)) (rest .0 .0 .0 .1)) (rest .0 .0 .1)) (rest .0 .1)) (rest .1))) (c .read7 .ensures)))
+    (λ c. let rest = c .before .before .before .before .before .match .rest in rw (letters-rest _ (next (next (next (next (next
+    (next zero-le (rest .0 .0 .0 .0 .0 .1)) (rest .0 .0 .0 .0 .1)) (rest .0 .0 .0 .1)) (rest .0 .0 .1)) (rest .0 .1)) (rest .1)))
+    (c .read7 .ensures)))

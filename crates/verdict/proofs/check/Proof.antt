@@ -6,7 +6,8 @@ use Rattle.verdict.proofs.check.Tie as tie
 
 pub check-spec : {M : Type 1} → statement M
 unfolding verdictOf checkText
-check-spec = tie.close (tie.spec (λ c κs. search needs) (λ c. search needs) (λ c κs. search needs) (λ c. search needs) (λ c. search needs) (λ c κs. search needs) (λ c. search needs)
+check-spec = tie.close (tie.spec (λ c κs. search needs) (λ c. search needs) (λ c κs. search needs) (λ c. search needs)
+    (λ c. search needs) (λ c κs. search needs) (λ c. search needs)
     (λ c. let put = c .before .before in let told = put .before .before .before in
     rw (← told .before .before .read-sheet .ensures, told .plan .given .1) (put .put-ordered .ensures)) (λ c. search needs)
     (λ c. let put = c .before .before in let told = put .before .before .before .before in

@@ -9,7 +9,8 @@ use Rattle.verdict.proofs.put_part.Tie as tie
 
 pub put-part-spec : {M : Type 1} → statement M
 unfolding partText
-put-part-spec = tie.close (tie.spec (λ c κs. search needs) (λ c κs. search needs) (λ c. search needs) (λ c κs. search needs) (λ c κs. search needs) (λ c. search needs) (λ c κs. search needs) (λ c κs. search needs) (λ c. search needs)
+put-part-spec = tie.close (tie.spec (λ c κs. search needs) (λ c κs. search needs) (λ c. search needs) (λ c κs. search needs)
+    (λ c κs. search needs) (λ c. search needs) (λ c κs. search needs) (λ c κs. search needs) (λ c. search needs)
     (λ c. let asked = c .before .before in let between = asked .before .before .before .before in
     let was = between .before .before .before .before .before in let first = was .before .before .before .before in
     let name = first .before .before .before .before .before in let test = name .before .before in

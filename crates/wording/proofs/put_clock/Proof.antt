@@ -9,11 +9,13 @@ use Rattle.wording.proofs.put_clock.Tie as tie
 past : tie.Need-returns-7
 past c =
     let rest = c .before .match .rest in
-    rw (line-past _ _ _ _ (next (next (next (next (next (next (omega arith) (rest .0 .0 .0 .0 .0 .1)) (rest .0 .0 .0 .0 .1)) (rest .0 .0 .0 .1)) (rest .0 .0 .1)) (rest .0 .1)) (rest .1))) (record { index = omega (arith, c .least .ensures); bytes = refl })
+    rw (line-past _ _ _ _ (next (next (next (next (next (next (omega arith) (rest .0 .0 .0 .0 .0 .1)) (rest .0 .0 .0 .0 .1))
+    (rest .0 .0 .0 .1)) (rest .0 .0 .1)) (rest .0 .1)) (rest .1))) (record { index = omega (arith, c .least .ensures); bytes = refl })
 
 pub put-clock-spec : {M : Type 1} → statement M
 unfolding lineOf
-put-clock-spec = tie.close (tie.spec (λ c κs. search needs) (λ c κs. search needs) (λ c κs. search needs) (λ c κs. search needs) (λ c. search needs) (λ c κs. search needs) (λ c. search needs) (λ c κs. search needs) (λ c κs. search needs) (λ c κs. search needs)
+put-clock-spec = tie.close (tie.spec (λ c κs. search needs) (λ c κs. search needs) (λ c κs. search needs) (λ c κs. search needs)
+    (λ c. search needs) (λ c κs. search needs) (λ c. search needs) (λ c κs. search needs) (λ c κs. search needs) (λ c κs. search needs)
     (λ c. search needs) (λ c. let put = c .before .before in rw (put .before .before .match .keys1) (put .put-ref .ensures))
     (λ c. search needs) (λ c. let put = c .before .before in let picked = put .before .before in
     rw (picked .match .keys2, ← picked .before .before .facts .ensures) (put .put-sys .ensures))

@@ -8,7 +8,9 @@ use Rattle.wording.proofs.put_source.Tie as tie
 
 pub put-source-spec : {M : Type 1} → statement M
 unfolding lineOf
-put-source-spec = tie.close (tie.spec (λ c κs. search needs) (λ c κs. search needs) (λ c κs. search needs) (λ c. search needs) (λ c κs. search needs) (λ c κs. search needs) (λ c. search needs) (λ c κs. search needs) (λ c κs. search needs) (λ c κs. search needs) (λ c κs. search needs)
+put-source-spec = tie.close (tie.spec (λ c κs. search needs) (λ c κs. search needs) (λ c κs. search needs) (λ c. search needs)
+    (λ c κs. search needs) (λ c κs. search needs) (λ c. search needs) (λ c κs. search needs) (λ c κs. search needs)
+    (λ c κs. search needs) (λ c κs. search needs)
     (λ c. search needs) (λ c. let put = c .before .before in rw (put .before .before .match .keys1) (put .put-chip .ensures))
     (λ c. search needs) (λ c. let put = c .before .before in rw (put .before .before .match .keys2) (put .put-ring .ensures))
     (λ c. search needs) (λ c. let put = c .before .before in rw (put .before .before .match .keys3) (put .put-crystal .ensures))
@@ -18,4 +20,5 @@ put-source-spec = tie.close (tie.spec (λ c κs. search needs) (λ c κs. search
     (rw (pll .usb-pll .ensures) at (put .put-pll2 .ensures)))
     (λ c. search needs) (λ c. let put = c .before .before in rw (put .before .before .match .keys6) (put .put-voltage .ensures))
     (λ c. search needs) (λ c. let put = c .before .before in let rest = put .before .before .match .rest in
-    rw (last-of (next (next (next (next (next (next zero-le (rest .0 .0 .0 .0 .0 .1)) (rest .0 .0 .0 .0 .1)) (rest .0 .0 .0 .1)) (rest .0 .0 .1)) (rest .0 .1)) (rest .1)) (omega arith)) (put .put-settling .ensures)))
+    rw (last-of (next (next (next (next (next (next zero-le (rest .0 .0 .0 .0 .0 .1)) (rest .0 .0 .0 .0 .1)) (rest .0 .0 .0 .1))
+    (rest .0 .0 .1)) (rest .0 .1)) (rest .1)) (omega arith)) (put .put-settling .ensures)))
