@@ -1,0 +1,3 @@
+pub mod Said
+pub mod Making
+pub mod Demand3

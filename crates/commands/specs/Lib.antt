@@ -1,0 +1,5 @@
+pub mod Texts
+pub mod Case
+pub mod Commands
+pub mod Made
+pub mod Demand3

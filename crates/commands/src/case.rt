@@ -1,0 +1,107 @@
+// A case of docs/CASES.md, with the meaning of its refusal.
+use crate::texts::put_usage;
+use base::Number;
+ghost use mathlib.Core.Path.{_≡_};
+ghost use Rattle.base.specs.Placed.{Placed};
+ghost use Rattle.base.specs.Answer.{numberIs};
+ghost use Rattle.commands.specs.Case.{isPlain, isState, isCase, unknownText, numberMeaning, meaningOf, noCase, saidText, caseOf};
+
+// The cases of numbers alone.
+fn is_plain(word: &[u8]) -> bool
+    ensures { λ r. ⌜ r ≡ isPlain (now (word .entry)) ⌝ }
+{
+    kept::same_bytes(word, b"valid")
+        | kept::same_bytes(word, b"output")
+        | kept::same_bytes(word, b"search")
+        | kept::same_bytes(word, b"usb_pll")
+        | kept::same_bytes(word, b"book")
+        | kept::same_bytes(word, b"margin")
+        | kept::same_bytes(word, b"voltage")
+        | kept::same_bytes(word, b"pio")
+        | kept::same_bytes(word, b"gpout")
+        | kept::same_bytes(word, b"wait")
+        | kept::same_bytes(word, b"list")
+}
+
+// Those of plans, sheets and states.
+fn is_state(word: &[u8]) -> bool
+    ensures { λ r. ⌜ r ≡ isState (now (word .entry)) ⌝ }
+{
+    kept::same_bytes(word, b"sheet")
+        | kept::same_bytes(word, b"read")
+        | kept::same_bytes(word, b"start")
+        | kept::same_bytes(word, b"run")
+        | kept::same_bytes(word, b"bench_start")
+        | kept::same_bytes(word, b"bench_run")
+        | kept::same_bytes(word, b"sleep")
+        | kept::same_bytes(word, b"wake")
+}
+
+fn is_case(word: &[u8]) -> bool
+    ensures { λ r. ⌜ r ≡ isCase (now (word .entry)) ⌝ }
+{
+    (is_plain(word) | is_state(word)) | orders::is_order(word)
+}
+
+// A first word that is no command's and no case's.
+fn put_unknown(out: &mut [u8], word: &[u8]) -> usize
+    ensures { λ r. ⌜ Placed (now (out .entry)) 0 (unknownText (now (word .entry))) r (now (out .exit)) ⌝ }
+{
+    let at = text::put_bytes(out, 0, b"no such command: ");
+    let at = text::put_bytes(out, at, word);
+    text::put_bytes(out, at, b"\nsee dizbaral help\n")
+}
+
+// The meaning of a refusal, where there is a number.
+fn put_number(out: &mut [u8], at: usize, number: Number) -> usize
+    ensures { λ r. ⌜ Placed (now (out .entry)) at (numberMeaning (numberIs number)) r (now (out .exit)) ⌝ }
+{
+    match number {
+        Number::Value(n) => {
+            let at = meanings::put_refusal(out, at, base::least(n as usize, 255) as u8);
+            text::put_byte(out, at, b'\n')
+        }
+        Number::Refused(_) => base::least(at, out.len()),
+    }
+}
+
+// The meaning of what was answered, where it begins with `refused` and a number.
+fn put_meaning(out: &mut [u8], at: usize, said: &[u8]) -> usize
+    ensures { λ r. ⌜ Placed (now (out .entry)) at (meaningOf (now (said .entry))) r (now (out .exit)) ⌝ }
+{
+    if kept::same_bytes(orders::first_word(said), b"refused") {
+        return put_number(out, at, text::number(orders::word_after(said, 7)));
+    }
+    base::least(at, out.len())
+}
+
+// Where a line is no case: what it takes, or that there is none of its name.
+fn put_no_case(out: &mut [u8], word: &[u8]) -> usize
+    ensures { λ r. ⌜ Placed (now (out .entry)) 0 (noCase (now (word .entry))) r (now (out .exit)) ⌝ }
+{
+    if is_case(word) {
+        return put_usage(out, 0);
+    }
+    put_unknown(out, word)
+}
+
+// What a case was answered, and a refusal's meaning after it.
+fn put_said(line: &[u8], said: &[u8], out: &mut [u8]) -> usize
+    ensures { λ r. ⌜ Placed (now (out .entry)) 0 (saidText (now (line .entry)) (now (said .entry))) r (now (out .exit)) ⌝ }
+{
+    if kept::same_bytes(said, b"bad case") {
+        return put_no_case(out, orders::first_word(line));
+    }
+    let at = text::put_bytes(out, 0, said);
+    let at = text::put_byte(out, at, b'\n');
+    put_meaning(out, at, said)
+}
+
+// The answer to a case, of which at most 4096 bytes are kept, as program `answers` prints it.
+pub(crate) fn put_case(line: &[u8], out: &mut [u8]) -> usize
+    ensures { λ r. ⌜ Placed (now (out .entry)) 0 (caseOf (now (line .entry))) r (now (out .exit)) ⌝ }
+{
+    let mut said = [0u8; 4096];
+    let n = cases::answer(line, &mut said);
+    put_said(line, &said[..n], out)
+}
