@@ -1,0 +1,7 @@
+-- `web::dizbaral_answer` meets its contract: it is that of `commands::answer`.
+use borrow.Author.Needs.{needs}
+use Rattle.web.proofs.dizbaral_answer.Statement.{statement}
+use Rattle.web.proofs.dizbaral_answer.Tie as tie
+
+pub dizbaral-answer-spec : {M : Type 1} → statement M
+dizbaral-answer-spec = tie.close (tie.spec (λ c κs. search needs) (λ c. search needs) (λ c. c .before .before .answer .ensures))
