@@ -26,6 +26,12 @@ fn section(heading: &str) -> impl Iterator<Item = &'static str> {
     lines.take_while(move |line| name(line).is_none())
 }
 
+/// The output of a section's first command: the block after that of the command.
+fn shown(heading: &str) -> impl Iterator<Item = &'static str> {
+    let output = section(heading).skip_while(|line| *line != "```").skip(2);
+    output.take_while(|line| *line != "```")
+}
+
 /// The cells of the rows of a section's tables.
 fn cells(heading: &str) -> Vec<Vec<&'static str>> {
     let lines = section(heading).filter_map(|line| line.strip_prefix('|')?.strip_suffix('|'));
@@ -155,8 +161,7 @@ fn the_example_of_clocks_is_what_the_rust_stores() {
     let steps = steps(&sheet_line("system 0 125000000"));
     let stored = steps.iter().filter_map(|step| step.stored());
     let stored = stored.map(|(clock, hz)| format!("{} {hz}", CLOCKS[clock as usize]));
-    let shown = section("Program clocks").skip_while(|line| *line != "```").skip(1);
-    assert!(shown.take(10).eq(stored));
+    assert!(shown("Program clocks").take(10).eq(stored));
 }
 
 /// `limits` holds docs/FORMAT.md: its stored answers are those that are owed.
@@ -171,27 +176,25 @@ fn the_answers_of_limits_are_right() {
 
 #[test]
 fn the_book_begins_as_shown() {
-    let shown = section("Program book").skip_while(|line| *line != "```").skip(1);
-    assert!(shown.take(3).eq(crate::book::text().lines().take(3)));
+    assert!(shown("Program book").take(3).eq(crate::book::text().lines().take(3)));
 }
 
+/// The sheet that the gate explains is the Rust's, and so is the plan in its words.
 #[test]
-fn the_example_of_explain_is_its_replay() {
+fn the_sheet_that_is_explained_is_the_rusts() {
     let _alone = crate::tests::alone();
-    let shown = section("Program explain").skip_while(|line| *line != "```").skip(1);
-    let stored = include_str!("../../crates/explain/stdout");
-    assert!(shown.take_while(|line| *line != "```").eq(stored.lines()));
-    let (reading, hex) = include_str!("../../crates/explain/stdin").trim_end().split_once('\n').unwrap();
+    let sheet = include_bytes!("../../crates/dizbaral/data/crystal.sheet");
+    let hex: String = sheet.iter().map(|byte| format!("{byte:02x}")).collect();
+    let reading = include_str!("../../crates/dizbaral/args").lines().nth(1).unwrap();
     assert_eq!(answer_line(&sheet_line("crystal 0 12000000")), format!("{} {hex}", hex.len() / 2));
-    let plan = stored.lines().last().unwrap().replace("plan", "0");
-    assert_eq!(answer_line(&format!("read {hex} {reading}")), plan);
+    let stored = include_str!("../../crates/dizbaral/stdout").lines().last().unwrap();
+    assert_eq!(answer_line(&format!("read {hex} {reading}")), stored.replace("plan", "0"));
 }
 
 #[test]
 fn the_load_of_0_1_is_as_shown() {
     let _alone = crate::tests::alone();
-    let shown = section("Program load").skip_while(|line| *line != "```").skip(1);
-    assert!(shown.take(2).eq(crate::load::output("0 1").lines()));
+    assert!(shown("Program load").eq(crate::load::output("0 1").lines()));
 }
 
 /// The rows of docs/CASES.md have the names and, by its table of words, the letters of the table here.
