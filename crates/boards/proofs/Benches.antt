@@ -7,7 +7,7 @@ use Rattle.base.specs.Answer.{value, refusal}
 use Rattle.boards.specs.declared.Bench.{Bench}
 use Rattle.runner.specs.declared.{Stepper.Stepper, Runner.Runner}
 use Rattle.runner.specs.Run.{Outcome, outcome, stepperOf, begun, started, startedWith}
-use Rattle.kept.specs.Kept.{badSize}
+use Rattle.step.specs.Size.{badSize}
 use Rattle.boards.specs.Bench.{freshBench, boardAt, eightOf, inBench, benchOf, startAllOf}
 
 module _ (b : Bench) (sheet : List ℕ) where

@@ -9,7 +9,7 @@ use Rattle.base.specs.Answer.{Answer}
 use Rattle.runner.specs.declared.{Stepper.Stepper, Runner.Runner}
 use Rattle.boards.specs.declared.Bench.{Bench}
 use Rattle.runner.specs.Run.{Progress, Outcome, freshStepper, fresh, stepperOf, advanceOf, Begun, startedWith, startOf}
-use Rattle.kept.specs.Kept.{badSize}
+use Rattle.step.specs.Size.{badSize}
 use Rattle.boards.specs.Bench.{freshBench, noBoard, boardAt, boardHz, eightOf, benchOf, startAllOf}
 use Rattle.boards.specs.History.{BenchEvent, start, poll, Own, ownOf, benchAfter, singleAfter, singleAnswers, Alike}
 use Rattle.boards.specs.History.{AsSingle, SameBoard}

@@ -7,7 +7,7 @@ use Rattle.runner.specs.declared.{Stepper.Stepper, Runner.Runner}
 use Rattle.boards.specs.declared.{Bench.Bench, Benched.Benched, AllOpened.AllOpened}
 use Rattle.runner.specs.Run.{Outcome, outcome, replyIs, fresh, stepperOf, Begun, begun, started, openingIs, startedWith}
 use Rattle.runner.specs.Calls.{stepperTimedOut}
-use Rattle.kept.specs.Kept.{badSize}
+use Rattle.step.specs.Size.{badSize}
 
 abbrev pub benchedIs : Benched → Outcome Bench
 benchedIs s = outcome (replyIs (s .reply)) (s .bench)

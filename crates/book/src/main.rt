@@ -5,7 +5,7 @@ fn main() {
     let book = speed_book::open();
     for k in 0..speed_book::ENTRIES {
         let mut line = [0u8; 32];
-        let size = page::put_line(&mut line, &book, k);
+        let size = speed_book::page::put_line(&mut line, &book, k);
         io::write_all(STDOUT_FILENO, &line[..size]);
     }
 }

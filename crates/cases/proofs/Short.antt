@@ -7,7 +7,7 @@ use Rattle.base.specs.Choice.{pick, inRange}
 use Rattle.text.specs.{Decimal.decimalOf, Hex.hexDigits, Hex.hexOf}
 use Rattle.text.proofs.Decimals.{length-decimal}
 use Rattle.replies.specs.Reply.{badCase, refusedText, spaced, rowText}
-use Rattle.as_numbers.specs.Numbers.{refusals, malformed}
+use Rattle.numbers.specs.Answers.{refusals, malformed}
 use Rattle.words.specs.Said.{numberText, hexBehind, callText}
 
 -- a number of 64 bits

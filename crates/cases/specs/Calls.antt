@@ -4,21 +4,21 @@ use Prim.Native.Nat.{ℕ, _-_}
 use lib.{Dec.eqb, Dec.ltb, ListN.length, ListN.take, ListN.drop, ListN.replicate, Seq.sets}
 use Rattle.base.specs.{Answer.Answer, Answer.value, Answer.refusal, Choice.pick}
 use Rattle.chip.specs.declared.{Chip.Chip, Chip.the-variants.Rp2040, Chip.the-variants.Rp235x}
-use Rattle.voltage.specs.declared.CoreVoltage.{CoreVoltage}
-use Rattle.voltage.specs.Voltage.{coreVoltageOf}
+use Rattle.chip.specs.declared.voltage.CoreVoltage.{CoreVoltage}
+use Rattle.chip.specs.Voltage.{coreVoltageOf}
 use Rattle.config.specs.declared.ClockConfig.{ClockConfig}
 use Rattle.config.specs.Presets.{manualPlan}
 use Rattle.lister.specs.Lister.{listedOf, listedIn}
 use Rattle.sleep.specs.Sleep.{SleepOutcome, sleepOf, wakeOf}
 use Rattle.sleep.specs.declared.steps.Step.{Step}
-use Rattle.sleep_numbers.specs.Numbers.{slotsNumbers, stepsNumbers}
+use Rattle.numbers.specs.Slots.{slotsNumbers, stepsNumbers}
 use Rattle.runner.specs.Run.{startOf}
 use Rattle.fields.specs.Row.{nth, byteAt, roomAt, pllAt}
-use Rattle.as_numbers.specs.Numbers.{answerNumber, itself, malformed, chipNumbered}
-use Rattle.as_numbers.specs.Run.{runnerIn, runNumber, runLeaves, goNumber, startLeaves}
+use Rattle.numbers.specs.Answers.{answerNumber, itself, malformed, chipNumbered}
+use Rattle.numbers.specs.Run.{runnerIn, runNumber, runLeaves, goNumber, startLeaves}
 use Rattle.boards.specs.Bench.{startAllOf}
-use Rattle.as_numbers.specs.Bench.{benchIn, benchNumber, benchLeaves, startAllLeaves}
-use Rattle.as_numbers.specs.Slots.{askedWith, stepsNumber, leftAsked}
+use Rattle.numbers.specs.Bench.{benchIn, benchNumber, benchLeaves, startAllLeaves}
+use Rattle.numbers.specs.SleepCall.{askedWith, stepsNumber, leftAsked}
 use Rattle.export.specs.Sheet.{sheetNumber, sheetBuffer, planOn}
 use Rattle.words.specs.Said.{callText}
 use Rattle.cases.specs.Say.{oneText, writtenText, plannedText}

@@ -8,11 +8,12 @@ use Rattle.pll.specs.{Setting.validOf, Setting.outputOf, Search.searchOf, Usb.u
 use Rattle.speed_book.specs.Book.{crystal}
 use Rattle.margin.specs.Margin.{marginOf}
 use Rattle.divider.specs.Pio.{pioOf}
-use Rattle.up.specs.ComesUp.{longestWait}
+use Rattle.bring_up.specs.ComesUp.{longestWait}
 use Rattle.config.specs.Presets.{defaultPlan, crystalPlan, roscPlan, systemPlan, systemPlanFrom}
 use Rattle.readback.specs.Read.{readOf}
 use Rattle.fields.specs.Row.{nth, byteAt, halfAt, pllAt, tenAt}
-use Rattle.as_numbers.specs.Numbers.{answerNumber, itself, malformed, chipNumbered, onChip, voltageNumber, dividerNumbered, gpoutNumber}
+use Rattle.numbers.specs.Answers.{answerNumber, itself, malformed, chipNumbered, onChip, voltageNumber, dividerNumbered}
+use Rattle.numbers.specs.Answers.{gpoutNumber}
 use Rattle.words.specs.Words.{State, stateOf, given}
 use Rattle.cases.specs.Table.{linesOf, named, lettersOf}
 use Rattle.cases.specs.Say.{oneText, foundText, marginText, levelText, planText, plannedText}

@@ -5,17 +5,17 @@ use crate::say::put;
 use crate::say::put_one;
 use crate::say::put_planned;
 use crate::say::put_written;
-use as_numbers::numbers::MALFORMED;
 use chip::Chip;
+use chip::voltage::VoltageRead;
 use config::ClockConfig;
 use fields::byte_at;
 use fields::room_at;
-use voltage::VoltageRead;
+use numbers::answers::MALFORMED;
 ghost use mathlib.Core.Path.{_≡_};
 ghost use mathlib.Core.List.{[]};
 ghost use Prim.Native.Nat.{_≤_};
 ghost use lib.ListN.{length};
-ghost use Rattle.as_numbers.specs.Numbers.{chipNumbered};
+ghost use Rattle.numbers.specs.Answers.{chipNumbered};
 ghost use Rattle.export.specs.Sheet.{planOn};
 ghost use Rattle.words.specs.Said.{callText};
 ghost use Rattle.cases.specs.Say.{Answered};
@@ -53,7 +53,7 @@ pub(crate) fn put_manual(n: &Given, out: &mut [u8]) -> usize
     ensures { λ x. ⌜ Answered (now (out .entry)) (manualText (now (n .entry))) x (now (out .exit)) ⌝ }
 {
     let pll = fields::pll_at(n, 1);
-    match voltage::core_voltage(byte_at(n, 5)) {
+    match chip::voltage::core_voltage(byte_at(n, 5)) {
         VoltageRead::Voltage(v) => put_planned(out, ClockConfig::manual_pll(n[0], pll, v)),
         VoltageRead::Refused(_) => put_one(out, MALFORMED),
     }
@@ -193,7 +193,7 @@ fn put_asked(out: &mut [u8], wakes: bool, kept: [u32; 48], slot: u8, given: [u32
     let mut slots = kept;
     let mut words = given;
     let mut steps = [0u32; 28];
-    let r = as_numbers::slots::change(wakes, &mut slots, slot, &mut words, &mut steps);
+    let r = numbers::sleep_call::change(wakes, &mut slots, slot, &mut words, &mut steps);
     put_changed(out, r, &words, &slots, &steps)
 }
 

@@ -3,13 +3,13 @@ mod calls;
 mod say;
 mod table;
 
-use as_numbers::numbers;
 use calls::chip_at;
 use config::ClockConfig;
 use export::dizbaral_core_voltage;
 use export::dizbaral_gpout_frequency;
 use fields::byte_at;
 use fields::pll_at;
+use numbers::answers;
 use say::put_found;
 use say::put_one;
 use say::put_plan;
@@ -34,7 +34,7 @@ fn put_numbers(k: usize, n: &Given, out: &mut [u8]) -> usize
 {
     match k {
         0 => put_one(out, base::bit(pll_at(n, 1).is_valid(n[0])) as u64),
-        1 => put_one(out, numbers::number(pll_at(n, 1).output_frequency(n[0]))),
+        1 => put_one(out, answers::number(pll_at(n, 1).output_frequency(n[0]))),
         2 => put_found(out, pll::find_pll_params(n[0], n[1])),
         3 => put_found(out, pll::usb::find_usb_pll(n[0])),
         4 => put_found(out, speed_book::lookup(n[0])),
@@ -51,7 +51,7 @@ fn put_numbers(k: usize, n: &Given, out: &mut [u8]) -> usize
                 dizbaral_gpout_frequency(chip, source, n[2], fraction, &freqs),
             )
         }
-        9 => put_one(out, up::longest_wait(n[0]) as u64),
+        9 => put_one(out, bring_up::longest_wait(n[0]) as u64),
         _ => calls::put_list(n, out),
     }
 }
@@ -92,7 +92,7 @@ fn put_called(
         5 => calls::put_bench_run(n, kept, sheet, out),
         6 => calls::put_change(false, n, out),
         7 => calls::put_change(true, n, out),
-        _ => put_one(out, numbers::MALFORMED),
+        _ => put_one(out, answers::MALFORMED),
     }
 }
 
@@ -124,7 +124,7 @@ fn put_line(k: usize, letters: &[u8], line: &[u8], at: usize, out: &mut [u8]) ->
     let mut sheet = [0u8; 2048];
     match words::read(letters, line, at, &mut n, &mut kept, &mut sheet) {
         Words::Read(count) => put_case(k, &n, count, &kept, &sheet, out),
-        Words::Bad => put_one(out, numbers::MALFORMED),
+        Words::Bad => put_one(out, answers::MALFORMED),
     }
 }
 

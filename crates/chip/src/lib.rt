@@ -1,4 +1,6 @@
 // The two chips, and the numbers in which they differ.
+pub mod voltage;
+
 use step::kind;
 ghost use mathlib.Core.Path.{_≡_};
 ghost use Rattle.chip.specs.Chips.{factsOf};

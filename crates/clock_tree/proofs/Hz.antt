@@ -18,7 +18,7 @@ use Rattle.settings.specs.declared.{OptionCrystal.OptionCrystal, Sources.Source
 use Rattle.settings.specs.{Settings.ringHz, Codes.refCode, Codes.sysSelect, Codes.sysAux, Codes.periAux, Codes.auxCode}
 use Rattle.settings.specs.Frequencies.{pllHz, sourcesOf, refSource, refHz, sysSource, periSource, auxSource}
 use Rattle.settings.proofs.Decoded.{Small}
-use Rattle.grounds.specs.Grounds.{pllInvalid, sysPllInvalid, usbPllInvalid}
+use Rattle.refusals.specs.Rules.{pllInvalid, sysPllInvalid, usbPllInvalid}
 use Rattle.registers.specs.Map.{RESET, XOSC-CTRL, ROSC-CTRL, PLL-CS, PLL-PWR, PLL-FBDIV-INT, PLL-PRIM}
 use Rattle.registers.specs.Map.{REF-SRC, SYS-SRC, AUXSRC, ENABLE, INT, REFDIV, FBDIV, POSTDIV1, POSTDIV2}
 use Rattle.clock_tree.specs.Machine.{bitsAt, held}

@@ -14,7 +14,7 @@ use Rattle.config.specs.declared.{RefClkConfig.RefClkConfig, SysClkSrc.SysClkSr
 use Rattle.settings.specs.declared.{Sources.Sources, Frequencies.Frequencies}
 use Rattle.settings.specs.{Settings.settingsOf, Codes.sysSelect, Codes.sysAux}
 use Rattle.settings.specs.Frequencies.{refSource, refHz, sysSource, sysHz, sourcesIn, refIn, frequenciesOf}
-use Rattle.grounds.specs.Grounds.{referenceBad}
+use Rattle.refusals.specs.Rules.{referenceBad}
 use Rattle.refusals.proofs.Accepted.{accepted-by}
 use Rattle.registers.specs.Access.{has, rows, accessOf}
 use Rattle.registers.specs.Map.{XOSC-CTRL, ROSC-CTRL}

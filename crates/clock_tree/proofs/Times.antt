@@ -15,7 +15,7 @@ use Rattle.settings.specs.declared.{Settings.Settings, Sources.Sources, Frequen
 use Rattle.settings.specs.{Settings.settingsOf, Settings.ringHz, Typed.Typed, Typed.RtcTyped}
 use Rattle.settings.specs.Frequencies.{sysHz, periHz, auxHz, rtcHz, sourcesIn, refIn, sysIn, frequenciesOf}
 use Rattle.settings.proofs.Decoded.{AuxSmall}
-use Rattle.grounds.specs.Grounds.{wholeBad, rtcBad}
+use Rattle.refusals.specs.Rules.{wholeBad, rtcBad}
 use Rattle.refusals.specs.Refusals.{refusalOf}
 use Rattle.refusals.proofs.Accepted.{accepted-by, divider-good, whole-good}
 use Rattle.sheet.proofs.Facts.{none-more, aux-fits, aux-divider}

@@ -22,7 +22,7 @@ use Rattle.config.specs.declared.{SysClkSrc.SysClkSrc, Board.Board}
 use Rattle.settings.specs.declared.{OptionCrystal.OptionCrystal, Frequencies.Frequencies}
 use Rattle.settings.specs.{Settings.settingsOf, Codes.refCode, Codes.sysSelect, Codes.sysAux}
 use Rattle.settings.specs.Frequencies.{sourcesOf, sourcesIn, frequenciesOf}
-use Rattle.grounds.specs.Grounds.{pllInvalid, sysPllInvalid, usbPllInvalid}
+use Rattle.refusals.specs.Rules.{pllInvalid, sysPllInvalid, usbPllInvalid}
 use Rattle.refusals.proofs.Accepted.{accepted-by}
 use Rattle.registers.specs.Access.{has, rows, accessOf}
 use Rattle.registers.specs.Map.{RESET, XOSC-CTRL, CLK-REF-CTRL, CLK-SYS-CTRL, PLL-CS, PLL-FBDIV-INT, BLOCKS, REF-SRC}

@@ -10,31 +10,31 @@ ghost use Rattle.commands.specs.Case.{isPlain, isState, isCase, unknownT
 fn is_plain(word: &[u8]) -> bool
     ensures { λ r. ⌜ r ≡ isPlain (now (word .entry)) ⌝ }
 {
-    kept::same_bytes(word, b"valid")
-        | kept::same_bytes(word, b"output")
-        | kept::same_bytes(word, b"search")
-        | kept::same_bytes(word, b"usb_pll")
-        | kept::same_bytes(word, b"book")
-        | kept::same_bytes(word, b"margin")
-        | kept::same_bytes(word, b"voltage")
-        | kept::same_bytes(word, b"pio")
-        | kept::same_bytes(word, b"gpout")
-        | kept::same_bytes(word, b"wait")
-        | kept::same_bytes(word, b"list")
+    text::same_bytes(word, b"valid")
+        | text::same_bytes(word, b"output")
+        | text::same_bytes(word, b"search")
+        | text::same_bytes(word, b"usb_pll")
+        | text::same_bytes(word, b"book")
+        | text::same_bytes(word, b"margin")
+        | text::same_bytes(word, b"voltage")
+        | text::same_bytes(word, b"pio")
+        | text::same_bytes(word, b"gpout")
+        | text::same_bytes(word, b"wait")
+        | text::same_bytes(word, b"list")
 }
 
 // Those of plans, sheets and states.
 fn is_state(word: &[u8]) -> bool
     ensures { λ r. ⌜ r ≡ isState (now (word .entry)) ⌝ }
 {
-    kept::same_bytes(word, b"sheet")
-        | kept::same_bytes(word, b"read")
-        | kept::same_bytes(word, b"start")
-        | kept::same_bytes(word, b"run")
-        | kept::same_bytes(word, b"bench_start")
-        | kept::same_bytes(word, b"bench_run")
-        | kept::same_bytes(word, b"sleep")
-        | kept::same_bytes(word, b"wake")
+    text::same_bytes(word, b"sheet")
+        | text::same_bytes(word, b"read")
+        | text::same_bytes(word, b"start")
+        | text::same_bytes(word, b"run")
+        | text::same_bytes(word, b"bench_start")
+        | text::same_bytes(word, b"bench_run")
+        | text::same_bytes(word, b"sleep")
+        | text::same_bytes(word, b"wake")
 }
 
 fn is_case(word: &[u8]) -> bool
@@ -69,7 +69,7 @@ fn put_number(out: &mut [u8], at: usize, number: Number) -> usize
 fn put_meaning(out: &mut [u8], at: usize, said: &[u8]) -> usize
     ensures { λ r. ⌜ Placed (now (out .entry)) at (meaningOf (now (said .entry))) r (now (out .exit)) ⌝ }
 {
-    if kept::same_bytes(orders::first_word(said), b"refused") {
+    if text::same_bytes(orders::first_word(said), b"refused") {
         return put_number(out, at, text::number(orders::word_after(said, 7)));
     }
     base::least(at, out.len())
@@ -89,7 +89,7 @@ fn put_no_case(out: &mut [u8], word: &[u8]) -> usize
 fn put_said(line: &[u8], said: &[u8], out: &mut [u8]) -> usize
     ensures { λ r. ⌜ Placed (now (out .entry)) 0 (saidText (now (line .entry)) (now (said .entry))) r (now (out .exit)) ⌝ }
 {
-    if kept::same_bytes(said, b"bad case") {
+    if text::same_bytes(said, b"bad case") {
         return put_no_case(out, orders::first_word(line));
     }
     let at = text::put_bytes(out, 0, said);

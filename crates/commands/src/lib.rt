@@ -24,16 +24,16 @@ fn command(word: &[u8]) -> u8
     if word.len() == 0 {
         return 0;
     }
-    if kept::same_bytes(word, b"help") {
+    if text::same_bytes(word, b"help") {
         return 0;
     }
-    if kept::same_bytes(word, b"explain") {
+    if text::same_bytes(word, b"explain") {
         return 1;
     }
-    if kept::same_bytes(word, b"steps") {
+    if text::same_bytes(word, b"steps") {
         return 2;
     }
-    if kept::same_bytes(word, b"check") {
+    if text::same_bytes(word, b"check") {
         return 3;
     }
     4

@@ -2,8 +2,8 @@
 use Prim.Native.Nat.{ℕ, _<_}
 use Rattle.chip.specs.declared.{Chip.Chip, Chip.the-variants.Rp2040, Chip.the-variants.Rp235x}
 use Rattle.chip.specs.Chips.{factsOf}
-use Rattle.voltage.specs.declared.Volts.{Volts}
-use Rattle.voltage.specs.Voltage.{voltsOf}
+use Rattle.chip.specs.declared.voltage.Volts.{Volts}
+use Rattle.chip.specs.Voltage.{voltsOf}
 use Rattle.config.specs.declared.{OptionRtc.OptionRtc, ChipConfig.ChipConfig, Board.Board}
 
 abbrev pub boardWith : Chip → Volts → ℕ → ℕ → OptionRtc → Board

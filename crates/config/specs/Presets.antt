@@ -4,7 +4,7 @@ use lib.Dec.{eqb, ltb}
 use Rattle.base.specs.{Choice.pick, Answer.Answer, Answer.value, Answer.refusal}
 use Rattle.chip.specs.declared.{Chip.Chip, Chip.the-variants.Rp2040, Chip.the-variants.Rp235x}
 use Rattle.chip.specs.Chips.{factsOf}
-use Rattle.voltage.specs.declared.{CoreVoltage.CoreVoltage, CoreVoltage235.CoreVoltage235}
+use Rattle.chip.specs.declared.voltage.{CoreVoltage.CoreVoltage, CoreVoltage235.CoreVoltage235}
 use Rattle.pll.specs.declared.PllConfig.{PllConfig}
 use Rattle.pll.specs.{Setting.validOf, Search.setting, Search.searchOf, Usb.usbOf}
 use Rattle.config.specs.declared.{RoscRange.RoscRange, OptionRosc.OptionRosc, OptionPll.OptionPll}

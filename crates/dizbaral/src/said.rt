@@ -10,7 +10,7 @@ ghost use Rattle.dizbaral.specs.Said.{madeText, reasonText, troubleLine,
 pub(crate) fn is_make(word: &[u8; 8], n: usize) -> bool
     ensures { λ r. ⌜ r ≡ same (take n (now (word .entry))) (ascii "make") ⌝ }
 {
-    kept::same_bytes(base::first(word, n), b"make")
+    text::same_bytes(base::first(word, n), b"make")
 }
 
 // How many bytes a sheet has, its refusal, or what `make` takes.

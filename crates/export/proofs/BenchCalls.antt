@@ -7,7 +7,7 @@ use borrow.Author.Tests.{le-leb, ltb-true, ltb-false}
 use lib.{Dec.eqb, Dec.ltb, ListN.length, ListN.getD, ListN.replicate}
 use Rattle.base.specs.Choice.{pick}
 use Rattle.step.specs.Sheet.{maxBytes}
-use Rattle.kept.specs.Kept.{badSize}
+use Rattle.step.specs.Size.{badSize}
 use Rattle.fields.specs.Row.{nth, tenAt}
 use Rattle.runner.specs.declared.Runner.{Runner}
 use Rattle.runner.specs.Run.{Outcome, Begun, fresh, startedWith, startOf}
@@ -17,10 +17,10 @@ use Rattle.boards.specs.Bench.{freshBench, benchOf, startAllOf}
 use Rattle.boards.specs.History.{BenchEvent, start, poll, benchAfter, answersFor, Own, ownOf, singleAfter, singleAnswers, Alike}
 use Rattle.boards.proofs.History.{between-starts}
 use Rattle.boards.proofs.Benches.{all-refused, all-kept, over-seven}
-use Rattle.as_numbers.specs.Numbers.{answerNumber}
-use Rattle.as_numbers.specs.Run.{progressNumber}
-use Rattle.as_numbers.specs.Bench.{runnerAt, benchIn, benchNumber, freshNumbers, startAllLeaves}
-use Rattle.as_numbers.proofs.Boards.{board-at, over-leaves}
+use Rattle.numbers.specs.Answers.{answerNumber}
+use Rattle.numbers.specs.Run.{progressNumber}
+use Rattle.numbers.specs.Bench.{runnerAt, benchIn, benchNumber, freshNumbers, startAllLeaves}
+use Rattle.numbers.proofs.Boards.{board-at, over-leaves}
 use Rattle.export.specs.Calls.{Held, heldOf, heldAfter, runNumbers, IsBench, benchCallLeaves, benchHeldAfter, benchNumbers}
 use Rattle.export.specs.Calls.{ExportedSingle, ExportedSame}
 use Rattle.export.proofs.Calls.{mark-same, taken, answered, after-start}

@@ -14,9 +14,9 @@ use Rattle.runner.specs.declared.Stepper.{Stepper}
 use Rattle.runner.specs.Run.{Progress, done, handed, passed, waiting, Outcome, storedBy, freqsAfter, stepperOf}
 use Rattle.boards.specs.declared.Bench.{Bench}
 use Rattle.boards.specs.Bench.{benchOf}
-use Rattle.plan_numbers.proofs.PartRows.{row-whole}
-use Rattle.as_numbers.specs.Bench.{stepperAt, boardsFrom, benchIn, boardNumbers, withBoard, benchLeaves}
-use Rattle.as_numbers.proofs.Boards.{call, of-board, next-board}
+use Rattle.numbers.proofs.PartRows.{row-whole}
+use Rattle.numbers.specs.Bench.{stepperAt, boardsFrom, benchIn, boardNumbers, withBoard, benchLeaves}
+use Rattle.numbers.proofs.Boards.{call, of-board, next-board}
 use Rattle.export.specs.Calls.{IsBench}
 use Rattle.export.proofs.Calls.{mark-back, mark-same}
 

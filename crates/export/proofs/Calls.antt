@@ -7,7 +7,7 @@ use native.Mathlib.Omega.{arith}
 use lib.{Dec.eqb, Dec.leb, ListN.length, ListN.getD, ListN.drop, ListN.replicate, ListN.take-append-drop}
 use Rattle.base.specs.{Answer.Answer, Answer.value, Answer.refusal, Choice.bit}
 use Rattle.step.specs.Sheet.{maxBytes}
-use Rattle.kept.specs.Kept.{badSize}
+use Rattle.step.specs.Size.{badSize}
 use Rattle.config.specs.declared.ClockConfig.{ClockConfig}
 use Rattle.settings.specs.{Settings.settingsOf, Typed.Typed}
 use Rattle.refusals.specs.Refusals.{Accepted}
@@ -17,11 +17,11 @@ use Rattle.runner.specs.Run.{Progress, done, handed, passed, waiting, Begun, Ha
 use Rattle.runner.specs.Calls.{Call, call, after, afterCalls, flagsOf}
 use Rattle.runner.proofs.{Starts.start-refused, Starts.start-kept, Steps.turn-formed, OneSheet.one-sheet}
 use Rattle.boards.specs.History.{Own, start, poll, singleAfter, singleAnswers}
-use Rattle.up.specs.{Wait.runnerAfter, Wait.callAnswer, Wait.OnTheWay}
-use Rattle.up.proofs.{ComesUp.comes-up, Run.sheet-size}
-use Rattle.plan_numbers.proofs.PartRows.{row-take}
-use Rattle.as_numbers.specs.Numbers.{answerNumber}
-use Rattle.as_numbers.specs.Run.{progressNumber, withState, withFreqs, runNumber, runLeaves, startLeaves}
+use Rattle.bring_up.specs.Wait.{runnerAfter, callAnswer, OnTheWay}
+use Rattle.bring_up.proofs.{ComesUp.comes-up, Run.sheet-size}
+use Rattle.numbers.proofs.PartRows.{row-take}
+use Rattle.numbers.specs.Answers.{answerNumber}
+use Rattle.numbers.specs.Run.{progressNumber, withState, withFreqs, runNumber, runLeaves, startLeaves}
 use Rattle.export.specs.Calls.{Held, runnerOf, heldOf, callLeaves, heldAfter, runNumbers, polls, pollsWith, ExportedOneSheet}
 use Rattle.export.specs.Calls.{heldFrom, numberOf, ExportedComesUp}
 use Rattle.export.proofs.Ranges.{word-from}

@@ -10,7 +10,7 @@ use Rattle.config.specs.Presets.{systemPlan, systemPlanFrom}
 use Rattle.settings.specs.Settings.{settingsOf}
 use Rattle.sheet.specs.{Writer.initAnswer, Writer.InitCall, Demand3.SameUpTo}
 use Rattle.sheet.proofs.Demand3.{demand-3}
-use Rattle.as_numbers.specs.Numbers.{answerNumber, itself, refusals, chipNumbered}
+use Rattle.numbers.specs.Answers.{answerNumber, itself, refusals, chipNumbered}
 use Rattle.export.specs.Sheet.{planGiven, SheetCall, presetOn, planOn}
 use Rattle.export.specs.Demand3.{settingsIn, Sheets, PlanSheets, SystemSheets, SystemSheetsFrom}
 

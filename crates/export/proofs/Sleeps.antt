@@ -12,9 +12,9 @@ use Rattle.sleep.specs.declared.{Slot.Slot}
 use Rattle.sleep.specs.Sleep.{SleepOutcome, freshSlots, slotAt, saved, sleepOf, woken, wakeOf}
 use Rattle.sleep.specs.History.{SleepEvent, sleeps, wakes, writes, happens, boardAfter}
 use Rattle.sleep.proofs.{History.history, Replay.either-way}
-use Rattle.sleep_numbers.specs.Numbers.{wordsAt, slotsIn, slotsNumbers}
-use Rattle.plan_numbers.proofs.PartRows.{row-whole}
-use Rattle.as_numbers.specs.Slots.{areSlots, askedWith}
+use Rattle.numbers.specs.Slots.{wordsAt, slotsIn, slotsNumbers}
+use Rattle.numbers.proofs.PartRows.{row-whole}
+use Rattle.numbers.specs.SleepCall.{areSlots, askedWith}
 use Rattle.export.specs.Calls.{slotsLeft, slotsAfter, Elevens, ExportedWakes}
 use Rattle.export.proofs.Calls.{mark-back, mark-same, mark-good}
 

@@ -7,13 +7,13 @@ use native.Mathlib.Omega.{arith}
 use borrow.Author.Tests.{leb-true, leb-false, ltb-true, ltb-false, le-ltb}
 use lib.{Dec.eqb, Dec.leb, Dec.ltb, ListN.length, ListN.getD}
 use Rattle.base.specs.{Answer.Answer, Answer.value, Answer.refusal, Placed.past}
-use Rattle.kept.specs.Kept.{badSize}
-use Rattle.kept.proofs.Sizes.{size-fits}
+use Rattle.step.specs.Size.{badSize}
+use Rattle.step.proofs.Sizes.{size-fits}
 use Rattle.chip.specs.declared.{Chip.Chip, Chip.the-variants.Rp2040, Chip.the-variants.Rp235x}
 use Rattle.config.specs.declared.ClockConfig.{ClockConfig}
 use Rattle.config.specs.Board.{boardOf}
 use Rattle.sheet.specs.Writer.{sheetBytes, refusalIn, initAnswer, initBuffer}
-use Rattle.up.proofs.Run.{sheet-size}
+use Rattle.bring_up.proofs.Run.{sheet-size}
 use Rattle.pll.specs.declared.PllConfig.{PllConfig}
 use Rattle.pll.specs.Search.{keep, rising, falling}
 use Rattle.lister.specs.Lister.{inOrder, meets, listOf, hasRoom, listedOf, listedIn}
@@ -30,13 +30,13 @@ use Rattle.boards.proofs.Benches.{all-refused, all-kept}
 use Rattle.sleep.specs.declared.steps.Step.{Step}
 use Rattle.sleep.specs.Sleep.{SleepOutcome}
 use Rattle.sleep.proofs.Replay.{either-way}
-use Rattle.sleep_numbers.specs.Numbers.{stepsNumbers}
-use Rattle.as_numbers.specs.Numbers.{refusals, itself, answerNumber, limitsAfter}
-use Rattle.as_numbers.specs.Numbers.{done as margin-done}
-use Rattle.as_numbers.specs.Run.{runnerIn, progressNumber, goNumber, runNumber, runLeaves, startLeaves, StartCall}
-use Rattle.as_numbers.specs.Bench.{stepperAt, benchIn, withBoard, benchNumber, benchLeaves, startAllLeaves, StartAllCall}
-use Rattle.as_numbers.specs.{Slots.SlotsCall, Read.chipNumber, Read.RowCall}
-use Rattle.as_numbers.proofs.Boards.{call, of-board, over-leaves, bad-leaves}
+use Rattle.numbers.specs.Slots.{stepsNumbers}
+use Rattle.numbers.specs.Answers.{refusals, itself, answerNumber, limitsAfter}
+use Rattle.numbers.specs.Answers.{done as margin-done}
+use Rattle.numbers.specs.Run.{runnerIn, progressNumber, goNumber, runNumber, runLeaves, startLeaves, StartCall}
+use Rattle.numbers.specs.Bench.{stepperAt, benchIn, withBoard, benchNumber, benchLeaves, startAllLeaves, StartAllCall}
+use Rattle.numbers.specs.{SleepCall.SlotsCall, Read.chipNumber, Read.RowCall}
+use Rattle.numbers.proofs.Boards.{call, of-board, over-leaves, bad-leaves}
 use Rattle.export.specs.Calls.{Held, heldOf, callLeaves}
 use Rattle.export.specs.Sheet.{SheetCall}
 use Rattle.export.specs.Untouched.{Refused, SaveTimeout, timedOutNumbers, Untouched}

@@ -8,7 +8,7 @@ use Rattle.base.specs.Choice.{pick, bit}
 use Rattle.config.specs.declared.ClockConfig.{ClockConfig}
 use Rattle.settings.specs.{Settings.settingsOf, Frequencies.tenOf}
 use Rattle.sheet.specs.Writer.{sheetBytes}
-use Rattle.kept.specs.Kept.{badSize}
+use Rattle.step.specs.Size.{badSize}
 use Rattle.runner.specs.declared.Runner.{Runner}
 use Rattle.runner.specs.Run.{startOf}
 use Rattle.runner.specs.Calls.{Call, call, flagsOf}
@@ -17,11 +17,11 @@ use Rattle.boards.specs.History.{Own, start, poll, BenchEvent, ownOf}
 use Rattle.sleep.specs.declared.{Slot.Slot, steps.Step.Step}
 use Rattle.sleep.specs.Sleep.{SleepOutcome, wakeSteps, sleepOf, wakeOf}
 use Rattle.sleep.specs.History.{SleepEvent, sleeps, wakes, writes, lastSleep}
-use Rattle.sleep_numbers.specs.Numbers.{slotsNumbers, stepsNumbers}
-use Rattle.up.specs.{Wait.HearsAtMost, ComesUp.mostCalls}
-use Rattle.as_numbers.specs.Bench.{runnerAt, benchIn, benchNumber, benchLeaves, startAllLeaves}
-use Rattle.as_numbers.specs.Run.{runnerIn, runNumber, runLeaves, startLeaves}
-use Rattle.as_numbers.specs.Slots.{askedWith, leftAsked, SlotsCall}
+use Rattle.numbers.specs.Slots.{slotsNumbers, stepsNumbers}
+use Rattle.bring_up.specs.{Wait.HearsAtMost, ComesUp.mostCalls}
+use Rattle.numbers.specs.Bench.{runnerAt, benchIn, benchNumber, benchLeaves, startAllLeaves}
+use Rattle.numbers.specs.Run.{runnerIn, runNumber, runLeaves, startLeaves}
+use Rattle.numbers.specs.SleepCall.{askedWith, leftAsked, SlotsCall}
 
 -- ---- a runner
 

@@ -7,7 +7,7 @@ use Rattle.config.specs.Presets.{systemPlan, systemPlanFrom}
 use Rattle.settings.specs.Settings.{settingsOf}
 use Rattle.settings.specs.declared.Settings.{Settings}
 use Rattle.sheet.specs.Demand3.{SameUpTo}
-use Rattle.as_numbers.specs.Numbers.{refusals, chipNumbered}
+use Rattle.numbers.specs.Answers.{refusals, chipNumbered}
 use Rattle.export.specs.Sheet.{planGiven, SheetCall, presetOn, planOn}
 
 -- the settings of a plan, where there is one

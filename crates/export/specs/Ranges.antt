@@ -4,8 +4,8 @@ use Rattle.base.specs.Answer.{refusal}
 use Rattle.pll.specs.declared.PllConfig.{PllConfig}
 use Rattle.step.specs.Steps.{WellFormed}
 use Rattle.runner.specs.Run.{Progress, done, handed, passed, waiting}
-use Rattle.as_numbers.specs.Numbers.{refusals, malformed, itself, answerNumber, settingNumber, levelNumber}
-use Rattle.as_numbers.specs.Run.{progressNumber}
+use Rattle.numbers.specs.Answers.{refusals, malformed, itself, answerNumber, settingNumber, levelNumber}
+use Rattle.numbers.specs.Run.{progressNumber}
 
 -- a progress that hands out no step has a number below 2 ^ 48; a step that a sheet may hold one from 2 ^ 58 on
 abbrev pub ProgressRange : Progress → Type 0

@@ -6,8 +6,8 @@ use Rattle.chip.specs.declared.Chip.{Chip}
 use Rattle.config.specs.declared.ClockConfig.{ClockConfig}
 use Rattle.settings.specs.{Settings.settingsOf, Typed.Typed}
 use Rattle.sheet.specs.Writer.{initAnswer, initBuffer}
-use Rattle.plan_numbers.specs.Plan.{planNumbered}
-use Rattle.as_numbers.specs.Numbers.{answerNumber, itself, malformed}
+use Rattle.numbers.specs.Plan.{planNumbered}
+use Rattle.numbers.specs.Answers.{answerNumber, itself, malformed}
 
 -- the sheet's answer, or the preset's refusal; none where the numbers given are of no chip or of no plan
 abbrev pub sheetNumber : Option (Answer ClockConfig) → ℕ → List ℕ → ℕ

@@ -10,10 +10,10 @@ use Rattle.runner.specs.{Run.oneMore, Calls.stepperTimedOut}
 use Rattle.sleep.specs.Sleep.{SleepOutcome}
 use Rattle.lister.specs.Lister.{listedOf, listedIn}
 use Rattle.margin.specs.Margin.{marginOf}
-use Rattle.as_numbers.specs.Numbers.{refusals, itself, answerNumber, done, limitsAfter}
-use Rattle.as_numbers.specs.Run.{runNumber, runLeaves, StartCall}
-use Rattle.as_numbers.specs.Bench.{stepperAt, withBoard, benchNumber, benchLeaves, StartAllCall}
-use Rattle.as_numbers.specs.{Slots.SlotsCall, Read.RowCall}
+use Rattle.numbers.specs.Answers.{refusals, itself, answerNumber, done, limitsAfter}
+use Rattle.numbers.specs.Run.{runNumber, runLeaves, StartCall}
+use Rattle.numbers.specs.Bench.{stepperAt, withBoard, benchNumber, benchLeaves, StartAllCall}
+use Rattle.numbers.specs.{SleepCall.SlotsCall, Read.RowCall}
 use Rattle.export.specs.Sheet.{SheetCall}
 
 -- an answer that is a refusal, or malformed: below lie the values, above the words of steps

@@ -6,7 +6,7 @@ use Rattle.chip.specs.declared.Chip.{Chip}
 use Rattle.pll.specs.declared.PllConfig.{PllConfig}
 use Rattle.pll.specs.{Search.searchOf, Usb.usbOf}
 use Rattle.config.specs.Presets.{systemPlanFrom}
-use Rattle.as_numbers.specs.Numbers.{refusals, chipNumbered}
+use Rattle.numbers.specs.Answers.{refusals, chipNumbered}
 use Rattle.export.specs.Sheet.{SheetCall, presetOn}
 
 -- a call answered refusal n, and wrote nothing

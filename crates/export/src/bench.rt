@@ -1,9 +1,9 @@
 // A bench as 113 numbers: of each of its eight boards position, lock polls, total, stopped mark and ten frequencies, then
 // the kept length; and its kept bytes. A board and the kept length are a runner's numbers: module run.
-use as_numbers::numbers;
+use numbers::answers;
 use step::MAX_BYTES;
 ghost use mathlib.Core.Path.{_≡_};
-ghost use Rattle.as_numbers.specs.Bench.{benchNumber, benchLeaves, StartAllCall};
+ghost use Rattle.numbers.specs.Bench.{benchNumber, benchLeaves, StartAllCall};
 
 // Any numbers may be given: a start makes a bench of them.
 #[no_mangle]
@@ -35,13 +35,13 @@ pub extern "C" fn dizbaral_bench_run(
     ensures { λ _. ⌜ now (bench .exit) ≡ benchLeaves (now (bench .entry)) (now (kept .entry)) board (now (sheet .entry)) ready ⌝ }
 {
     if 7 < board {
-        return numbers::refused(28);
+        return answers::refused(28);
     }
-    let mut one = as_numbers::bench::runner_at(bench, board);
+    let mut one = numbers::bench::runner_at(bench, board);
     if 1 < one[3] {
-        return numbers::MALFORMED;
+        return answers::MALFORMED;
     }
     let number = crate::dizbaral_run(&mut one, kept, sheet, ready);
-    as_numbers::bench::put_runner(bench, board, &one);
+    numbers::bench::put_runner(bench, board, &one);
     number
 }

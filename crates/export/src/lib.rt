@@ -1,15 +1,15 @@
-// The product for programs in C and Rust: numbers and slices alone. Each answer is one number, by as_numbers/specs/Numbers.
+// The product for programs in C and Rust: numbers and slices alone. Each answer is one number, by numbers/specs/Answers.
 pub mod bench;
 pub mod read;
 pub mod slots;
 
-use as_numbers::numbers;
-use as_numbers::numbers::OptionChip;
-use as_numbers::numbers::OptionDiv;
 use config::ClockConfig;
 use config::Planned;
 use margin::Margin;
-use plan_numbers::PlanRead;
+use numbers::answers;
+use numbers::answers::OptionChip;
+use numbers::answers::OptionDiv;
+use numbers::plan::PlanRead;
 use pll::PllConfig;
 use step::MAX_BYTES;
 ghost use mathlib.Core.Path.{_≡_};
@@ -25,26 +25,26 @@ ghost use Rattle.pll.specs.Usb.{usbOf};
 ghost use Rattle.margin.specs.Margin.{marginOf};
 ghost use Rattle.config.specs.Presets.{plannedIs, systemPlan, systemPlanFrom};
 ghost use Rattle.lister.specs.Lister.{listedOf, listedIn};
-ghost use Rattle.up.specs.ComesUp.{longestWait};
-ghost use Rattle.plan_numbers.specs.Plan.{planReadIs};
-ghost use Rattle.as_numbers.specs.Numbers.{answerNumber, itself, settingNumber, dividersAre, done, limitsAfter, chipNumbered, onChip};
-ghost use Rattle.as_numbers.specs.Numbers.{voltageNumber, dividerNumbered, gpoutNumber};
+ghost use Rattle.bring_up.specs.ComesUp.{longestWait};
+ghost use Rattle.numbers.specs.Plan.{planReadIs};
+ghost use Rattle.numbers.specs.Answers.{answerNumber, itself, settingNumber, dividersAre, done, limitsAfter, chipNumbered, onChip};
+ghost use Rattle.numbers.specs.Answers.{voltageNumber, dividerNumbered, gpoutNumber};
 ghost use Rattle.export.specs.Sheet.{SheetCall, presetOn, given, planOn};
-ghost use Rattle.as_numbers.specs.Run.{runNumber, runLeaves, StartCall};
-ghost use Rattle.board_calls.specs.Access.{AccessCall};
+ghost use Rattle.numbers.specs.Run.{runNumber, runLeaves, StartCall};
+ghost use Rattle.numbers.specs.Access.{AccessCall};
 
 #[no_mangle]
 pub extern "C" fn dizbaral_search(input_hz: u32, target_hz: u32) -> u64
     ensures { λ r. ⌜ r ≡ answerNumber settingNumber (searchOf «input_hz» «target_hz») ⌝ }
 {
-    numbers::found(pll::find_pll_params(input_hz, target_hz))
+    answers::found(pll::find_pll_params(input_hz, target_hz))
 }
 
 #[no_mangle]
 pub extern "C" fn dizbaral_lookup(target_hz: u32) -> u64
     ensures { λ r. ⌜ r ≡ answerNumber settingNumber (searchOf crystal «target_hz») ⌝ }
 {
-    numbers::found(speed_book::lookup(target_hz))
+    answers::found(speed_book::lookup(target_hz))
 }
 
 #[no_mangle]
@@ -58,14 +58,14 @@ pub extern "C" fn dizbaral_open_book(book: &mut [u64; 1988])
 pub extern "C" fn dizbaral_lookup_in(book: &[u64; 1988], target_hz: u32) -> u64
     ensures { λ r. ⌜ r ≡ answerNumber settingNumber (lookupIn (now (book .entry)) «target_hz») ⌝ }
 {
-    numbers::found(speed_book::lookup_in(book, target_hz))
+    answers::found(speed_book::lookup_in(book, target_hz))
 }
 
 #[no_mangle]
 pub extern "C" fn dizbaral_usb_pll(crystal_hz: u32) -> u64
     ensures { λ r. ⌜ r ≡ answerNumber settingNumber (usbOf «crystal_hz») ⌝ }
 {
-    numbers::found(pll::usb::find_usb_pll(crystal_hz))
+    answers::found(pll::usb::find_usb_pll(crystal_hz))
 }
 
 #[no_mangle]
@@ -79,10 +79,10 @@ pub extern "C" fn dizbaral_target_margin(
 {
     match margin::target_margin(input_hz, target_hz) {
         Margin::Between(lower, higher) => {
-            *limits = [numbers::limit(lower), numbers::limit(higher)];
+            *limits = [answers::limit(lower), answers::limit(higher)];
             0
         }
-        Margin::Refused(number) => numbers::refused(number),
+        Margin::Refused(number) => answers::refused(number),
     }
 }
 
@@ -121,16 +121,16 @@ pub extern "C" fn dizbaral_output_frequency(
         post_div1,
         post_div2,
     };
-    numbers::number(setting.output_frequency(input_hz))
+    answers::number(setting.output_frequency(input_hz))
 }
 
 #[no_mangle]
 pub extern "C" fn dizbaral_core_voltage(chip: u8, reading: u8) -> u64
     ensures { λ r. ⌜ r ≡ onChip (λ on. voltageNumber on reading) (chipNumbered chip) ⌝ }
 {
-    match numbers::chip(chip) {
-        OptionChip::Some(on) => numbers::voltage(on, reading),
-        OptionChip::None => numbers::MALFORMED,
+    match answers::chip(chip) {
+        OptionChip::Some(on) => answers::voltage(on, reading),
+        OptionChip::None => answers::MALFORMED,
     }
 }
 
@@ -138,7 +138,7 @@ pub extern "C" fn dizbaral_core_voltage(chip: u8, reading: u8) -> u64
 pub extern "C" fn dizbaral_pio_divider(sys_hz: u32, target_hz: u32) -> u64
     ensures { λ r. ⌜ r ≡ answerNumber itself (pioOf «sys_hz» «target_hz») ⌝ }
 {
-    numbers::number(divider::calculate_pio_clock_divider_value(sys_hz, target_hz))
+    answers::number(divider::calculate_pio_clock_divider_value(sys_hz, target_hz))
 }
 
 #[no_mangle]
@@ -151,16 +151,16 @@ pub extern "C" fn dizbaral_gpout_frequency(
 ) -> u64
     ensures { λ r. ⌜ r ≡ gpoutNumber (dividerNumbered whole fraction (chipNumbered chip)) source (now (freqs .entry)) ⌝ }
 {
-    match numbers::divider(chip, whole, fraction) {
-        OptionDiv::Some(divider) => numbers::number(divider::get_freq(source, divider, freqs)),
-        OptionDiv::None => numbers::MALFORMED,
+    match answers::divider(chip, whole, fraction) {
+        OptionDiv::Some(divider) => answers::number(divider::get_freq(source, divider, freqs)),
+        OptionDiv::None => answers::MALFORMED,
     }
 }
 
 fn write(plan: ClockConfig, reading: u8, sheet: &mut [u8]) -> u64
     ensures { λ r. ⌜ SheetCall (some (value plan)) reading (now (sheet .entry)) r (now (sheet .exit)) ⌝ }
 {
-    numbers::length(sheet::init(plan, reading, sheet))
+    answers::length(sheet::init(plan, reading, sheet))
 }
 
 fn write_planned(plan: Planned, reading: u8, sheet: &mut [u8]) -> u64
@@ -168,7 +168,7 @@ fn write_planned(plan: Planned, reading: u8, sheet: &mut [u8]) -> u64
 {
     match plan {
         Planned::Plan(config) => write(config, reading, sheet),
-        Planned::Refused(number) => numbers::refused(number),
+        Planned::Refused(number) => answers::refused(number),
     }
 }
 
@@ -177,7 +177,7 @@ fn write_given(plan: PlanRead, reading: u8, sheet: &mut [u8]) -> u64
 {
     match plan {
         PlanRead::Plan(config) => write(config, reading, sheet),
-        PlanRead::Bad => numbers::MALFORMED,
+        PlanRead::Bad => answers::MALFORMED,
     }
 }
 
@@ -185,9 +185,9 @@ fn write_given(plan: PlanRead, reading: u8, sheet: &mut [u8]) -> u64
 pub extern "C" fn dizbaral_system_sheet(chip: u8, hz: u32, reading: u8, sheet: &mut [u8]) -> u64
     ensures { λ r. ⌜ SheetCall (presetOn (λ on. systemPlan on hz) (chipNumbered chip)) reading (now (sheet .entry)) r (now (sheet .exit)) ⌝ }
 {
-    match numbers::chip(chip) {
+    match answers::chip(chip) {
         OptionChip::Some(on) => write_planned(ClockConfig::system_freq(on, hz), reading, sheet),
-        OptionChip::None => numbers::MALFORMED,
+        OptionChip::None => answers::MALFORMED,
     }
 }
 
@@ -201,13 +201,13 @@ pub extern "C" fn dizbaral_system_sheet_from(
 ) -> u64
     ensures { λ r. ⌜ SheetCall (presetOn (λ on. systemPlanFrom on «crystal_hz» hz) (chipNumbered chip)) reading (now (sheet .entry)) r (now (sheet .exit)) ⌝ }
 {
-    match numbers::chip(chip) {
+    match answers::chip(chip) {
         OptionChip::Some(on) => write_planned(
             ClockConfig::system_freq_from(on, crystal_hz, hz),
             reading,
             sheet,
         ),
-        OptionChip::None => numbers::MALFORMED,
+        OptionChip::None => answers::MALFORMED,
     }
 }
 
@@ -215,9 +215,9 @@ pub extern "C" fn dizbaral_system_sheet_from(
 pub extern "C" fn dizbaral_plan_sheet(chip: u8, plan: &[u32], reading: u8, sheet: &mut [u8]) -> u64
     ensures { λ r. ⌜ SheetCall (planOn (now (plan .entry)) (chipNumbered chip)) reading (now (sheet .entry)) r (now (sheet .exit)) ⌝ }
 {
-    match numbers::chip(chip) {
-        OptionChip::Some(on) => write_given(plan_numbers::plan(on, plan), reading, sheet),
-        OptionChip::None => numbers::MALFORMED,
+    match answers::chip(chip) {
+        OptionChip::Some(on) => write_given(numbers::plan::plan(on, plan), reading, sheet),
+        OptionChip::None => answers::MALFORMED,
     }
 }
 
@@ -226,7 +226,7 @@ pub extern "C" fn dizbaral_list(input_hz: u32, target_hz: u32, list: &mut [u8]) 
     ensures { λ r. ⌜ r ≡ answerNumber itself (listedOf «input_hz» «target_hz» (length (now (list .entry)))) ⌝ }
     ensures { λ _. ⌜ now (list .exit) ≡ listedIn «input_hz» «target_hz» (now (list .entry)) ⌝ }
 {
-    numbers::length(lister::list_exact(input_hz, target_hz, list))
+    answers::length(lister::list_exact(input_hz, target_hz, list))
 }
 
 // Any numbers may be given: a start makes a runner of them.
@@ -238,7 +238,7 @@ pub extern "C" fn dizbaral_start(
 ) -> u64
     ensures { λ r. ⌜ StartCall (now (runner .entry)) (now (kept .entry)) (now (sheet .entry)) r (now (runner .exit)) (now (kept .exit)) ⌝ }
 {
-    board_calls::start(runner, kept, sheet)
+    numbers::board::start(runner, kept, sheet)
 }
 
 #[no_mangle]
@@ -251,7 +251,7 @@ pub extern "C" fn dizbaral_run(
     ensures { λ r. ⌜ r ≡ runNumber (now (runner .entry)) (now (kept .entry)) (now (sheet .entry)) ready ⌝ }
     ensures { λ _. ⌜ now (runner .exit) ≡ runLeaves (now (runner .entry)) (now (kept .entry)) (now (sheet .entry)) ready ⌝ }
 {
-    board_calls::call(runner, kept, sheet, ready)
+    numbers::board::call(runner, kept, sheet, ready)
 }
 
 // What the step at a position of a sheet does to the chip.
@@ -264,12 +264,12 @@ pub extern "C" fn dizbaral_access(
 ) -> u64
     ensures { λ r. ⌜ AccessCall (chipNumbered chip) (now (sheet .entry)) position (now (access .entry)) r (now (access .exit)) ⌝ }
 {
-    board_calls::access(chip, sheet, position, access)
+    numbers::board::access(chip, sheet, position, access)
 }
 
 #[no_mangle]
 pub extern "C" fn dizbaral_longest_wait(k: u32) -> u32
     ensures { λ r. ⌜ r ≡ longestWait k ⌝ }
 {
-    up::longest_wait(k)
+    bring_up::longest_wait(k)
 }

@@ -1,10 +1,10 @@
 // A sheet read back to its plan's numbers.
 ghost use Rattle.readback.specs.Read.{readOf};
-ghost use Rattle.as_numbers.specs.Read.{RowCall};
+ghost use Rattle.numbers.specs.Read.{RowCall};
 
 #[no_mangle]
 pub extern "C" fn dizbaral_read_sheet(sheet: &[u8], reading: u8, plan: &mut [u32; 48]) -> u64
     ensures { λ r. ⌜ RowCall (readOf (now (sheet .entry)) reading) (now (plan .entry)) r (now (plan .exit)) ⌝ }
 {
-    as_numbers::read::leave(readback::read_sheet(sheet, reading), plan)
+    numbers::read::leave(readback::read_sheet(sheet, reading), plan)
 }

@@ -1,6 +1,6 @@
-// Sleep and wake over slots, words and steps that are given as numbers: crate sleep_numbers.
+// Sleep and wake over slots, words and steps that are given as numbers (numbers/src/slots).
 ghost use Rattle.sleep.specs.Sleep.{sleepOf, wakeOf};
-ghost use Rattle.as_numbers.specs.Slots.{askedWith, SlotsCall};
+ghost use Rattle.numbers.specs.SleepCall.{askedWith, SlotsCall};
 
 #[no_mangle]
 pub extern "C" fn dizbaral_sleep(
@@ -11,7 +11,7 @@ pub extern "C" fn dizbaral_sleep(
 ) -> u64
     ensures { λ r. ⌜ SlotsCall (askedWith sleepOf (now (slots .entry)) slot (now (words .entry))) (now (slots .entry)) (now (words .entry)) (now (steps .entry)) r (now (slots .exit)) (now (words .exit)) (now (steps .exit)) ⌝ }
 {
-    as_numbers::slots::change(false, slots, slot, words, steps)
+    numbers::sleep_call::change(false, slots, slot, words, steps)
 }
 
 #[no_mangle]
@@ -23,5 +23,5 @@ pub extern "C" fn dizbaral_wake(
 ) -> u64
     ensures { λ r. ⌜ SlotsCall (askedWith wakeOf (now (slots .entry)) slot (now (words .entry))) (now (slots .entry)) (now (words .entry)) (now (steps .entry)) r (now (slots .exit)) (now (words .exit)) (now (steps .exit)) ⌝ }
 {
-    as_numbers::slots::change(true, slots, slot, words, steps)
+    numbers::sleep_call::change(true, slots, slot, words, steps)
 }

@@ -5,12 +5,12 @@ use lib.{Dec.eqb, Dec.ltb, ListN.length, ListN.take, ListN.replicate}
 use Rattle.base.specs.{Answer.Answer, Answer.value, Answer.refusal, Choice.pick}
 use Rattle.text.specs.Ascii.{ascii, same}
 use Rattle.chip.specs.declared.{Chip.Chip, Chip.the-variants.Rp2040, Chip.the-variants.Rp235x}
-use Rattle.voltage.specs.declared.CoreVoltage.{CoreVoltage}
-use Rattle.voltage.specs.Voltage.{coreVoltageOf}
+use Rattle.chip.specs.declared.voltage.CoreVoltage.{CoreVoltage}
+use Rattle.chip.specs.Voltage.{coreVoltageOf}
 use Rattle.config.specs.declared.ClockConfig.{ClockConfig}
 use Rattle.config.specs.Presets.{defaultPlan, crystalPlan, roscPlan, systemPlan, systemPlanFrom, manualPlan}
 use Rattle.fields.specs.Row.{nth, byteAt, pllAt}
-use Rattle.plan_numbers.specs.Plan.{planNumbered}
+use Rattle.numbers.specs.Plan.{planNumbered}
 use Rattle.readback.specs.Read.{readOf}
 use Rattle.words.specs.Words.{State, stateOf, given}
 use Rattle.orders.specs.Line.{wordAfter, endAfter}

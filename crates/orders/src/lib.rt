@@ -2,15 +2,15 @@
 mod line;
 
 use chip::Chip;
+use chip::voltage::VoltageRead;
 use config::ClockConfig;
 use config::Planned;
 use fields::number_at;
 pub use line::end_after;
 pub use line::first_word;
 pub use line::word_after;
-use plan_numbers::PlanRead;
+use numbers::plan::PlanRead;
 use step::MAX_BYTES;
-use voltage::VoltageRead;
 use words::Words;
 ghost use mathlib.Core.Path.{_≡_};
 ghost use mathlib.Core.Option.{some};
@@ -33,25 +33,25 @@ pub enum Order {
 fn named(word: &[u8]) -> u8
     ensures { λ r. ⌜ r ≡ presetNamed (now (word .entry)) ⌝ }
 {
-    if kept::same_bytes(word, b"system") {
+    if text::same_bytes(word, b"system") {
         return 0;
     }
-    if kept::same_bytes(word, b"system_from") {
+    if text::same_bytes(word, b"system_from") {
         return 1;
     }
-    if kept::same_bytes(word, b"crystal") {
+    if text::same_bytes(word, b"crystal") {
         return 2;
     }
-    if kept::same_bytes(word, b"rosc") {
+    if text::same_bytes(word, b"rosc") {
         return 3;
     }
-    if kept::same_bytes(word, b"default") {
+    if text::same_bytes(word, b"default") {
         return 4;
     }
-    if kept::same_bytes(word, b"manual") {
+    if text::same_bytes(word, b"manual") {
         return 5;
     }
-    if kept::same_bytes(word, b"plan") {
+    if text::same_bytes(word, b"plan") {
         return 6;
     }
     7
@@ -100,7 +100,7 @@ fn manual(n: &[u32]) -> Order
     ensures { λ r. ⌜ orderIs r ≡ manualOf (now (n .entry)) ⌝ }
 {
     let pll = fields::pll_at(n, 1);
-    match voltage::core_voltage(fields::byte_at(n, 5)) {
+    match chip::voltage::core_voltage(fields::byte_at(n, 5)) {
         VoltageRead::Voltage(v) => planned(ClockConfig::manual_pll(number_at(n, 0), pll, v)),
         VoltageRead::Refused(_) => Order::Bad,
     }
@@ -132,7 +132,7 @@ fn plan_of(chip: Chip, n: &[u32], count: usize) -> Order
     if n.len() < count {
         return Order::Bad;
     }
-    match plan_numbers::plan(chip, &n[..count]) {
+    match numbers::plan::plan(chip, &n[..count]) {
         PlanRead::Plan(plan) => Order::Plan(plan),
         PlanRead::Bad => Order::Bad,
     }
@@ -189,7 +189,7 @@ pub fn read_order(line: &[u8], at: usize, reading: u8) -> Order
     ensures { λ r. ⌜ orderIs r ≡ orderOf (now (line .entry)) at reading ⌝ }
 {
     let word = word_after(line, at);
-    if kept::same_bytes(word, b"rp235x") {
+    if text::same_bytes(word, b"rp235x") {
         return order_on(Chip::Rp235x, line, end_after(line, at));
     }
     if named(word) == 7 {

@@ -11,7 +11,7 @@ use Rattle.config.specs.declared.OptionXosc.the-variants.{Some as xosc, None as
 use Rattle.config.specs.declared.OptionU32.the-variants.{Some as given}
 use Rattle.settings.specs.declared.{OptionCycles.the-variants.None as noCycles, Settings.Settings}
 use Rattle.settings.specs.Settings.{crystalOf, ringHz, settlingStep, settingsOf}
-use Rattle.grounds.specs.Grounds.{startupOver, settlingOver}
+use Rattle.refusals.specs.Rules.{startupOver, settlingOver}
 use Rattle.refusals.specs.Refusals.{Accepted}
 use Rattle.refusals.proofs.Accepted.{accepted-by}
 use lib.Seq.{take-all}
@@ -19,7 +19,7 @@ use Rattle.step.specs.Sheet.{maxSteps, encoded}
 use Rattle.sheet_steps.specs.Steps.{stepsOf}
 use Rattle.sheet.proofs.{Sheets.settings-back, Sheets.steps-formed, Counts.steps-few}
 use Rattle.sheet.specs.Writer.{sheetBytes}
-use Rattle.least_plan.specs.Plan.{xoscFor, timeFor, planOf}
+use Rattle.settings.specs.LeastPlan.{xoscFor, timeFor, planOf}
 use Rattle.readback.specs.{Steps.stepsIn, Steps.stepsRead, Read.planIn}
 use Rattle.readback.specs.Law.{Gives, multiplierIn, multiplierOf, timeOf, Back}
 use Rattle.readback.proofs.{Numbers.smallest, Numbers.time-back, Decoded.steps-encoded, Fixed.settings-fixed}

@@ -9,7 +9,7 @@ use Rattle.divider.specs.Delay.{startupSum, cyclesPerUs, settlingCycles}
 use Rattle.settings.specs.Settings.{settlingStep, settingsOf}
 use Rattle.sheet.proofs.Examples.{crystal-steps, crystal-steps-235}
 use Rattle.sheet.specs.Writer.{sheetBytes}
-use Rattle.least_plan.specs.Plan.{multiplierFor, timeFor, planWith, planOf}
+use Rattle.settings.specs.LeastPlan.{multiplierFor, timeFor, planWith, planOf}
 use Rattle.readback.specs.Read.{readOf}
 use Rattle.readback.proofs.Right.{written-read}
 

@@ -23,7 +23,7 @@ use Rattle.settings.specs.declared.OptionCrystal.{OptionCrystal}
 use Rattle.settings.specs.declared.OptionCrystal.the-variants.{Some as crystal, None as noCrystal}
 use Rattle.settings.specs.{Settings.ringHz, Settings.settingsOf, Frequencies.sourcesOf, Frequencies.frequenciesOf}
 use Rattle.settings.specs.Typed.{RtcTyped, Typed}
-use Rattle.grounds.specs.Grounds.{strengthsOver, ringDividerOver, pllInvalid, sysPllInvalid, usbPllInvalid, wholeBad, rtcBad}
+use Rattle.refusals.specs.Rules.{strengthsOver, ringDividerOver, pllInvalid, sysPllInvalid, usbPllInvalid, wholeBad, rtcBad}
 use Rattle.refusals.specs.Refusals.{Accepted}
 use Rattle.refusals.proofs.Accepted.{accepted-by, strengths-few, divider-good, whole-good}
 use Rattle.sheet.proofs.{Facts.none-more, Facts.AuxFits, Facts.aux-fits, Stores.ring-source}

@@ -33,7 +33,7 @@ use Rattle.sheet_steps.specs.Steps.{markSteps, headPart, stepsOf}
 use Rattle.step.specs.{Sheet.encoded, Steps.packOf, Layout.rows, Layout.width, Layout.widths, Bytes.bytes8}
 use Rattle.sheet.specs.{Writer.sheetBytes, Writer.refusalIn}
 use Rattle.readback.specs.Cut.{cutRing, cutCrystal, cutRtc, cutChip, cutSettings}
-use Rattle.least_plan.specs.Plan.{xoscFor, planOf}
+use Rattle.settings.specs.LeastPlan.{xoscFor, planOf}
 use Rattle.readback.specs.Law.{chipIn, topReading, Gives, ReadBack, over, none, back}
 use Rattle.readback.specs.Read.{planIn, gives, readOf}
 

@@ -12,7 +12,7 @@ use Rattle.settings.specs.declared.OptionCrystal.the-variants.{Some as crystal,
 use Rattle.settings.specs.declared.Settings.{Settings}
 use Rattle.settings.specs.Settings.{crystalOf, settingsOf}
 use Rattle.sheet.proofs.Demand3.{same-sheets}
-use Rattle.least_plan.specs.Plan.{planWith}
+use Rattle.settings.specs.LeastPlan.{planWith}
 use Rattle.readback.specs.Law.{multiplierIn, timeOf, Back, ReadBack, over, none, back}
 
 -- the crystal that is there; any where there is none

@@ -5,8 +5,8 @@ use native.Mathlib.Omega.{arith}
 use lib.Dec.{ltb}
 use borrow.Author.Tests.{ltb-true, ltb-false}
 use Rattle.chip.specs.declared.Chip.{Chip}
-use Rattle.voltage.specs.Voltage.{coreVoltageOf}
-use Rattle.voltage.proofs.Codes.{no-code}
+use Rattle.chip.specs.Voltage.{coreVoltageOf}
+use Rattle.chip.proofs.Codes.{no-code}
 
 pub least-code : (chip : Chip) (code : ℕ) → coreVoltageOf chip (min code 255) ≡ coreVoltageOf chip code
 least-code chip code = go (ltb 255 code) refl

@@ -7,7 +7,7 @@ use Rattle.base.specs.{Choice.pick, Answer.Answer, Answer.value, Answer.refusal
 use Rattle.text.specs.Ascii.{same}
 use Rattle.config.specs.declared.ClockConfig.{ClockConfig}
 use Rattle.sheet.specs.{Read.settingsFrom, Writer.sheetBytes, Writer.refusalIn}
-use Rattle.least_plan.specs.Plan.{planOf}
+use Rattle.settings.specs.LeastPlan.{planOf}
 use Rattle.readback.specs.{Steps.stepsRead, Cut.cutSettings, Law.topReading}
 
 -- the plan made of what the bytes hold

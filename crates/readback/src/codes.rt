@@ -1,14 +1,14 @@
 // Voltages and dividers by their codes in steps, and numbers cut to their types.
-use voltage::CoreVoltage;
-use voltage::CoreVoltage235;
-use voltage::VoltageRead;
-use voltage::VoltageRead235;
+use chip::voltage::CoreVoltage;
+use chip::voltage::CoreVoltage235;
+use chip::voltage::VoltageRead;
+use chip::voltage::VoltageRead235;
 ghost use mathlib.Core.Path.{_≡_};
 ghost use Prim.Native.Nat.{_%_, _^_};
-ghost use Rattle.voltage.specs.declared.CoreVoltage.{CoreVoltage};
-ghost use Rattle.voltage.specs.declared.CoreVoltage235.{CoreVoltage235};
+ghost use Rattle.chip.specs.declared.voltage.CoreVoltage.{CoreVoltage};
+ghost use Rattle.chip.specs.declared.voltage.CoreVoltage235.{CoreVoltage235};
 ghost use Rattle.chip.specs.declared.Chip.the-variants.{Rp2040, Rp235x};
-ghost use Rattle.voltage.specs.Voltage.{coreVoltageOf};
+ghost use Rattle.chip.specs.Voltage.{coreVoltageOf};
 ghost use Rattle.settings.specs.Codes.{divFrom, valueOr};
 
 pub(crate) fn cut8(x: u64) -> u8
@@ -40,7 +40,7 @@ pub(crate) fn div_from(code: u64) -> u8
 pub(crate) fn voltage_from(code: u64) -> CoreVoltage
     ensures { λ r. ⌜ r ≡ valueOr CoreVoltage.V1_10 (coreVoltageOf Rp2040 code) ⌝ }
 {
-    match voltage::core_voltage(base::least(code as usize, 255) as u8) {
+    match chip::voltage::core_voltage(base::least(code as usize, 255) as u8) {
         VoltageRead::Voltage(v) => v,
         VoltageRead::Refused(_) => CoreVoltage::V1_10,
     }
@@ -49,7 +49,7 @@ pub(crate) fn voltage_from(code: u64) -> CoreVoltage
 pub(crate) fn voltage_from_235(code: u64) -> CoreVoltage235
     ensures { λ r. ⌜ r ≡ valueOr CoreVoltage235.V1_10 (coreVoltageOf Rp235x code) ⌝ }
 {
-    match voltage::core_voltage_235(base::least(code as usize, 255) as u8) {
+    match chip::voltage::core_voltage_235(base::least(code as usize, 255) as u8) {
         VoltageRead235::Voltage(v) => v,
         VoltageRead235::Refused(_) => CoreVoltage235::V1_10,
     }

@@ -91,7 +91,7 @@ pub fn steps_of(sheet: &[u8]) -> Steps
 fn is_sheet(written: &[u8], sheet: &[u8]) -> bool
     ensures { λ r. ⌜ r ≡ same (now (written .entry)) (now (sheet .entry)) ⌝ }
 {
-    kept::same_bytes(written, sheet)
+    text::same_bytes(written, sheet)
 }
 
 // Whether a plan is accepted at a reading, and written to exactly these bytes.
@@ -137,7 +137,7 @@ pub fn read_sheet(sheet: &[u8], reading: u8) -> Planned
     if top_reading(sheet) < reading {
         return Planned::Refused(18);
     }
-    let plan = least_plan::plan_of(parse::settings_in(steps_of(sheet), reading));
+    let plan = settings::least_plan::plan_of(parse::settings_in(steps_of(sheet), reading));
     if gives(sheet, reading, plan) {
         Planned::Plan(plan)
     } else {

@@ -9,7 +9,7 @@ use Rattle.base.proofs.Bools.{both-false, in-range}
 use Rattle.config.specs.declared.DriveStrength.{DriveStrength}
 use Rattle.settings.specs.declared.Settings.{Settings}
 use Rattle.settings.specs.Frequencies.{frequenciesOf}
-use Rattle.grounds.specs.Grounds.{strengthOver, dividerBad, referenceBad, wholeBad}
+use Rattle.refusals.specs.Rules.{strengthOver, dividerBad, referenceBad, wholeBad}
 use Rattle.refusals.specs.Refusals.{testsOf, first, refusalOf}
 
 -- every number is from 1 on

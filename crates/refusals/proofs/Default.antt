@@ -9,8 +9,8 @@ use Rattle.chip.specs.Chips.{factsOf}
 use Rattle.config.specs.Presets.{defaultPlan}
 use Rattle.settings.specs.declared.{OptionCycles.OptionCycles, OptionCycles.the-variants.None as noCycles}
 use Rattle.settings.specs.{Settings.settlingStep, Settings.settingsOf, Frequencies.sourcesOf, Frequencies.refHz}
-use Rattle.grounds.specs.Grounds.{strengthsOver, ringDividerOver, settlingOver, startupOver, sysPllInvalid, usbPllInvalid}
-use Rattle.grounds.specs.Grounds.{dividerBad, referenceBad}
+use Rattle.refusals.specs.Rules.{strengthsOver, ringDividerOver, settlingOver, startupOver, sysPllInvalid, usbPllInvalid}
+use Rattle.refusals.specs.Rules.{dividerBad, referenceBad}
 use Rattle.refusals.specs.Refusals.{refusalOf}
 
 calmly : (b : Bool) → settlingOver (pick {A = OptionCycles} b noCycles noCycles) ≡ false

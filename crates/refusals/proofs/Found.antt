@@ -14,7 +14,7 @@ use Rattle.config.specs.Presets.{ringConfig, feedingBoth, fromPlls, systemVolta
 use Rattle.config.proofs.Systems.{Found, system-from-found}
 use Rattle.settings.specs.declared.Settings.{Settings}
 use Rattle.settings.specs.{Settings.settingsOf, Frequencies.pllHz, Frequencies.sourcesOf, Frequencies.frequenciesOf}
-use Rattle.grounds.specs.Grounds.{sysPllInvalid, usbPllInvalid}
+use Rattle.refusals.specs.Rules.{sysPllInvalid, usbPllInvalid}
 use Rattle.refusals.specs.Refusals.{testsOf, first, refusalOf}
 
 -- a test of this number holds

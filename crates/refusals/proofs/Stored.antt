@@ -13,7 +13,7 @@ use Rattle.settings.specs.declared.{Sources.Sources, Settings.Settings, Frequen
 use Rattle.settings.specs.Frequencies.{rtcHz, sourcesIn, refIn, sysIn, frequenciesOf, tenthOf, storedOf, tenOf}
 use Rattle.settings.specs.Typed.{Typed}
 use Rattle.settings.proofs.Small.{Hz, AllHz, sources-hz, ref-small, sys-small, peri-small, aux-small}
-use Rattle.grounds.specs.Grounds.{wholeBad, rtcBad}
+use Rattle.refusals.specs.Rules.{wholeBad, rtcBad}
 use Rattle.refusals.specs.Refusals.{refusalOf}
 use Rattle.refusals.proofs.Accepted.{accepted-by, whole-good}
 

@@ -11,7 +11,7 @@ use Rattle.divider.specs.Delay.{startupSum, delayOf, settlingCycles}
 use Rattle.config.specs.declared.{XoscConfig.XoscConfig, OptionXosc.the-variants.Some as xosc}
 use Rattle.settings.specs.declared.OptionCycles.the-variants.{Some as cycles, None as noCycles}
 use Rattle.settings.specs.Settings.{crystalOf, settlingStep}
-use Rattle.grounds.specs.Grounds.{settlingOver, startupOver, wholeBad}
+use Rattle.refusals.specs.Rules.{settlingOver, startupOver, wholeBad}
 
 -- settling cycles over 32 bits, where the voltage changes
 pub settling-worded : (reading code time hz : ℕ)

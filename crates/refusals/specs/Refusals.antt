@@ -8,8 +8,8 @@ use Rattle.config.specs.declared.ClockConfig.{ClockConfig}
 use Rattle.settings.specs.declared.{Settings.Settings, Frequencies.Frequencies}
 use Rattle.settings.specs.{Settings.settingsOf, Frequencies.frequenciesOf}
 use Rattle.refusals.specs.declared.Examined.{Examined}
-use Rattle.grounds.specs.Grounds.{strengthsOver, ringDividerOver, settlingOver, startupOver, sysPllInvalid, usbPllInvalid}
-use Rattle.grounds.specs.Grounds.{dividerBad, referenceBad, wholeBad, periBad, auxBad, rtcBad}
+use Rattle.refusals.specs.Rules.{strengthsOver, ringDividerOver, settlingOver, startupOver, sysPllInvalid, usbPllInvalid}
+use Rattle.refusals.specs.Rules.{dividerBad, referenceBad, wholeBad, periBad, auxBad, rtcBad}
 
 -- 18: reading over the chip's greatest, 15 or 31; then 1 to 14 rising
 abbrev pub testsOf : Settings → Frequencies → ℕ → List (ℕ × Bool)

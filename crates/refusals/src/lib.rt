@@ -1,4 +1,6 @@
 // The refusals of settings at a reading, in their order.
+mod rules;
+
 use config::OptionPll;
 use config::OptionRosc;
 use settings::Frequencies;
@@ -11,7 +13,7 @@ ghost use Rattle.config.specs.declared.OptionRosc.{OptionRosc};
 ghost use Rattle.settings.specs.Frequencies.{pllHz, sourcesOf, frequenciesOf};
 ghost use Rattle.config.specs.Board.{FractionFits};
 ghost use Rattle.settings.specs.Typed.{Typed};
-ghost use Rattle.grounds.specs.Grounds.{pllInvalid, sysPllInvalid, usbPllInvalid};
+ghost use Rattle.refusals.specs.Rules.{pllInvalid, sysPllInvalid, usbPllInvalid};
 ghost use Rattle.refusals.specs.Refusals.{refusalOf, examinedOf};
 
 // A valid PLL gives 15 MHz or more, so one that is there with 0 Hz is invalid.
@@ -65,18 +67,18 @@ fn refusal_of(s: Settings, f: Frequencies, reading: u8) -> u8
     let rtc_clk = b.rtc;
     let sources = f.sources;
     let over = on.top_reading < reading;
-    let strengths = grounds::strengths_over(ring);
-    let ring_divider = grounds::ring_divider_over(on.pass, ring);
-    let settling = grounds::settling_over(cycles);
-    let startup = grounds::startup_over(crystal);
+    let strengths = rules::strengths_over(ring);
+    let ring_divider = rules::ring_divider_over(on.pass, ring);
+    let settling = rules::settling_over(cycles);
+    let startup = rules::startup_over(crystal);
     let plls = plls_invalid(crystal, sources);
-    let divider = grounds::divider_bad(ref_clk.div);
-    let reference = grounds::reference_bad(f.reference);
-    let whole = grounds::whole_bad(on.top_whole, b.whole);
-    let peri = grounds::peri_bad(f.peri, peri_clk);
-    let usb = grounds::aux_bad(f.usb_source, usb_clk);
-    let adc = grounds::aux_bad(f.adc_source, adc_clk);
-    let rtc = grounds::rtc_bad(f.rtc_source, f.rtc, rtc_clk);
+    let divider = rules::divider_bad(ref_clk.div);
+    let reference = rules::reference_bad(f.reference);
+    let whole = rules::whole_bad(on.top_whole, b.whole);
+    let peri = rules::peri_bad(f.peri, peri_clk);
+    let usb = rules::aux_bad(f.usb_source, usb_clk);
+    let adc = rules::aux_bad(f.adc_source, adc_clk);
+    let rtc = rules::rtc_bad(f.rtc_source, f.rtc, rtc_clk);
     // From the last to the first: an earlier one decides.
     let n = base::number_when(rtc, 14, 0);
     let n = base::number_when(adc, 13, n);

@@ -18,8 +18,8 @@ use Rattle.sheet.specs.Writer.{sheetBytes}
 use Rattle.runner.specs.declared.{Runner.Runner, Stepped.Stepped}
 use Rattle.runner.specs.Run.{Progress, Outcome, replyIs, steppedIs, fresh, isWait, advanceOf, Begun, startedWith, startOf}
 use Rattle.runner.specs.Calls.{answers, readyAnswer}
-use Rattle.up.specs.Up.{planSteps}
-use Rattle.up.proofs.Run.{sheet-starts, sheet-answers, sheet-run}
+use Rattle.bring_up.specs.Up.{planSteps}
+use Rattle.bring_up.proofs.Run.{sheet-starts, sheet-answers, sheet-run}
 use Rattle.report.specs.Report.{printedNumbers}
 use Rattle.report.specs.Ran.{releasedIn, releasedBy, lastReleased, runs, ranOf, reportNumbers}
 

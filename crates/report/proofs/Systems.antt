@@ -4,7 +4,7 @@ use Prim.Native.Nat.{ℕ}
 use native.Mathlib.Omega.{arith}
 use lib.Dec.{eqb, ltb}
 use Rattle.base.specs.{Choice.pick, Answer.value}
-use Rattle.voltage.specs.declared.{CoreVoltage.CoreVoltage, CoreVoltage.the-variants.V1_10, CoreVoltage.the-variants.V1_15}
+use Rattle.chip.specs.declared.voltage.CoreVoltage.{CoreVoltage, the-variants.V1_10, the-variants.V1_15}
 use Rattle.config.specs.declared.{OptionPll.the-variants.Some as pll, RoscRange.the-variants.Medium}
 use Rattle.config.specs.declared.ClockConfig.{ClockConfig}
 use Rattle.divider.specs.{Clock.dividedHz, Delay.startupSum, Delay.cyclesPerUs, Delay.settlingCycles}
@@ -19,8 +19,8 @@ use Rattle.settings.specs.Settings.{settlingStep, settingsOf}
 use Rattle.settings.specs.Frequencies.{pllHz, sourcesOf, refHz, sysHz, sysIn}
 use Rattle.settings.specs.Typed.{Typed}
 use Rattle.settings.proofs.Plls.{pll-silent}
-use Rattle.grounds.specs.Grounds.{strengthsOver, ringDividerOver, settlingOver, startupOver, sysPllInvalid, usbPllInvalid}
-use Rattle.grounds.specs.Grounds.{dividerBad, referenceBad, wholeBad, periBad, auxBad, rtcBad}
+use Rattle.refusals.specs.Rules.{strengthsOver, ringDividerOver, settlingOver, startupOver, sysPllInvalid, usbPllInvalid}
+use Rattle.refusals.specs.Rules.{dividerBad, referenceBad, wholeBad, periBad, auxBad, rtcBad}
 use Rattle.refusals.specs.Refusals.{refusalOf, Accepted}
 use Rattle.report.specs.Report.{reading}
 

@@ -9,12 +9,12 @@ use Rattle.base.proofs.Bools.{both-false}
 use Rattle.step.specs.declared.Step.{Step}
 use Rattle.step.specs.Kinds as kind
 use Rattle.step.specs.{Access.readAt, Sheet.maxSteps, Sheet.maxBytes}
-use Rattle.kept.proofs.Sizes.{size-fits}
+use Rattle.step.proofs.Sizes.{size-fits}
 use Rattle.runner.specs.declared.State.{State}
 use Rattle.runner.specs.Run.{Outcome, outcome, done, handed, passed, movedOn, polled, waits, isWait, unready}
 use Rattle.runner.specs.Run.{takeStep, takeRead, outside, onwardOf, turnOf}
 use Rattle.text.specs.Ascii.{same}
-use Rattle.kept.specs.Kept.{badSize}
+use Rattle.step.specs.Size.{badSize}
 
 module _ (s : State) (len : ℕ) (o : outside s len ≡ false) where
   ranged : ((ltb maxSteps (s .position) || ltb 999999 (s .«lock_polls»)) ≡ false) × (badSize len ≡ false)

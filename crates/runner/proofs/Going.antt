@@ -12,7 +12,7 @@ use Rattle.runner.specs.declared.{State.State, Runner.Runner}
 use Rattle.runner.specs.Run.{done, handed, passed, waiting, Outcome, outcome, isWait, oneMore, movedOn, unready}
 use Rattle.runner.specs.Run.{takeStep, takeRead, outside, padded, withStepper, startedWith, onwardOf, turnOf}
 use Rattle.runner.specs.Run.{storedBy, joined, inRunner, stepperOf, advanceOf}
-use Rattle.kept.specs.Kept.{badSize}
+use Rattle.step.specs.Size.{badSize}
 use Rattle.text.proofs.Same.{same-refl}
 use Rattle.runner.proofs.{Starts.kept-sheet, Calls.onward-done, Calls.onward-read, Calls.call-goes}
 

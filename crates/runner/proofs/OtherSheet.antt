@@ -16,9 +16,9 @@ use Rattle.runner.specs.declared.{State.State, Runner.Runner}
 use Rattle.runner.specs.Run.{Outcome, outcome, unready, isWait, takeStep, takeRead, outside, onwardOf, turnOf}
 use Rattle.runner.specs.Run.{stepperOf, padded, startedWith, advanceOf}
 use Rattle.runner.specs.Calls.{Call, call, afterCalls}
-use Rattle.kept.specs.Kept.{badSize}
+use Rattle.step.specs.Size.{badSize}
 use Rattle.runner.proofs.{Calls.both, Starts.kept-sheet, Untouched.stopped-stays, OneSheet.other-refused}
-use Rattle.kept.proofs.Sizes.{size-fits}
+use Rattle.step.proofs.Sizes.{size-fits}
 
 either : {A : Type 0} (P : A → Type 0) (b : Bool) (x y : A) → (b ≡ true → P x) → (b ≡ false → P y) → P (pick b x y)
 either P true x y p q = p refl

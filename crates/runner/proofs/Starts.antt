@@ -8,7 +8,7 @@ use Rattle.base.specs.{Answer.value, Answer.refusal, Choice.pick}
 use Rattle.step.specs.Sheet.{maxBytes}
 use Rattle.runner.specs.declared.{Runner.Runner, Stepper.Stepper, Opening.Opening, Opened.Opened}
 use Rattle.runner.specs.Run.{Begun, begun, started, openingIs, openedIs, padded, freshStepper, startedWith, startOf}
-use Rattle.kept.specs.Kept.{badSize}
+use Rattle.step.specs.Size.{badSize}
 
 module _ (r : Runner) (sheet : List ℕ) where
   pub start-refused : badSize (length sheet) ≡ true → begun (refusal 20) r ≡ startOf r sheet

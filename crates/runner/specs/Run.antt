@@ -7,7 +7,7 @@ use Rattle.text.specs.Ascii.{same}
 use Rattle.step.specs.declared.Step.{Step}
 use Rattle.step.specs.Kinds as kind
 use Rattle.step.specs.{Access.readAt, Sheet.maxSteps, Sheet.maxBytes, Steps.WellFormed}
-use Rattle.kept.specs.Kept.{badSize}
+use Rattle.step.specs.Size.{badSize}
 use Rattle.runner.specs.declared.{Reply.Reply, State.State, Stepper.Stepper, Runner.Runner, Turned.Turned}
 use Rattle.runner.specs.declared.{Moved.Moved, Stepped.Stepped, Opening.Opening, Opened.Opened}
 

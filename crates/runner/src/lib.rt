@@ -102,14 +102,14 @@ impl Runner {
 pub fn turn(s: State, len: usize, kept: &[u8; MAX_BYTES], sheet: &[u8], ready: bool) -> Turned
     ensures { λ t. ⌜ turnedIs t ≡ turnOf s len (now (kept .entry)) (now (sheet .entry)) ready ⌝ }
 {
-    if ((s.position > MAX_STEPS) | (s.lock_polls > 999999)) | kept::bad_size(len) {
+    if ((s.position > MAX_STEPS) | (s.lock_polls > 999999)) | step::bad_size(len) {
         return stepping::refused(s, 21);
     }
     if s.stopped {
         return stepping::refused(s, 22);
     }
     let whole: &[u8] = kept;
-    if !kept::same_bytes(&whole[..len], sheet) {
+    if !text::same_bytes(&whole[..len], sheet) {
         return stepping::refused(s, 27);
     }
     stepping::onward(s, sheet, ready)
@@ -194,7 +194,7 @@ pub fn restarted(r: Runner, sheet: &[u8]) -> Opened
     ensures { λ o. ⌜ openedIs o ≡ startOf r (now (sheet .entry)) ⌝ }
 {
     let len = sheet.len();
-    if kept::bad_size(len) {
+    if step::bad_size(len) {
         return Opened {
             reply: Opening::Refused(20),
             runner: r,

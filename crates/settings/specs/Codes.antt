@@ -3,8 +3,8 @@ use Prim.Native.Nat.{ℕ, _-_}
 use lib.Dec.{eqb}
 use Rattle.base.specs.{Choice.pick, Answer.Answer, Answer.value, Answer.refusal}
 use Rattle.chip.specs.declared.{Chip.Chip, Chip.the-variants.Rp2040, Chip.the-variants.Rp235x}
-use Rattle.voltage.specs.declared.{CoreVoltage.CoreVoltage, CoreVoltage235.CoreVoltage235}
-use Rattle.voltage.specs.Voltage.{coreVoltageOf}
+use Rattle.chip.specs.declared.voltage.{CoreVoltage.CoreVoltage, CoreVoltage235.CoreVoltage235}
+use Rattle.chip.specs.Voltage.{coreVoltageOf}
 use Rattle.config.specs.declared.{RoscRange.RoscRange, RefClkSrc.RefClkSrc, SysClkSrc.SysClkSrc, PeriClkSrc.PeriClkSrc}
 use Rattle.config.specs.declared.{AuxClkSrc.AuxClkSrc, OptionRtc.OptionRtc, ChipConfig.ChipConfig}
 

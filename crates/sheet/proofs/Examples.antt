@@ -6,7 +6,7 @@ use lib.ListN.{length, getD}
 use Rattle.step.specs.declared.Step.{Step}
 use native.Mathlib.Omega.{arith}
 use Rattle.chip.specs.declared.Chip.the-variants.{Rp2040, Rp235x}
-use Rattle.voltage.specs.declared.{CoreVoltage.the-variants.V1_15, CoreVoltage235.the-variants.V1_15 as volts115}
+use Rattle.chip.specs.declared.voltage.{CoreVoltage.the-variants.V1_15, CoreVoltage235.the-variants.V1_15 as volts115}
 use Rattle.config.specs.declared.{ChipConfig.the-variants.Rp235x as on235x, RoscRange.the-variants.Medium}
 use Rattle.config.specs.declared.ClockConfig.{ClockConfig}
 use Rattle.divider.specs.{Delay.startupSum, Delay.cyclesPerUs, Delay.settlingCycles, Clock.dividedHz}
@@ -16,8 +16,8 @@ use Rattle.config.specs.Presets.{ringConfig, feeding, fromPlls, crystalPlan}
 use Rattle.settings.specs.Settings.{settlingStep, settingsOf}
 use Rattle.settings.specs.Frequencies.{pllHz, sourcesOf, refHz, sysHz, sysIn}
 use Rattle.settings.specs.Typed.{Typed}
-use Rattle.grounds.specs.Grounds.{strengthsOver, ringDividerOver, settlingOver, startupOver, sysPllInvalid, usbPllInvalid}
-use Rattle.grounds.specs.Grounds.{dividerBad, referenceBad, wholeBad, periBad, auxBad, rtcBad}
+use Rattle.refusals.specs.Rules.{strengthsOver, ringDividerOver, settlingOver, startupOver, sysPllInvalid, usbPllInvalid}
+use Rattle.refusals.specs.Rules.{dividerBad, referenceBad, wholeBad, periBad, auxBad, rtcBad}
 use Rattle.refusals.specs.Refusals.{refusalOf, Accepted}
 use Rattle.sheet_steps.specs.Steps.{step0, step1, headPart, ringPart, voltagePart, crystalPart, switchSteps, sysPart}
 use Rattle.sheet_steps.specs.Steps.{periPart, auxPart, rtcPart, releaseMask, clocksPart, stepsOf}

@@ -9,7 +9,7 @@ use Rattle.config.specs.declared.OptionAux.{OptionAux}
 use Rattle.config.specs.declared.OptionAux.the-variants.{Some as aux, None as noAux}
 use Rattle.settings.specs.declared.OptionCycles.the-variants.{None as noCycles}
 use Rattle.settings.specs.Settings.{settlingStep}
-use Rattle.grounds.specs.Grounds.{dividerBad, auxBad}
+use Rattle.refusals.specs.Rules.{dividerBad, auxBad}
 use Rattle.refusals.proofs.Accepted.{divider-good}
 use Rattle.settings.proofs.Decoded.{Small, AuxSmall}
 

@@ -32,8 +32,8 @@ use Rattle.settings.specs.declared.Sources.{Sources}
 use Rattle.settings.specs.{Codes.sysSelect, Settings.ringHz, Typed.RtcTyped}
 use Rattle.settings.proofs.Small.{Hz, AllHz}
 use Rattle.settings.proofs.Decoded.{range-code, ref-code, sys-code, peri-code, aux-code}
-use Rattle.grounds.specs.Grounds.{strengthsOver, ringDividerOver, settlingOver, startupOver, pllInvalid, sysPllInvalid}
-use Rattle.grounds.specs.Grounds.{usbPllInvalid, wholeBad, rtcBad}
+use Rattle.refusals.specs.Rules.{strengthsOver, ringDividerOver, settlingOver, startupOver, pllInvalid, sysPllInvalid}
+use Rattle.refusals.specs.Rules.{usbPllInvalid, wholeBad, rtcBad}
 use Rattle.refusals.proofs.Accepted.{strengths-few, whole-good}
 use Rattle.sheet_steps.specs.Steps.{step1, step2, storeStep, markSteps, headPart, ringPart, settlingSteps, voltagePart}
 use Rattle.sheet_steps.specs.Steps.{pllSteps, crystalPart, sourcePart, tickSteps, refPart, switchSteps, sysPart, periPart}

@@ -1,3 +1,4 @@
 pub mod Book
 pub mod Law
 pub mod Lookup
+pub mod Page

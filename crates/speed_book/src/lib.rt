@@ -1,4 +1,5 @@
 // The book: every setting of a 12 MHz crystal, ordered by output, and a lookup that gives what the search gives.
+pub mod page;
 mod table;
 
 use pll::Found;

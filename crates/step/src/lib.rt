@@ -8,6 +8,8 @@ pub use access::read;
 pub use access::turned;
 pub use access::word;
 pub use packing::pack;
+ghost use mathlib.Core.Path.{_≡_};
+ghost use Rattle.step.specs.Size.{badSize};
 
 // The greatest number of steps of a sheet, and its bytes.
 pub const MAX_STEPS: usize = 66;
@@ -28,4 +30,11 @@ pub struct Step {
 pub enum Unpacked {
     Step(Step),
     Refused(u8),
+}
+
+// Whether no sheet has this length.
+pub fn bad_size(n: usize) -> bool
+    ensures { λ r. ⌜ r ≡ badSize n ⌝ }
+{
+    (n > MAX_BYTES) | (n % 8 != 0)
 }

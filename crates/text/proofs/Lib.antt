@@ -4,3 +4,4 @@ pub mod HexWords
 pub mod Lines
 pub mod Outputs
 pub mod Same
+pub mod SameBytes

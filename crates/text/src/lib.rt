@@ -12,6 +12,7 @@ ghost use Rattle.text.specs.Decimal.{lastDigit, decimalOf, numberOf};
 ghost use Rattle.text.specs.Hex.{hexDigit, hexPair, hexOf, hexValue, isHex, isPair};
 ghost use Rattle.text.specs.Hex.{arePairs, pairValues, isHexWord, HexReading};
 ghost use Rattle.text.specs.Words.{upTo, indexFrom, lineNumberOf};
+ghost use Rattle.text.specs.Ascii.{same};
 
 // How many bytes a word of hex gave, or Bad where it is none or the buffer is too short.
 pub enum HexRead {
@@ -245,4 +246,20 @@ pub fn hex_bytes(s: &[u8], buf: &mut [u8]) -> HexRead
     }
     let n = put_pairs(buf, s);
     HexRead::Bytes(n)
+}
+
+// Whether a and b hold the same bytes. It looks at all of them, so that many are compared at a time.
+pub fn same_bytes(a: &[u8], b: &[u8]) -> bool
+    ensures { λ r. ⌜ r ≡ same (now (a .entry)) (now (b .entry)) ⌝ }
+{
+    if a.len() != b.len() {
+        return false;
+    }
+    let mut equal = true;
+    let mut i = 0;
+    while i < a.len() {
+        equal = equal & (a[i] == b[i]);
+        i += 1;
+    }
+    equal
 }

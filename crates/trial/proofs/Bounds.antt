@@ -14,8 +14,8 @@ use Rattle.pll.proofs.{Inputs.search-finds, Inputs.found-valid, Valid.valid}
 use Rattle.runner.specs.declared.{State.State, Runner.Runner}
 use Rattle.runner.specs.Run.{Outcome, oneMore, turnOf, stepperOf, advanceOf}
 use Rattle.runner.proofs.Calls.{both, every-turn}
-use Rattle.up.specs.Wait.{runnerAfter}
-use Rattle.draws.specs.{Draws.drawn, Targets.targetLine, Targets.targetLines}
+use Rattle.bring_up.specs.Wait.{runnerAfter}
+use Rattle.trial.specs.{Lcg.drawn, Targets.targetLine, Targets.targetLines}
 use Rattle.trial.specs.Load.{trialSheet, flags, trialRunner, runnerLine, trials, mostCount, loadWith, loadOf}
 
 -- ---- a line

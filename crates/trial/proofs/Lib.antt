@@ -2,3 +2,4 @@ pub mod Starts
 pub mod Bounds
 pub mod Trials
 pub mod Sheets
+pub mod Targets

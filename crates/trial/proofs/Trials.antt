@@ -6,10 +6,10 @@ use lib.ListN.{length}
 use Rattle.text.specs.Words.{upTo, indexFrom}
 use Rattle.runner.specs.declared.{Runner.Runner, Stepped.Stepped, Opened.Opened}
 use Rattle.runner.specs.Run.{Outcome, steppedIs, advanceOf, Begun, openedIs, startedWith, startOf}
-use Rattle.kept.specs.Kept.{badSize}
+use Rattle.step.specs.Size.{badSize}
 use Rattle.runner.proofs.Starts.{start-kept}
-use Rattle.up.specs.Wait.{runnerAfter}
-use Rattle.draws.specs.Draws.{drawn, topBit}
+use Rattle.bring_up.specs.Wait.{runnerAfter}
+use Rattle.trial.specs.Lcg.{drawn, topBit}
 use Rattle.trial.specs.Load.{flags}
 
 module _ (seed i : ℕ) where

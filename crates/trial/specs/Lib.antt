@@ -1,1 +1,3 @@
 pub mod Load
+pub mod Lcg
+pub mod Targets

@@ -9,8 +9,8 @@ use Rattle.chip.specs.declared.Chip.the-variants.{Rp2040}
 use Rattle.config.specs.Presets.{crystalPlan}
 use Rattle.sheet.specs.Writer.{sheetBytes}
 use Rattle.runner.specs.declared.Runner.{Runner}
-use Rattle.up.specs.Wait.{runnerAfter}
-use Rattle.draws.specs.{Draws.drawn, Draws.topBit, Targets.line, Targets.targetLines}
+use Rattle.bring_up.specs.Wait.{runnerAfter}
+use Rattle.trial.specs.{Lcg.drawn, Lcg.topBit, Targets.line, Targets.targetLines}
 
 -- runner trial: over the crystal preset's 12 MHz sheet at reading 11 each call hears the top bit of a draw
 abbrev pub trialSheet : List ℕ

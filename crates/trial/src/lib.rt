@@ -1,4 +1,6 @@
 // The whole output of the program `load` for its input: the same two trials on each machine.
+mod lcg;
+
 use base::Length;
 use base::Number;
 use chip::Chip;
@@ -12,8 +14,8 @@ ghost use lib.ListN.{length};
 ghost use Rattle.base.specs.Answer.{value, numberIs};
 ghost use Rattle.base.specs.Placed.{Placed};
 ghost use Rattle.text.specs.Output.{Printed};
-ghost use Rattle.kept.specs.Kept.{badSize};
-ghost use Rattle.up.specs.Wait.{runnerAfter};
+ghost use Rattle.step.specs.Size.{badSize};
+ghost use Rattle.bring_up.specs.Wait.{runnerAfter};
 ghost use Rattle.trial.specs.Load.{flags, trialRunner, runnerLine};
 ghost use Rattle.trial.specs.Load.{trials, loadWith, loadOf};
 
@@ -36,8 +38,8 @@ fn run(sheet: &[u8], seed: u32, count: u32) -> Runner
     let mut x = seed;
     let mut i = 0;
     while i < count {
-        x = draws::draw(x);
-        let stepped = runner::advance(runner, sheet, draws::top_bit(x));
+        x = lcg::draw(x);
+        let stepped = runner::advance(runner, sheet, lcg::top_bit(x));
         runner = stepped.runner;
         i += 1;
     }
@@ -70,7 +72,7 @@ fn put_runner(out: &mut [u8], at: usize, r: Runner) -> usize
 fn put_trials(out: &mut [u8], seed: u32, count: u32) -> usize
     ensures { λ r. ⌜ Placed (now (out .entry)) 0 (trials seed count) r (now (out .exit)) ⌝ }
 {
-    let at = draws::put_targets(out, seed, count);
+    let at = lcg::put_targets(out, seed, count);
     put_runner(out, at, trial_runner(seed, count))
 }
 

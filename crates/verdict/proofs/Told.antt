@@ -16,7 +16,7 @@ use Rattle.sheet_steps.specs.Steps.{stepsOf}
 use Rattle.refusals.specs.{declared.Examined.Examined, Refusals.Accepted, Refusals.examinedOf}
 use Rattle.sheet.specs.Writer.{sheetBytes, refusalIn}
 use Rattle.sheet.proofs.Demand3.{answered}
-use Rattle.least_plan.specs.Plan.{planOf}
+use Rattle.settings.specs.LeastPlan.{planOf}
 use Rattle.readback.specs.Read.{readOf}
 use Rattle.readback.proofs.{Right.written-read, Right.read-gives, Canonical.settings-kept}
 use Rattle.meanings.specs.{Parts.partsOf, Differences.agree, Differences.hasBit, Differences.differencesOf}

@@ -10,7 +10,7 @@ use Rattle.config.specs.declared.ClockConfig.{ClockConfig}
 use Rattle.settings.specs.declared.{Settings.Settings, Frequencies.Frequencies}
 use Rattle.settings.specs.{Settings.settingsOf, Frequencies.frequenciesOf}
 use Rattle.replies.specs.Reply.{spaced}
-use Rattle.plan_row.specs.Row.{sysPllIn, usbPllIn, planRow}
+use Rattle.numbers.specs.Row.{sysPllIn, usbPllIn, planRow}
 use Rattle.readback.specs.Read.{readOf}
 use Rattle.meanings.specs.Refusals.{refusalText}
 use Rattle.phrases.specs.Lines.{chipLine, ringLine, crystalLine, pllLine, voltageLine, settlingLine, refLine, sysLine}

@@ -7,7 +7,7 @@ use settings::Settings;
 ghost use Prim.Native.Nat.{_≤_, _<_};
 ghost use Rattle.base.specs.Placed.{Placed};
 ghost use Rattle.replies.specs.Reply.{spaced};
-ghost use Rattle.plan_row.specs.Row.{planRow};
+ghost use Rattle.numbers.specs.Row.{planRow};
 ghost use Rattle.wording.specs.Words.{lineOf, settingLine, settingLines, leftOutText, planLine, wordsOf};
 ghost use Rattle.wording.specs.Words.{refusedLines, explainText};
 
@@ -46,8 +46,24 @@ fn put_source(
         0 => phrases::sources::put_chip(out, at, chip),
         1 => phrases::sources::put_ring(out, at, ring),
         2 => phrases::sources::put_crystal(out, at, crystal),
-        3 => { phrases::sources::put_pll(out, at, b"pll_sys", hz.pll_sys, plan_row::sys_pll(xosc)) }
-        4 => { phrases::sources::put_pll(out, at, b"pll_usb", hz.pll_usb, plan_row::usb_pll(xosc)) }
+        3 => {
+            phrases::sources::put_pll(
+                out,
+                at,
+                b"pll_sys",
+                hz.pll_sys,
+                numbers::plan_row::sys_pll(xosc),
+            )
+        }
+        4 => {
+            phrases::sources::put_pll(
+                out,
+                at,
+                b"pll_usb",
+                hz.pll_usb,
+                numbers::plan_row::usb_pll(xosc),
+            )
+        }
         5 => phrases::sources::put_voltage(out, at, chip, board.code),
         _ => phrases::sources::put_settling(out, at, settling),
     }
@@ -129,7 +145,7 @@ fn put_numbers(out: &mut [u8], at: usize, plan: ClockConfig) -> usize
     ensures { λ r. ⌜ Placed (now (out .entry)) at (spaced (planRow plan)) r (now (out .exit)) ⌝ }
 {
     let mut row = [0u32; 48];
-    let n = plan_row::put_plan(&mut row, plan);
+    let n = numbers::plan_row::put_plan(&mut row, plan);
     replies::put_words(out, at, &row[..n])
 }
 

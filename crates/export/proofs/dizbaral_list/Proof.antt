@@ -1,7 +1,7 @@
 -- `export::dizbaral_list` meets its contract.
 use mathlib.Core.Path.{ap, _∙_}
 use borrow.Author.Needs.{needs}
-use Rattle.as_numbers.specs.Numbers.{answerNumber, itself}
+use Rattle.numbers.specs.Answers.{answerNumber, itself}
 use Rattle.export.proofs.dizbaral_list.Statement.{statement}
 use Rattle.export.proofs.dizbaral_list.Tie as tie
 

@@ -1,7 +1,7 @@
 -- `export::write` meets its contract.
 use mathlib.Core.Path.{ap, _∙_}
 use borrow.Author.Needs.{needs}
-use Rattle.as_numbers.specs.Numbers.{answerNumber, itself}
+use Rattle.numbers.specs.Answers.{answerNumber, itself}
 use Rattle.export.proofs.write.Statement.{statement}
 use Rattle.export.proofs.write.Tie as tie
 

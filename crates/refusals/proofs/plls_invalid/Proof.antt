@@ -2,7 +2,7 @@
 use mathlib.Core.Path.{refl, ap}
 use Rattle.settings.specs.declared.Sources.{Sources}
 use Rattle.settings.specs.Frequencies.{sourcesOf}
-use Rattle.grounds.specs.Grounds.{sysPllInvalid, usbPllInvalid}
+use Rattle.refusals.specs.Rules.{sysPllInvalid, usbPllInvalid}
 use borrow.Author.Needs.{needs}
 use Rattle.refusals.proofs.plls_invalid.Statement.{statement}
 use Rattle.refusals.proofs.plls_invalid.Tie as tie

@@ -6,7 +6,7 @@ use lib.Dec.{eqb, ltb}
 use Rattle.base.specs.Choice.{pick}
 use Rattle.chip.specs.declared.Facts.{Facts}
 use Rattle.settings.specs.declared.Frequencies.{Frequencies}
-use Rattle.grounds.specs.Grounds.{ringDividerOver, wholeBad}
+use Rattle.refusals.specs.Rules.{ringDividerOver, wholeBad}
 use Rattle.refusals.specs.Refusals.{first, testsOf, refusalOf}
 use Rattle.refusals.proofs.refusal_of.Statement.{statement}
 use Rattle.refusals.proofs.refusal_of.Tie as tie

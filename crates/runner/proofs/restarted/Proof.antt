@@ -1,7 +1,7 @@
 -- `runner::restarted` meets its contract.
 use mathlib.Core.Path.{refl, sym, ap, _∙_}
 use borrow.Author.Needs.{needs}
-use Rattle.kept.proofs.Sizes.{size-fits}
+use Rattle.step.proofs.Sizes.{size-fits}
 use Rattle.runner.specs.declared.Runner.{Runner}
 use Rattle.runner.proofs.{Starts.start-refused, Starts.start-built, restarted.Statement.statement}
 use Rattle.runner.proofs.restarted.Tie as tie

@@ -4,10 +4,10 @@ use mathlib.Core.Path.{_≡_, refl, ap, _∙_}
 use Prim.Native.Nat.{_-_, _≤_}
 use native.Mathlib.Omega.{arith}
 use borrow.Author.Needs.{needs}
-use Rattle.up.specs.Wait.{runnerAfter}
-use Rattle.draws.specs.Draws.{drawn}
+use Rattle.bring_up.specs.Wait.{runnerAfter}
+use Rattle.trial.specs.Lcg.{drawn}
 use Rattle.trial.specs.Load.{flags}
-use Rattle.draws.proofs.Targets.{draw-next}
+use Rattle.trial.proofs.Targets.{draw-next}
 use Rattle.trial.proofs.{Trials.begins, Trials.runner-next, run.Statement.statement}
 use Rattle.trial.proofs.run.Tie as tie
 

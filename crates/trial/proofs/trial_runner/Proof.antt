@@ -5,8 +5,8 @@ use borrow.Author.Needs.{needs}
 use lib.Seq.{length-take-le}
 use Rattle.chip.specs.declared.Chip.the-variants.{Rp2040}
 use Rattle.config.specs.Presets.{crystalPlan}
-use Rattle.up.specs.Wait.{runnerAfter}
-use Rattle.up.proofs.Run.{sheet-size}
+use Rattle.bring_up.specs.Wait.{runnerAfter}
+use Rattle.bring_up.proofs.Run.{sheet-size}
 use Rattle.trial.specs.Load.{flags}
 use Rattle.trial.proofs.{Sheets.written-fits, Sheets.written, Sheets.never-refused, trial_runner.Statement.statement}
 use Rattle.trial.proofs.trial_runner.Tie as tie

@@ -1,6 +1,6 @@
 -- `wording::put_numbers` meets its contract: the row holds the plan's numbers whole.
 use mathlib.Core.Path.{refl}
-use Rattle.plan_row.proofs.Whole.{begins}
+use Rattle.numbers.proofs.Whole.{begins}
 use borrow.Author.Needs.{needs}
 use Rattle.wording.proofs.put_numbers.Statement.{statement}
 use Rattle.wording.proofs.put_numbers.Tie as tie

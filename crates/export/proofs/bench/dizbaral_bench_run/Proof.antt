@@ -3,8 +3,8 @@ use borrow.Author.Needs.{needs}
 use mathlib.Core.{List.List, Path.ap, Path._∙_}
 use Prim.Native.Nat.{ℕ, _*_}
 use lib.Seq.{sets}
-use Rattle.as_numbers.specs.Bench.{fourteen}
-use Rattle.as_numbers.proofs.Boards.{over-number, over-leaves, bad-number, bad-leaves, board-number, board-leaves}
+use Rattle.numbers.specs.Bench.{fourteen}
+use Rattle.numbers.proofs.Boards.{over-number, over-leaves, bad-number, bad-leaves, board-number, board-leaves}
 use Rattle.export.proofs.bench.dizbaral_bench_run.Statement.{statement}
 use Rattle.export.proofs.bench.dizbaral_bench_run.Tie as tie
 

@@ -1,6 +1,6 @@
 -- `export::bench::dizbaral_bench_start` meets its contract.
 use borrow.Author.Needs.{needs}
-use Rattle.as_numbers.proofs.Boards.{all-started, all-turned}
+use Rattle.numbers.proofs.Boards.{all-started, all-turned}
 use Rattle.export.proofs.bench.{dizbaral_bench_start.Statement.statement}
 use Rattle.export.proofs.bench.dizbaral_bench_start.Tie as tie
 

@@ -1,2 +1,0 @@
-pub mod Runners
-pub mod Boards

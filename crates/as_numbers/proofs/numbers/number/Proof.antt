@@ -1,8 +1,0 @@
--- `as_numbers::numbers::number` meets its contract.
-use borrow.Author.Needs.{needs}
-use Rattle.as_numbers.proofs.numbers.number.Statement.{statement}
-use Rattle.as_numbers.proofs.numbers.number.Tie as tie
-
-pub number-spec : {M : Type 1} → statement M
-number-spec = tie.close (tie.spec (λ c. search needs) (λ c. search needs) (λ c. search needs) (λ c. search needs)
-    (λ c. search needs) (λ c. search needs) (λ c. rw (c .before .answer2 .given .1)))

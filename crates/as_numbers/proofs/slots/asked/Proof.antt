@@ -1,8 +1,0 @@
--- `as_numbers::slots::asked` meets its contract.
-use borrow.Author.Needs.{needs}
-use Rattle.as_numbers.proofs.slots.asked.Statement.{statement}
-use Rattle.as_numbers.proofs.slots.asked.Tie as tie
-
-pub asked-spec : {M : Type 1} → statement M
-asked-spec = tie.close (tie.spec (λ c κs. search needs) (λ c. rw (c .before .if1 .taken) (c .wake .ensures .outcome))
-    (λ c κs. search needs) (λ c. rw (c .before .if1 .left) (c .sleep .ensures .outcome)))

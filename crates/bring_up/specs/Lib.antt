@@ -1,0 +1,4 @@
+pub mod ComesUp
+pub mod Slow
+pub mod Up
+pub mod Wait

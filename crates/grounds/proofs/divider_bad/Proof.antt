@@ -1,9 +1,0 @@
--- `grounds::divider_bad` meets its contract.
-use Rattle.grounds.specs.Grounds.{dividerBad}
-use borrow.Author.Needs.{needs}
-use Rattle.grounds.proofs.divider_bad.Statement.{statement}
-use Rattle.grounds.proofs.divider_bad.Tie as tie
-
-pub divider-bad-spec : {M : Type 1} → statement M
-unfolding dividerBad
-divider-bad-spec = tie.close (tie.spec (λ c κs. search needs) (λ c. rw (c .in-range .ensures)))

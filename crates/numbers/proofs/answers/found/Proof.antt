@@ -1,0 +1,11 @@
+-- `numbers::answers::found` meets its contract.
+use borrow.Author.Needs.{needs}
+use Rattle.numbers.proofs.answers.found.Statement.{statement}
+use Rattle.numbers.proofs.answers.found.Tie as tie
+
+pub found-spec : {M : Type 1} → statement M
+found-spec = tie.close (tie.spec (λ c. search needs) (λ c. search needs) (λ c. search needs) (λ c. search needs)
+    (λ c. search needs) (λ c. search needs) (λ c. search needs) (λ c. search needs) (λ c. search needs)
+    (λ c. search needs) (λ c. search needs) (λ c. search needs) (λ c. search needs) (λ c. search needs)
+    (λ c. let answer = c .before .before .before .before .before in rw (answer .answer .given .1))
+    (λ c. rw (c .before .answer2 .given .1)))

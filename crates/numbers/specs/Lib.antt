@@ -1,0 +1,11 @@
+pub mod Row
+pub mod Plan
+pub mod Parts
+pub mod Typed
+pub mod Slots
+pub mod Bench
+pub mod Answers
+pub mod Read
+pub mod Run
+pub mod SleepCall
+pub mod Access

@@ -1,0 +1,9 @@
+// Plans, answers, runners, benches and slots as numbers: what cases and exported calls are made of.
+pub mod answers;
+pub mod bench;
+pub mod board;
+pub mod plan;
+pub mod plan_row;
+pub mod read;
+pub mod sleep_call;
+pub mod slots;

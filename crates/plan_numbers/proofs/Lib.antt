@@ -1,4 +1,0 @@
-pub mod Fits
-pub mod Flags
-pub mod PartRows
-pub mod Inverse

@@ -1,8 +1,0 @@
--- `plan_numbers::rows::at_most` meets its contract.
-use borrow.Author.Needs.{needs}
-use Rattle.plan_numbers.proofs.rows.at_most.Statement.{statement}
-use Rattle.plan_numbers.proofs.rows.at_most.Tie as tie
-
-pub at-most-spec : {M : Type 1} → statement M
-at-most-spec = tie.close (tie.spec (λ c κs. search needs) (λ c κs. search needs)
-    (λ c. rw (c .number-at2 .ensures, c .before .number-at .ensures)))

@@ -1,8 +1,0 @@
--- `plan_row::rows::peri` meets its contract.
-use borrow.Author.Needs.{needs}
-use Rattle.plan_row.proofs.rows.peri.Statement.{statement}
-use Rattle.plan_row.proofs.rows.peri.Tie as tie
-
-pub peri-spec : {M : Type 1} → statement M
-peri-spec = tie.close (tie.spec (λ c. search needs) (λ c κs. search needs) (λ c. search needs) (λ c. search needs)
-    (λ c. rw (c .peri-aux .ensures, c .before .before .peri .given .1)) (λ c. rw (c .enum-told .given .1)))

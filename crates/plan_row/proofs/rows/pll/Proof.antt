@@ -1,9 +1,0 @@
--- `plan_row::rows::pll` meets its contract.
-use borrow.Author.Needs.{needs}
-use Rattle.plan_row.proofs.rows.pll.Statement.{statement}
-use Rattle.plan_row.proofs.rows.pll.Tie as tie
-
-pub pll-spec : {M : Type 1} → statement M
-pll-spec = tie.close (tie.spec (λ c. search needs) (λ c. search needs) (λ c. search needs) (λ c. search needs)
-    (λ c. search needs) (λ c. search needs) (λ c. rw (c .before .before .before .before .before .pll .given .1))
-    (λ c. rw (c .enum-told .given .1)))

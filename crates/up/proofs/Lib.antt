@@ -1,7 +1,0 @@
-pub mod Stored
-pub mod Run
-pub mod Stream
-pub mod Wait
-pub mod Slow
-pub mod Waits
-pub mod ComesUp

@@ -1,4 +1,0 @@
-pub mod Up
-pub mod Wait
-pub mod Slow
-pub mod ComesUp
