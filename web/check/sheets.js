@@ -31,14 +31,10 @@ function casesOf(folder) {
   return read("stdin").map((line, i) => [line, answers[i]]).filter(([line, answer]) => answer !== "bad case" && line.length < 16000);
 }
 
-// Reading and order of a case that writes a sheet; null for any other. In one form of docs/CASES.md the chip is a number, and only
-// `sheet` writes one; in the other the chip is in the name, and the presets write one too.
-const numbered = /CHIP_IS_A_NUMBER = true/.test(fs.readFileSync(path.join(__dirname, "../src/cases.js"), "utf8"));
+// Reading and order of a case that writes a sheet; null for any other.
 function orderOf(line) {
-  const [name, reading, , ...rest] = line.split(" "), [, word, other] = /^(\w+?)(235)?$/.exec(name) || [];
-  if (numbered) return name === "sheet" ? { reading, order: (rest[0] === "1" ? "rp235x " : "") + "plan " + rest.slice(1).join(" ") } : null;
-  if (!["sheet", "crystal", "rosc", "default", "system", "system_from", "manual"].includes(word)) return null;
-  return { reading, order: (other ? "rp235x " : "") + [word === "sheet" ? "plan" : word, ...rest].join(" ") };
+  const [name, reading, , chip, ...plan] = line.split(" ");
+  return name === "sheet" ? { reading, order: (chip === "1" ? "rp235x " : "") + "plan " + plan.join(" ") } : null;
 }
 
 // Each sheet of the files is as ordered. A refused order is refused with the same number: it is compared with a sheet of its chip

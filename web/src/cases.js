@@ -1,5 +1,4 @@
-// The few cases of docs/CASES.md that this page asks beside the commands. CHIP_IS_A_NUMBER chooses between their two forms.
-const CHIP_IS_A_NUMBER = false;
+// The few cases of docs/CASES.md that this page asks beside the commands.
 const CHIPS = ["RP2040", "RP235x"], SHEET_BYTES = 528;
 
 // The bytes of an answer `LENGTH HEX`, or the refusal.
@@ -8,11 +7,9 @@ function writtenIn(text) {
   return /^\d+$/.test(words[0]) && words.length === 2 ? { hex: words[1] } : { refusal: refusalIn(text), text };
 }
 function sheetOfPlan(chip, plan, reading) {
-  return writtenIn(ask(CHIP_IS_A_NUMBER ? `sheet ${reading} ${SHEET_BYTES} ${chip} ${plan.join(" ")}`
-    : `sheet${chip ? "235" : ""} ${reading} ${SHEET_BYTES} ${plan.join(" ")}`));
+  return writtenIn(ask(`sheet ${reading} ${SHEET_BYTES} ${chip} ${plan.join(" ")}`));
 }
 function sheetOfPreset(chip, [name, ...numbers], reading) {
-  if (!CHIP_IS_A_NUMBER) return writtenIn(ask([name + (chip ? "235" : ""), reading, SHEET_BYTES, ...numbers].join(" ")));
   const text = ask([name, ...(name === "manual" ? [] : [chip]), ...numbers].join(" ")), refusal = refusalIn(text);
   return refusal ? { refusal } : sheetOfPlan(chip, linesIn(text)[0].split(" ").slice(1), reading);
 }
@@ -27,7 +24,7 @@ function orderedSheet(order, reading) {
 
 // The targets with the same PLL dividers as this one.
 function marginOf(crystal, target) {
-  const words = linesIn(ask(`margin ${crystal} ${target}`))[0].split(" "), none = (w) => w === "-" || w === "4294967296";
+  const words = linesIn(ask(`margin ${crystal} ${target}`))[0].split(" "), none = (w) => w === "4294967296";
   if (words.length !== 2 || words[0] === "refused") return null;
   return { from: none(words[0]) ? 0 : Number(words[0]) + 1, to: none(words[1]) ? 4294967295 : Number(words[1]) - 1 };
 }
