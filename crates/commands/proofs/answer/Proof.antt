@@ -1,4 +1,4 @@
--- `commands::answer` meets its contract.
+-- `commands::answer` meets its contract: the number of the first word picks the command; any other line is a case.
 use borrow.{Author.Needs.needs, Author.Tests.ne-eqb}
 use Rattle.commands.specs.Commands.{answerOf}
 use Rattle.commands.proofs.answer.Statement.{statement}

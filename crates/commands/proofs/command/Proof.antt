@@ -1,4 +1,4 @@
--- `commands::command` meets its contract.
+-- `commands::command` meets its contract: each test of a name that failed, and the one that held, pick the number.
 use mathlib.Core.Path.{sym, _∙_}
 use borrow.{Author.Needs.needs, Author.Tests.eq-eqb, Author.Tests.ne-eqb}
 use Rattle.commands.specs.Commands.{commandNamed}

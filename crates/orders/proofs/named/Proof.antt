@@ -1,4 +1,4 @@
--- `orders::named` meets its contract.
+-- `orders::named` meets its contract: each test of a name that failed, and the one that held, pick the row.
 use mathlib.Core.Path.{sym, _∙_}
 use borrow.Author.Needs.{needs}
 use Rattle.orders.specs.Orders.{presetNamed}

@@ -1,4 +1,4 @@
--- `orders::preset` meets its contract.
+-- `orders::preset` meets its contract: the number picks the row, and from 6 on there is none.
 use mathlib.Core.{Path._≡_, Path.refl, Path.ap, Path.sym, Path._∙_, Option.some}
 use Prim.Native.Nat.{zero-le}
 use borrow.Author.Needs.{needs}

@@ -1,4 +1,4 @@
--- `orders::read` meets its contract.
+-- `orders::read` meets its contract: the number of the order picks its letters, and from 6 on they are those of `plan`.
 use Prim.Native.Nat.{zero-le}
 use borrow.Author.Needs.{needs}
 use Rattle.orders.specs.Orders.{lettersOf}

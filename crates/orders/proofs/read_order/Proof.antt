@@ -1,4 +1,4 @@
--- `orders::read_order` meets its contract.
+-- `orders::read_order` meets its contract: `rp235x`, then whether the word names an order, decide.
 use mathlib.Core.Path.{sym, _∙_}
 use borrow.{Author.Needs.needs, Author.Tests.eq-eqb, Author.Tests.ne-eqb}
 use Rattle.orders.specs.Orders.{orderOf}

@@ -1,4 +1,4 @@
--- `verdict::put_compared` meets its contract.
+-- `verdict::put_compared` meets its contract: refused, no bit and some bit are the three ways of a comparison.
 use mathlib.Core.Path.{sym, ap, _∙_}
 use borrow.{Author.Needs.needs, Author.Tests.eq-eqb, Author.Tests.ne-eqb}
 use Rattle.verdict.specs.Verdict.{compared}

@@ -1,4 +1,4 @@
--- `commands::case::put_case` meets its contract.
+-- `commands::case::put_case` meets its contract: the buffer holds what it has room for of the answer.
 use borrow.Author.Needs.{needs}
 use Rattle.commands.specs.Case.{caseOf, held}
 use Rattle.commands.proofs.Said.{kept}
