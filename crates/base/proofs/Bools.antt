@@ -1,4 +1,5 @@
--- What a test that came out true or false says of its parts, and when it comes out so.
+-- Laws of tests: a conjunction, a disjunction or a range test that is true or false gives the values of its parts, and the range
+-- test is true for a number within its bounds.
 use mathlib.Core.{Path._≡_, Path.refl, Path.sym, Logic._⊎_, Logic.inl, Logic.inr}
 use mathlib.Core.Bool.{Bool, true, false, _&&_, _||_}
 use Prim.Native.Nat.{ℕ, _≤_}

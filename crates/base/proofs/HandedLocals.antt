@@ -1,5 +1,5 @@
--- The locals of the parameters that a walked function hands on (`HandedOn.antt`): how they are allocated, stored, read
--- as the callee's operands and freed goes by induction over the list.
+-- The locals of the parameters that a walked function hands on (`HandedOn.antt`). By induction over the list, they are allocated,
+-- stored, read as the callee's operands and freed.
 -- Assumes `Given`.
 use mathlib.Core.{Path._≡_, Path.refl, Path.sym, Path.subst, List.List, List.[], List._∷_}
 use Prim.Native.Nat.{ℕ, suc}
@@ -25,7 +25,7 @@ abbrev pub over : List Handed → ℕ → ℕ
 over [] k = k
 over (X ∷ Xs) k = suc (over Xs k)
 
--- they are copied, from the local m on
+-- the callee's operands: copies of the locals from m on
 abbrev pub operands : ℕ → List Handed → List Operand
 operands m [] = []
 operands m (X ∷ Xs) = copy (place m []) ∷ operands (suc m) Xs
@@ -45,7 +45,7 @@ abbrev pub entries : (Xs : List Handed) → Places Xs → Frame → Frame
 entries [] bs E = E
 entries (X ∷ Xs) bs E = (X .ty (named 1), bs .0) ∷ entries Xs (bs .1) E
 
--- from the local m on, the locals of E are theirs
+-- the locals of E from m on belong to the parameters
 abbrev pub At : Frame → ℕ → (Xs : List Handed) → Places Xs → Type 0
 At E m [] bs = Unit {0}
 At E m (X ∷ Xs) bs = (getD E m nowhere ≡ (X .ty (named 1), bs .0)) × At E (suc m) Xs (bs .1)
@@ -59,7 +59,7 @@ pub at-own : (Xs : List Handed) (bs : Places Xs) (E : Frame) → At (entries Xs 
 at-own [] bs E = tt
 at-own (X ∷ Xs) bs E = (refl, at-shift _ (entries Xs (bs .1) E) 0 Xs (bs .1) (at-own Xs (bs .1) E))
 
--- after the result and the first parameter
+-- their locals follow the result and the first parameter
 pub at-two : (e e′ : Ty × ℕ) (Xs : List Handed) (bs : Places Xs) (E : Frame) → At (e ∷ e′ ∷ entries Xs bs E) 2 Xs bs
 at-two e e′ Xs bs E =
     at-shift e (e′ ∷ entries Xs bs E) 1 Xs bs (at-shift e′ (entries Xs bs E) 0 Xs bs (at-own Xs bs E))
@@ -112,7 +112,7 @@ module _ {M : Type 1} {𝓤 : URA M} {H : Heap 𝓤} {A : Atoms 𝓤} {K : Type 
   free-all t κs (X ∷ Xs) bs a = step (λ s. split t $ split t $ forget t 0 refl $ free1 t $
       free-all t κs Xs (bs .1) (a .1) $ s)
 
-  -- a context is read as another that is had of it and gives it back
+  -- operands read in a context that this one gives, and from which this one is regained, can be read in this one
   read-as : {Γ Γ′ : List (Item 𝓤)} {E : Env 𝓤 H} {xs : List Operand} {vs : List Val}
       → ((P : SProp 𝓤) → Seq K W Γ′ (prop P) → Seq K W Γ (prop P))
       → ((P : SProp 𝓤) → Seq K W Γ (prop P) → Seq K W Γ′ (prop P)) → Opds K W Γ′ E xs vs → Opds K W Γ E xs vs
@@ -130,7 +130,7 @@ module _ {M : Type 1} {𝓤 : URA M} {H : Heap 𝓤} {A : Atoms 𝓤} {K : Type 
       (read-all t κs Xs (suc m) (bs .1) (a .1) {Γ = ‵ (fat fullShare (X .ty (named 1)) (bs .0) 0 (X .val (a .0))) ∷ ‵
       (fdies (X .ty (named 1)) (bs .0)) ∷ Γ} (h .1)))
 
-  -- as the callee is passed them, with what it asks before them
+  -- the same operands as the callee's values, where the context begins with what the callee requires
   pub read-second : K → (κs : Lfts 2) (Xs : List Handed) (m : ℕ) (bs : Places Xs) (a : Denots (rows ours κs Xs))
       {i : Item 𝓤} {Γ : List (Item 𝓤)} {E : Env 𝓤 H} → At E m Xs bs
       → Opds K W (i ∷ cells κs Xs bs a ∷ Γ) E (operands m Xs)

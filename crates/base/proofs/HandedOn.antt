@@ -1,5 +1,5 @@
--- The parameters that a walked function hands on to its callee as they came: a slice of bytes, a byte, a flag.
--- Each is copied, and is owned at exit as it was passed. They are a list, so that a walk is stated once for any number.
+-- The parameters that a walked function hands on to its callee unchanged: a slice of bytes, a byte, a flag. Each is copied, and
+-- is owned at exit as it was passed. They form a list, so that a walk is stated once for any number of them.
 -- Assumes `Given`.
 use mathlib.Core.{Path._≡_, Path.refl, Path.ap, List.List, List.[], List._∷_}
 use Prim.Native.Nat.{ℕ}
@@ -19,7 +19,7 @@ use denote.{Slice.ShrSlice, Slice.sliceVal, Slice.shr-slice-copy, Signature.Slot
 use denote.Triple.End.{all, Fins}
 use denote.Triple.Walked.{Stays, stay-none, AllGo, goes-none, fitsOf, hasOf}
 
--- a type of such a parameter, at a lifetime's name and at the lifetime
+-- the type of such a parameter, for a lifetime's name and for the lifetime itself
 pub record Handed : Type 2 where
   pub D : Type 0
   pub ty : Lifetime → Ty
@@ -47,7 +47,7 @@ bytes = record {
   twice = λ 𝓤 H A W κ. shr-slice-copy 𝓤 H A W (named 0) κ u8 .twice;
 }
 
--- of a type that names no lifetime
+-- a parameter whose type names no lifetime
 abbrev scalar : (R : RattleType) (val : R .Denot → Val) → Tells R (Is R) (λ x. val x ∷ [])
     → ((x : R .Denot) → Is R x (val x ∷ []) → T (hasTy (R .written .ty) (val x)) × WT (val x))
     → ((M : Type 1) (𝓤 : URA M) (H : Heap 𝓤) (A : Atoms 𝓤) → Given 𝓤 H A → Copy 𝓤 H A R) → Handed
@@ -81,7 +81,7 @@ rowOf X ν κ = record {
   coded = X .coded;
 }
 
--- ---- their places in a signature: how many lifetimes it has, and which is theirs
+-- ---- the signature that they are part of: its number of lifetimes, and the one that they have
 pub record Side : Type 0 where
   pub lifetimes : ℕ
   pub name : Lifetime
@@ -129,7 +129,7 @@ module _ (Σ : Side) where
     fit (X ∷ Xs) a = (tt, fit Xs (a .1))
 
     module _ {M : Type 1} (𝓤 : URA M) (H : Heap 𝓤) (A : Atoms 𝓤) where
-      -- what is owned is what is had of them at exit, and is had twice
+      -- what is owned of them is what the exit asks for, and it can be duplicated
       pub had : (Xs : List Handed) (a : Denots (rows Xs)) (vss : Valss (rows Xs))
           → ent 𝓤 (sem 𝓤 H A (owns (rows Xs) a vss))
           (sem 𝓤 H A (hasOf κs (slots Xs) (all yes (slots Xs)) (stays Xs) a (last Xs a) vss))
@@ -149,7 +149,7 @@ module _ (Σ : Side) where
           -- [Q; Q; P; P]
           move ! (2 ∷ 0 ∷ []) $ fjoin ! $ frame ! $ move ! (1 ∷ 0 ∷ []) $ fjoin ! $ done !
 
--- ---- in the function, and in its callee, which has their lifetime alone
+-- ---- the function's signature, and its callee's, whose only lifetime is theirs
 abbrev pub ours : Side
 ours = record { lifetimes = 2; name = named 1; lft = λ κs. κs .1 .0 }
 

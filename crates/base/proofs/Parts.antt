@@ -1,4 +1,5 @@
--- A loop that puts the parts of a text one behind another.
+-- The invariant of a loop that puts the parts of a text one after another: it holds before the first part, one more part keeps
+-- it, and at the end the whole text is placed.
 use mathlib.Core.{Path._≡_, Path.refl, Path.ap, Path._∙_, List.List, List.[], List._∷_, List._++_}
 use Prim.Native.Nat.{ℕ, _+_, _≤_, _<_, min}
 use native.Mathlib.{Numerals.add-one, Omega.arith}
@@ -27,11 +28,11 @@ module _ {text : ℕ → List ℕ} {count : ℕ} {before : List ℕ} {at : ℕ} 
       → Placed before at (text count) end out
   parts-all {i} p all = let whole : i ≡ count = omega (arith, p .inside) in rw whole at (p .placed)
 
--- one more of a list
+-- the first i + 1 elements are the first i and the one at index i
 pub next-taken : (s : List ℕ) (i : ℕ) → i < length s → take (i + 1) s ≡ take i s ++ (getD s i 0 ∷ [])
 next-taken s i inside = rw add-one (take-suc s i 0 inside)
 
--- the parts are those of a list, and all are put
+-- where the parts are made from a list's elements and all are put, the whole list's text is placed
 pub parts-of : (f : List ℕ → List ℕ) (s : List ℕ) {before out : List ℕ} {at i end : ℕ}
     → Parts (λ k. f (take k s)) (length s) before at i end out → length s ≤ i → Placed before at (f s) end out
 parts-of f s p all = rw (take-all (length s) s (omega arith)) at (parts-all p all)

@@ -1,4 +1,4 @@
--- Bytes placed run by run are placed as one run.
+-- Two runs of bytes placed one after the other are placed as one run, and a byte past the buffer's end is dropped.
 use mathlib.Core.{Path._≡_, Path.refl, Path.sym, Path.ap, Path._∙_, List.List, List.[], List._∷_, List._++_}
 use Prim.Native.Nat.{ℕ, suc, _+_, _≤_, min}
 use native.Mathlib.{Nat.add-zero, Decide.decLe, Omega.arith}
@@ -11,7 +11,7 @@ sets-out xs at [] out = refl
 sets-out xs at (b ∷ bs) out =
     ap (λ (l : List ℕ). sets l (suc at) bs) (set-out xs at b out) ∙ sets-out xs (suc at) bs (omega arith)
 
--- an index past the end may as well be the end
+-- an index past the end has the effect of the end
 sets-clamped : (xs : List ℕ) (at : ℕ) (bs : List ℕ) → sets xs (min at (length xs)) bs ≡ sets xs at bs
 sets-clamped xs at bs = elim (decLe at (length xs)) [
   | yes inside ↦ ap (λ (k : ℕ). sets xs k bs) (omega arith)
@@ -25,7 +25,7 @@ sets-run (c ∷ cs) xs at bs =
     let same : past xs at (c ∷ cs) ≡ past (set xs at c) (suc at) cs = simp length-set (omega arith) in
     ap (λ (k : ℕ). sets (sets (set xs at c) (suc at) cs) k bs) same ∙ sets-run cs (set xs at c) (suc at) bs
 
--- a run right behind another is one run
+-- a run that follows another is placed as one run with it
 pub placed-append : {xs ys zs : List ℕ} {at n m : ℕ} {cs bs : List ℕ}
     → Placed xs at cs n ys → Placed ys n bs m zs → Placed xs at (cs ++ bs) m zs
 placed-append {xs} {ys} {zs} {at} {n} {m} {cs} {bs} p q = record {
@@ -37,6 +37,6 @@ placed-append {xs} {ys} {zs} {at} {n} {m} {cs} {bs} p q = record {
   bytes = rw (q .bytes, p .bytes, p .index) (sets-run cs xs at bs);
 }
 
--- where the buffer has ended a byte is dropped
+-- past the buffer's end a byte is dropped
 pub placed-none : {xs : List ℕ} {at b : ℕ} → length xs ≤ at → Placed xs at (b ∷ []) (length xs) xs
 placed-none {xs} {at} {b} out = record { index = omega arith; bytes = sym (set-out xs at b out) }

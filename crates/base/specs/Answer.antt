@@ -1,4 +1,4 @@
--- What a call may answer. Each enum of the code has a definition that gives its cases as one of these.
+-- The answers of a call: a value or a refusal. For each enum of the code a definition maps its variants to one of these.
 use Prim.Native.Nat.{ℕ}
 use Rattle.base.specs.declared.{Number.Number, Length.Length}
 
@@ -7,7 +7,7 @@ pub data Answer (A : Type 0) : Type 0 where
   value : A → Answer A
   refusal : ℕ → Answer A
 
--- what the code's answers of numbers mean, and those of lengths
+-- the answers that the code's `Number` and `Length` mean
 abbrev pub numberIs : Number → Answer ℕ
 numberIs (Number.Value n) = value n
 numberIs (Number.Refused n) = refusal n

@@ -1,5 +1,5 @@
-// What the crates share: answers, division and subtraction that always answer, a range test, the choice of a refusal's number,
-// the start of a slice, and numbers put into a row.
+// What the crates share: answers, total division, saturating subtraction, a range test, the choice of a refusal's number, the
+// start of a slice, and numbers written into a row.
 ghost use mathlib.Core.List.{[], _∷_};
 ghost use mathlib.Core.Path.{_≡_};
 ghost use Prim.Native.Nat.{_/_, _-_, _≤_, min};
@@ -13,40 +13,41 @@ pub enum Number {
     Refused(u8),
 }
 
-// How many bytes were written, or a refusal by its number.
+// The number of bytes written, or a refusal by its number.
 pub enum Length {
     Bytes(usize),
     Refused(u8),
 }
 
-// a / b rounded down; 0 where b is 0.
+// Total division: a / b rounded down, 0 for b = 0.
 pub fn quotient(a: u64, b: u64) -> u64
     ensures { λ r. ⌜ r ≡ a / b ⌝ }
 {
     if b == 0 { 0 } else { a / b }
 }
 
-// The same for 32 bits, where division is cheaper.
+// Total division at 32 bits, which is cheaper.
 pub fn quotient32(a: u32, b: u32) -> u32
     ensures { λ r. ⌜ r ≡ a / b ⌝ }
 {
     if b == 0 { 0 } else { a / b }
 }
 
-// a - b, or 0 where b is greater.
+// Saturating subtraction: a - b, or 0 where b is greater.
 pub fn less(a: usize, b: usize) -> usize
     ensures { λ r. ⌜ r ≡ a - b ⌝ }
 {
     if a < b { 0 } else { a - b }
 }
 
-// The same for bytes.
+// Saturating subtraction of bytes.
 pub fn less8(a: u8, b: u8) -> u8
     ensures { λ r. ⌜ r ≡ a - b ⌝ }
 {
     if a < b { 0 } else { a - b }
 }
 
+// The smaller of a and b.
 pub fn least(a: usize, b: usize) -> usize
     ensures { λ r. ⌜ r ≡ min a b ⌝ }
 {
@@ -67,21 +68,21 @@ pub fn bit(test: bool) -> u32
     if test { 1 } else { 0 }
 }
 
-// low ≤ x ≤ high
+// Whether low ≤ x ≤ high; both ends are in the range.
 pub fn in_range(low: u64, high: u64, x: u64) -> bool
     ensures { λ r. ⌜ r ≡ inRange low high x ⌝ }
 {
     (low <= x) & (x <= high)
 }
 
-// The number where the test holds, else rest.
+// The number if the test holds, rest otherwise.
 pub fn number_when(test: bool, number: u8, rest: u8) -> u8
     ensures { λ r. ⌜ r ≡ pick test number rest ⌝ }
 {
     if test { number } else { rest }
 }
 
-// The first n bytes, or all where there are no more.
+// The first n bytes of s, or all of s where it has fewer.
 pub fn first(s: &[u8], n: usize) -> &[u8]
     ensures { λ r. ⌜ now r ≡ take n (now (s .entry)) ⌝ }
 {
@@ -91,7 +92,7 @@ pub fn first(s: &[u8], n: usize) -> &[u8]
     s
 }
 
-// A number at a place, if the row reaches that far, and the place behind it.
+// Writes n at index `at` if the row has that index, and answers the index after it, at most the row's length.
 pub fn put_number(row: &mut [u32], at: usize, n: u32) -> usize
     ensures { λ r. ⌜ Placed (now (row .entry)) at (n ∷ []) r (now (row .exit)) ⌝ }
 {
@@ -102,7 +103,7 @@ pub fn put_number(row: &mut [u32], at: usize, n: u32) -> usize
     row.len()
 }
 
-// Numbers from a place on.
+// Writes the numbers ns from index `at` on and answers the index after them; those past the row's end are dropped.
 pub fn put_numbers(row: &mut [u32], at: usize, ns: &[u32]) -> usize
     ensures { λ r. ⌜ Placed (now (row .entry)) at (now (ns .entry)) r (now (row .exit)) ⌝ }
 {

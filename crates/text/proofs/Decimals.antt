@@ -1,4 +1,5 @@
--- Printed numbers: digit by digit, and read back. Read numbers: when some bytes spell one.
+-- Decimal numbers are printed digit by digit, a printed number reads back as itself, and bytes spell a number just where their
+-- length, digits and value allow it.
 use mathlib.Core.{Path._≡_, Path.refl, Path.ap, Path._∙_, Bool.Bool, Bool.true, Bool.false, Bool._&&_}
 use mathlib.Core.List.{List, [], _∷_, _++_}
 use Prim.Native.Nat.{ℕ, zero, suc, _+_, _-_, _*_, _/_, _%_, _^_, _≤_, _<_}
@@ -36,7 +37,7 @@ decimal-more n more =
     digits-more n n more
     ∙ ap (λ (ds : List ℕ). ds ++ (lastDigit n ∷ [])) (enough n (suc (n / 10)) (n / 10) (omega arith) (omega arith))
 
--- what holds of the digits below 10, and of n's where it holds of those of n / 10, holds of all
+-- induction over the digits: what holds of a number below 10, and of n where it holds of n / 10, holds of all
 by-digits : (P : ℕ → List ℕ → Type 0) → ((n : ℕ) → n < 10 → P n (lastDigit n ∷ []))
     → ((n : ℕ) (ds : List ℕ) → 10 ≤ n → P (n / 10) ds → P n (ds ++ (lastDigit n ∷ [])))
     → (k n : ℕ) → n < k → P n (decimalOf n)
@@ -52,7 +53,7 @@ value-last : (cs : List ℕ) (n d : ℕ) → valueAfter n (cs ++ (d ∷ [])) ≡
 value-last [] n d = refl
 value-last (c ∷ cs) n d = value-last cs (n * 10 + (c - 48)) d
 
--- what is printed for n has the value n
+-- the digits printed for n have the value n
 pub value-decimal : (n : ℕ) → valueOf (decimalOf n) ≡ n
 unfolding valueOf
 value-decimal n = by-digits (λ (m : ℕ) (ds : List ℕ). valueAfter 0 ds ≡ m)
@@ -69,7 +70,7 @@ all-last (c ∷ cs) d h e =
 last-is-digit : (n : ℕ) → isDigit (lastDigit n) ≡ true
 last-is-digit n = rw (le-leb 48 (48 + n % 10) (omega arith), le-leb (48 + n % 10) 57 (omega arith))
 
--- what is printed is digits
+-- only digits are printed
 pub digits-decimal : (n : ℕ) → allDigits (decimalOf n) ≡ true
 digits-decimal n = by-digits (λ (m : ℕ) (ds : List ℕ). allDigits ds ≡ true)
     (λ m small. rw (last-is-digit m))
@@ -92,7 +93,7 @@ pub value-grows : (cs : List ℕ) (n : ℕ) → n ≤ valueAfter n cs
 value-grows [] n = omega arith
 value-grows (c ∷ cs) n = let h = value-grows cs (n * 10 + (c - 48)) in omega arith
 
--- one byte more is read
+-- the value and the digit test, with one byte more read
 module _ (s : List ℕ) (i : ℕ) (inside : i < length s) where
   pub value-step : (n : ℕ) → valueAfter n (drop i s) ≡ valueAfter (n * 10 + (getD s i 0 - 48)) (drop (i + 1) s)
   value-step n = rw (add-one, drop-cons s i 0 inside)
@@ -100,7 +101,7 @@ module _ (s : List ℕ) (i : ℕ) (inside : i < length s) where
   pub digits-step : allDigits (drop i s) ≡ (isDigit (getD s i 0) && allDigits (drop (i + 1) s))
   digits-step = rw (add-one, drop-cons s i 0 inside)
 
--- what spells no number
+-- bytes that spell no number: a wrong length, a byte that is no digit, a value above 32 bits
 pub bad-length : (cs : List ℕ) → inRange 1 10 (length cs) ≡ false → numberOf cs ≡ refusal 24
 unfolding numberOf isNumber
 bad-length cs e = rw e
@@ -124,14 +125,14 @@ bad-value cs h =
     let e : leb (valueOf cs) 4294967295 ≡ false = lt-leb (valueOf cs) 4294967295 h in
     rw (third (inRange 1 10 (length cs)) (allDigits cs) (leb (valueOf cs) 4294967295) e)
 
--- what spells one
+-- bytes that spell one
 pub good-number : (cs : List ℕ) → 1 ≤ length cs → length cs ≤ 10 → allDigits cs ≡ true → valueOf cs ≤ 4294967295
     → numberOf cs ≡ value (valueOf cs)
 unfolding numberOf isNumber
 good-number cs h l e v =
     rw (le-leb 1 (length cs) h, le-leb (length cs) 10 l, e, le-leb (valueOf cs) 4294967295 v)
 
--- what is printed for a number of 32 bits reads back as that number
+-- the digits printed for a 32-bit number read back as that number
 pub decimal-back : (n : ℕ) → n ≤ 4294967295 → numberOf (decimalOf n) ≡ value n
 decimal-back n h =
     let l = length-decimal 9 n (omega arith) in

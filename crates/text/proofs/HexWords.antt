@@ -1,4 +1,5 @@
--- What reading a word of hex into a buffer says.
+-- A word of hex that is read into a buffer is readable and its bytes are at the buffer's start; where the answer is Bad the word
+-- is not readable.
 use mathlib.Core.{Path._≡_, Path.refl, Path.sym, Path.ap, Path._∙_, Bool.Bool, Bool.true, Bool.false, List.List}
 use mathlib.Core.Option.{none, some}
 use Prim.Native.Nat.{ℕ, _+_, _≤_}

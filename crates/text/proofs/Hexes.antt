@@ -1,4 +1,4 @@
--- Hex digits: printed byte by byte, read pair by pair, and read back as printed.
+-- Hex digits are printed byte by byte and read pair by pair, and printed bytes read back as themselves.
 use mathlib.Core.{Path._≡_, Path.refl, Path.ap, Path._∙_, Bool.Bool, Bool.true, Bool.false}
 use mathlib.Core.{List.List, List.[], List._∷_, List._++_, Option.some}
 use Prim.Native.Nat.{ℕ, suc, _+_, _-_, _/_, _%_, _≤_, _<_}
@@ -22,12 +22,12 @@ hex-append : (xs ys : List ℕ) → hexDigits (xs ++ ys) ≡ hexDigits xs ++ hex
 hex-append [] ys = refl
 hex-append (x ∷ xs) ys = ap (λ (l : List ℕ). hexDigit (x / 16) ∷ hexDigit (x % 16) ∷ l) (hex-append xs ys)
 
--- one byte more is printed
+-- the digits of the first i + 1 bytes are those of the first i and the pair of byte i
 pub hex-step : (s : List ℕ) (i : ℕ) → i < length s
     → hexDigits (take (i + 1) s) ≡ hexDigits (take i s) ++ hexPair (getD s i 0)
 hex-step s i inside = rw (add-one, take-suc s i 0 inside) (hex-append (take i s) (getD s i 0 ∷ []))
 
--- some bytes are printed without the `-`
+-- one byte or more is printed as its digits, none as `-`
 pub hex-some : (s : List ℕ) → 1 ≤ length s → hexOf s ≡ hexDigits s
 unfolding hexOf
 hex-some [] h = absurd (omega arith)
@@ -38,7 +38,7 @@ unfolding hexOf
 hex-none [] h = refl
 hex-none (b ∷ bs) h = absurd (omega arith)
 
--- two bytes more are read, or one is left
+-- from index i on: two bytes and the rest, or a single byte, which is no pair
 pub pair-step : (s : List ℕ) (i : ℕ) → i + 1 < length s → drop i s ≡ getD s i 0 ∷ getD s (i + 1) 0 ∷ drop (i + 2) s
 pair-step s i inside =
     let two : suc (i + 1) ≡ i + 2 = omega arith in
@@ -109,7 +109,7 @@ module _ (w xs : List ℕ) where
       rw e (le-leb (length (pairValues w)) (length xs) (omega arith)) in
       record { answer = rw readable (ap some (omega arith)); bytes = rw readable (p .bytes) }
 
--- a digit stands for its number
+-- the digit printed for a number has that number as its value
 digit-back : (d : ℕ) → d < 16 → (hexValue (hexDigit d) ≡ d) × (isHex (hexDigit d) ≡ true)
 digit-back d h = elim (decLt d 10) [
   | yes small ↦
@@ -120,7 +120,7 @@ digit-back d h = elim (decLt d 10) [
       rw (l, e, le-leb 97 (87 + d) (omega arith), le-leb (87 + d) 102 (omega arith)) (omega arith, refl)
 ]
 
--- the bytes that are printed are read
+-- the digits printed for bytes are pairs, and their values are the bytes
 pairs-back : (bs : List ℕ) → areBytes bs ≡ true → (arePairs (hexDigits bs) ≡ true) × (pairValues (hexDigits bs) ≡ bs)
 pairs-back [] h = (refl, refl)
 pairs-back (b ∷ bs) h =

@@ -1,4 +1,5 @@
--- The first of a byte from an index on, and the bytes before it.
+-- The index of the first occurrence of a byte, the bytes before it, and how many bytes of an input decide the number on its first
+-- line.
 use mathlib.Core.{Path._≡_, Path.refl, Path.sym, Path.ap, Path._∙_, Bool.Bool, Bool.true, Bool.false}
 use mathlib.Core.{List.List, List.[], List._∷_, Logic._⊎_, Logic.inl, Logic.inr}
 use Prim.Native.Nat.{ℕ, zero, suc, _+_, _-_, _≤_, _<_}
@@ -33,7 +34,7 @@ take-up b (x ∷ xs) = go (eqb x b) (take-up b xs)
     go true e = refl
     go false e = ap (λ (l : List ℕ). x ∷ l) e
 
--- so they end at its index
+-- so the bytes from at to the index of b are those up to b
 pub between : (s : List ℕ) (at b : ℕ) → take (indexFrom s at b - at) (drop at s) ≡ upTo b (drop at s)
 unfolding indexFrom
 between s at b =
@@ -53,7 +54,8 @@ up-take b (suc n) (x ∷ xs) = go (eqb x b) (up-take b n xs)
 pub too-long : (cs : List ℕ) → 10 < length cs → numberOf cs ≡ refusal 24
 too-long cs h = bad-length cs (rw (le-leb 1 (length cs) (omega arith), lt-leb (length cs) 10 h))
 
--- of the first n bytes a word of at most 10 is the same; a longer one is no number, nor is what n bytes have of it
+-- for n above 10, a word of at most 10 bytes is unchanged in the first n bytes; a longer word is no number, and neither is its
+-- part in the first n bytes
 pub word-known : (b n : ℕ) (s : List ℕ) → 10 < n
     → ((length (upTo b s) ≤ 10) × (upTo b (take n s) ≡ upTo b s))
     ⊎ ((numberOf (upTo b (take n s)) ≡ refusal 24) × (numberOf (upTo b s) ≡ refusal 24))
@@ -64,7 +66,7 @@ word-known b n s enough = elim (decLe (length (upTo b s)) 10) [
       inr (ap numberOf (up-take b n s) ∙ too-long (take n (upTo b s)) cut, too-long (upTo b s) (omega arith))
 ]
 
--- the first 11 bytes decide: a program may read so many and leave the rest
+-- the first 11 bytes decide the number, so a program may read 11 and leave the rest
 pub line-start : (n : ℕ) (s : List ℕ) → 11 ≤ n → lineNumberOf (take n s) ≡ lineNumberOf s
 line-start n s h = elim (word-known 10 n s (omega arith)) [
   | inl same ↦ ap numberOf (same .1)

@@ -1,4 +1,5 @@
--- What finds room is written whole, and where the first bytes of an input decide they are enough to read.
+-- An output that fits the buffer is written whole, and where the first bytes of an input decide the output, reading these is
+-- enough.
 use mathlib.Core.{List.List, Path._≡_, Path.ap, Path._∙_}
 use Prim.Native.Nat.{ℕ, _≤_}
 use native.Mathlib.{Nat.zero-add, Omega.arith}

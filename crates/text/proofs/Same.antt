@@ -1,4 +1,4 @@
--- Texts are equal just where the test says so.
+-- The test `same` is true just for equal texts, which have equal lengths.
 use mathlib.Core.{Path._≡_, Path.refl, Path.ap, Bool.true, List.List, List.[], List._∷_}
 use Prim.Native.Nat.{ℕ}
 use native.Mathlib.Omega.{arith}

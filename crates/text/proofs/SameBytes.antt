@@ -1,4 +1,4 @@
--- The test of two texts byte by byte, as it is walked.
+-- The comparison of two texts, one byte more at a time, as the loop of `same_bytes` takes it.
 use mathlib.Core.{Path._≡_, Path.refl, Path.sym, Path.ap, Path._∙_, Bool.Bool, Bool.true, Bool.false, Bool._&&_}
 use mathlib.Core.List.{List, []}
 use Prim.Native.Nat.{ℕ, _+_, _<_, _≤_}
@@ -11,7 +11,7 @@ and-assoc : (a b c : Bool) → a && (b && c) ≡ (a && b) && c
 and-assoc true b c = refl
 and-assoc false b c = refl
 
--- one byte more
+-- byte i and the comparison from i + 1 on give the comparison from i on
 pub same-next : (xs ys : List ℕ) (i : ℕ) (ok : Bool) → i < length xs → i < length ys
     → (ok && eqb (getD xs i 0) (getD ys i 0)) && same (drop (i + 1) xs) (drop (i + 1) ys)
     ≡ ok && same (drop i xs) (drop i ys)
@@ -21,7 +21,7 @@ same-next xs ys i ok h k =
     = rw (drop-cons xs i 0 h, drop-cons ys i 0 k, add-one) refl in
     sym (ap (λ (b : Bool). ok && b) one ∙ and-assoc ok _ _)
 
--- other lengths
+-- texts of different lengths differ
 pub same-other : (xs ys : List ℕ) → (length xs ≡ length ys → _≡_ {A = ℕ} 0 1) → same xs ys ≡ false
 same-other xs ys h = go (same xs ys) refl
   where
@@ -29,7 +29,7 @@ same-other xs ys h = go (same xs ys) refl
     go true e = let z : _≡_ {A = ℕ} 0 1 = h (same-length xs ys e) in absurd (omega arith)
     go false e = e
 
--- at the end nothing is left
+-- at the end nothing is left to compare
 pub same-end : (xs ys : List ℕ) (i : ℕ) (ok : Bool) → length xs ≤ i → length xs ≡ length ys
     → ok && same (drop i xs) (drop i ys) ≡ ok
 same-end xs ys i ok h e =

@@ -1,4 +1,4 @@
--- Quoted text as bytes: the code of each character.
+-- Quoted text as bytes, the ASCII code of each character, and the comparison of two texts.
 use mathlib.Core.{Bool.Bool, Bool.true, Bool.false, Bool._&&_, List.List, List.[], List._∷_}
 use Prim.Native.{Nat.ℕ, Char.code, String.String, String.[] as ended, String._∷_ as _before_}
 use lib.Dec.{eqb}

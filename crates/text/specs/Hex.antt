@@ -1,4 +1,5 @@
--- Bytes as hexadecimal digits, two a byte, the more significant first: what is printed, and what is read.
+-- Bytes as hexadecimal digits, two for each byte, the more significant first: the text printed for bytes, and the bytes that a
+-- text spells.
 use mathlib.Core.{Path._≡_, Bool.Bool, Bool.true, Bool.false, Bool._&&_, Bool._||_, List.List, List.[], List._∷_, List._++_}
 use mathlib.Core.Option.{Option, none, some}
 use Prim.Native.Nat.{ℕ, _+_, _-_, _*_, _/_, _%_}
@@ -19,12 +20,12 @@ abbrev pub hexDigits : List ℕ → List ℕ
 hexDigits [] = []
 hexDigits (b ∷ bs) = hexPair b ++ hexDigits bs
 
--- what is printed for bytes: `-` for none
+-- the text printed for bytes; `-` where there are none
 unfoldable pub hexOf : List ℕ → List ℕ
 hexOf [] = 45 ∷ []
 hexOf (b ∷ bs) = hexDigits (b ∷ bs)
 
--- what a digit stands for, capital letters too; 0 for what is none
+-- the value of a hex digit of either case; 0 for any other byte
 abbrev pub hexValue : ℕ → ℕ
 hexValue c =
     pick (isDigit c) (c - 48) (pick (inRange 97 102 c) (c - 87) (pick (inRange 65 70 c) (c - 55) 0))
@@ -52,7 +53,7 @@ isHexWord [] = false
 isHexWord (c ∷ []) = eqb c 45
 isHexWord (a ∷ b ∷ cs) = arePairs (a ∷ b ∷ cs)
 
--- such a word, and room for its bytes; `-` has none
+-- a word of hex whose bytes fit the room; `-` has no bytes
 unfoldable pub isReadable : List ℕ → ℕ → Bool
 isReadable w room = isHexWord w && leb (length (pairValues w)) room
 
@@ -60,7 +61,7 @@ abbrev pub hexReadIs : HexRead → Option ℕ
 hexReadIs (Bytes n) = some n
 hexReadIs Bad = none
 
--- the call that read the word w into the buffer xs, answered r and left the buffer ys
+-- the call that reads the word w into the buffer xs, answers r and leaves the buffer ys; an unreadable word changes nothing
 pub record HexReading (w xs : List ℕ) (r : HexRead) (ys : List ℕ) : Type 0 where
   pub answer : hexReadIs r ≡ pick (isReadable w (length xs)) (some (length (pairValues w))) none
   pub bytes : ys ≡ pick (isReadable w (length xs)) (sets xs 0 (pairValues w)) xs

@@ -1,4 +1,4 @@
--- Lines and words: a line is closed by a newline or the end, a word by a space or the end.
+-- Lines and words: a line ends at a newline or the end of the text, a word at a space or the end of the line.
 use mathlib.Core.List.{List, [], _∷_}
 use Prim.Native.Nat.{ℕ, _+_}
 use lib.{Dec.eqb, ListN.length, ListN.drop}
@@ -14,6 +14,7 @@ upTo b (x ∷ xs) = pick (eqb x b) [] (x ∷ upTo b xs)
 unfoldable pub indexFrom : List ℕ → ℕ → ℕ → ℕ
 indexFrom xs at b = at + length (upTo b (drop at xs))
 
--- the number on the first line, as program `clocks` reads it (docs/PROGRAMS.md, Program clocks): what follows the newline is not looked at
+-- the number on the first line, as program `clocks` reads it (docs/PROGRAMS.md, Program clocks); bytes after the newline are
+-- ignored
 abbrev pub lineNumberOf : List ℕ → Answer ℕ
 lineNumberOf s = numberOf (upTo 10 s)

@@ -14,14 +14,14 @@ ghost use Rattle.text.specs.Hex.{arePairs, pairValues, isHexWord, HexRea
 ghost use Rattle.text.specs.Words.{upTo, indexFrom, lineNumberOf};
 ghost use Rattle.text.specs.Ascii.{same};
 
-// How many bytes a word of hex gave, or Bad where it is none or the buffer is too short.
+// The number of bytes that a word of hex spells, or Bad where it is no such word or the buffer is too short.
 pub enum HexRead {
     Bytes(usize),
     Bad,
 }
 
-// Each put_ function writes at `at` and answers the index past what it wrote. What lies past the buffer's end is
-// dropped, so a row of calls always means the bytes of all of them, one after another.
+// Writes b. Each put_ function writes at `at` and answers the index after its bytes. Bytes past the buffer's end are dropped, so
+// a sequence of calls places the bytes of all calls one after another.
 pub fn put_byte(buf: &mut [u8], at: usize, b: u8) -> usize
     ensures { λ r. ⌜ Placed (now (buf .entry)) at (b ∷ []) r (now (buf .exit)) ⌝ }
 {
@@ -32,6 +32,7 @@ pub fn put_byte(buf: &mut [u8], at: usize, b: u8) -> usize
     buf.len()
 }
 
+// Writes the bytes of s.
 pub fn put_bytes(buf: &mut [u8], at: usize, s: &[u8]) -> usize
     ensures { λ r. ⌜ Placed (now (buf .entry)) at (now (s .entry)) r (now (buf .exit)) ⌝ }
 {
@@ -51,7 +52,7 @@ fn last_digit(n: u64) -> u8
     b'0' + (n % 10) as u8
 }
 
-// n in decimal, without leading zeros.
+// Writes n in decimal, without leading zeros.
 pub fn put_decimal(buf: &mut [u8], at: usize, n: u64) -> usize
     ensures { λ r. ⌜ Placed (now (buf .entry)) at (decimalOf n) r (now (buf .exit)) ⌝ }
 {
@@ -70,6 +71,7 @@ fn hex_digit(b: u8) -> u8
     number_when(d < 10, b'0' + d, 87 + d)
 }
 
+// Writes the two hex digits of b.
 fn put_hex_byte(buf: &mut [u8], at: usize, b: u8) -> usize
     ensures { λ r. ⌜ Placed (now (buf .entry)) at (hexPair b) r (now (buf .exit)) ⌝ }
 {
@@ -77,7 +79,7 @@ fn put_hex_byte(buf: &mut [u8], at: usize, b: u8) -> usize
     put_byte(buf, end, hex_digit(b))
 }
 
-// The bytes of s in hex, two digits a byte; `-` for none.
+// Writes the bytes of s in hex, two digits for each byte; `-` where s is empty.
 pub fn put_hex(buf: &mut [u8], at: usize, s: &[u8]) -> usize
     ensures { λ r. ⌜ Placed (now (buf .entry)) at (hexOf (now (s .entry))) r (now (buf .exit)) ⌝ }
 {
@@ -99,14 +101,14 @@ fn between(low: u8, high: u8, c: u8) -> bool
     (low <= c) & (c <= high)
 }
 
-// What a digit stands for.
+// The value of a decimal digit.
 fn digit_value(c: u8) -> u64
     ensures { λ r. ⌜ (r ≡ c - 48) × (r < 256) ⌝ }
 {
     base::less8(c, b'0') as u64
 }
 
-// The number that all of s spells: 1 to 10 digits, up to 4294967295; 24 where it spells none.
+// The number that s spells: 1 to 10 decimal digits, at most 4294967295. Refusal: 24 where s spells no such number.
 pub fn number(s: &[u8]) -> base::Number
     ensures { λ r. ⌜ numberIs r ≡ numberOf (now (s .entry)) ⌝ }
 {
@@ -129,7 +131,7 @@ pub fn number(s: &[u8]) -> base::Number
     base::Number::Value(n as u32)
 }
 
-// The index of the first b from `at` on, or the end.
+// The index of the first b from `at` on, or the end of s where there is none; `at` itself where it is past the end.
 pub fn index_from(s: &[u8], at: usize, b: u8) -> usize
     ensures equal { λ r. ⌜ r ≡ indexFrom (now (s .entry)) at b ⌝ }
     ensures within { λ r. ⌜ (at ≤ r) × (r ≤ max at (length (now (s .entry)))) ⌝ }
@@ -144,7 +146,7 @@ pub fn index_from(s: &[u8], at: usize, b: u8) -> usize
     i
 }
 
-// The number that the bytes from `at` up to the next b, or the end, spell.
+// The number that the bytes from `at` up to the next b, or the end of s, spell. Refusal: 24 where they spell none.
 pub fn number_up_to(s: &[u8], at: usize, b: u8) -> base::Number
     ensures { λ r. ⌜ numberIs r ≡ numberOf (upTo b (drop at (now (s .entry)))) ⌝ }
 {
@@ -155,7 +157,7 @@ pub fn number_up_to(s: &[u8], at: usize, b: u8) -> base::Number
     number(&s[at..end])
 }
 
-// The number on the first line. What follows its newline is not looked at.
+// The number on the first line; bytes after its newline are ignored. Refusal: 24 where the line is no number.
 pub fn line_number(s: &[u8]) -> base::Number
     ensures { λ r. ⌜ numberIs r ≡ lineNumberOf (now (s .entry)) ⌝ }
 {
@@ -174,14 +176,14 @@ fn is_pair(a: u8, b: u8) -> bool
     is_hex(a) & is_hex(b)
 }
 
-// What c stands for where it is from low to high, zero being the byte that would stand for 0; else rest.
+// The value of c as a digit from low to high, where zero is the byte of value 0; rest for any other c.
 fn digit_in(low: u8, high: u8, zero: u8, c: u8, rest: u8) -> u8
     ensures { λ r. ⌜ r ≡ pick (inRange low high c) (c - zero) rest ⌝ }
 {
     number_when(between(low, high, c), base::less8(c, zero), rest)
 }
 
-// What a hex digit stands for; 0 for what is none.
+// The value of a hex digit of either case; 0 for any other byte.
 fn hex_value(c: u8) -> u8
     ensures { λ r. ⌜ (r ≡ hexValue c) × (r < 16) ⌝ }
 {
@@ -219,7 +221,7 @@ fn is_hex_word(s: &[u8]) -> bool
     are_pairs(s)
 }
 
-// The bytes that the pairs of s stand for; a byte that has no pair is left out.
+// Writes the bytes that the digit pairs of s spell; a last byte without its pair is left out.
 fn put_pairs(buf: &mut [u8], s: &[u8]) -> usize
     ensures { λ r. ⌜ Placed (now (buf .entry)) 0 (pairValues (now (s .entry))) r (now (buf .exit)) ⌝ }
 {
@@ -233,8 +235,8 @@ fn put_pairs(buf: &mut [u8], s: &[u8]) -> usize
     end
 }
 
-// Reads a word of hex digits, of either case, into the buffer. Where it is none, or the buffer is too short for its
-// bytes, nothing is written.
+// Reads a word of hex digits, of either case, into the buffer. Where s is no such word, or the buffer is too short for its bytes,
+// nothing is written.
 pub fn hex_bytes(s: &[u8], buf: &mut [u8]) -> HexRead
     ensures { λ r. ⌜ HexReading (now (s .entry)) (now (buf .entry)) r (now (buf .exit)) ⌝ }
 {
@@ -248,7 +250,7 @@ pub fn hex_bytes(s: &[u8], buf: &mut [u8]) -> HexRead
     HexRead::Bytes(n)
 }
 
-// Whether a and b hold the same bytes. It looks at all of them, so that many are compared at a time.
+// Whether a and b hold the same bytes. The loop has no early exit, so that it can compare several bytes at a time.
 pub fn same_bytes(a: &[u8], b: &[u8]) -> bool
     ensures { λ r. ⌜ r ≡ same (now (a .entry)) (now (b .entry)) ⌝ }
 {

@@ -1,4 +1,4 @@
--- `base::first` meets its contract.
+-- `base::first` meets its contract: a shorter prefix is a slice, and `take-all` gives the whole slice where n reaches its end.
 use mathlib.Core.Path.{sym}
 use borrow.Author.Needs.{needs}
 use lib.Seq.{take-all, length-take-le}

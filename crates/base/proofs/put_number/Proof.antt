@@ -1,4 +1,5 @@
--- `base::put_number` meets its contract.
+-- `base::put_number` meets its contract: inside the row the slice's assignment is the definition, and past its end `placed-none`
+-- drops the number.
 use borrow.Author.Needs.{needs}
 use Rattle.base.proofs.{Placing.placed-none, put_number.Statement.statement}
 use Rattle.base.proofs.put_number.Tie as tie

@@ -1,4 +1,5 @@
--- `base::put_numbers` meets its contract. Measure: the numbers left.
+-- `base::put_numbers` meets its contract: the invariant `Parts` says that the first i numbers are placed, `parts-next` appends
+-- the one that `put_number` places, and at the end `parts-of` gives them all. Measure: the numbers left.
 use mathlib.Core.Path.{refl}
 use Prim.Native.Nat.{_-_}
 use native.Mathlib.Omega.{arith}

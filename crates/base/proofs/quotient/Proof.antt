@@ -1,4 +1,4 @@
--- `base::quotient` meets its contract.
+-- `base::quotient` meets its contract: for a divisor of 0 the quotient is 0 by `div-zero`, and else it is the division itself.
 use borrow.Author.Needs.{needs}
 use native.Mathlib.Nat.{div-zero}
 use Rattle.base.proofs.quotient.Statement.{statement}

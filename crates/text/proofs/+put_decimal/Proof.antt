@@ -1,4 +1,5 @@
--- The proof of the cycle of calls {put_decimal}. The measure is the number.
+-- `text::put_decimal` meets its contract: below 10 the last digit is all, and from 10 on `decimal-more` appends it to the digits
+-- of n / 10, which the recursive call places. The measure is the number.
 use mathlib.Core.Path.{_∙_}
 use Prim.Native.Nat.{ℕ, _≤_, _<_}
 use native.Mathlib.Omega.{arith}

@@ -1,4 +1,5 @@
--- `text::are_pairs` meets its contract. Invariant: the first i bytes are pairs. Measure: what is left of s.
+-- `text::are_pairs` meets its contract: the invariant says that the bytes from i on are pairs just where all of s is, `pair-step`
+-- unfolds two bytes more, and `pair-last` rejects a single byte at the end. Measure: what is left of s.
 use mathlib.Core.Path.{_≡_, refl, sym, ap, _∙_}
 use Prim.Native.Nat.{_-_, _≤_}
 use native.Mathlib.Omega.{arith}

@@ -1,4 +1,4 @@
--- `text::digit_in` meets its contract.
+-- `text::digit_in` meets its contract: `number_when` gives the choice, `less8` its difference and `between` its test.
 use borrow.Author.Needs.{needs}
 use Rattle.text.proofs.digit_in.Statement.{statement}
 use Rattle.text.proofs.digit_in.Tie as tie

@@ -1,4 +1,5 @@
--- `text::hex_bytes` meets its contract.
+-- `text::hex_bytes` meets its contract: each exit is a law of `Hexes`: `no-word` and `no-room` for the two refusals, and
+-- `word-read` turns what `put_pairs` placed into the reading.
 use mathlib.Core.Path.{sym, _∙_}
 use native.Mathlib.Omega.{arith}
 use borrow.{Author.Needs.needs, Author.Tests.not-true, Author.Tests.not-false}

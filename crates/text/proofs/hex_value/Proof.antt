@@ -1,4 +1,5 @@
--- `text::hex_value` meets its contract.
+-- `text::hex_value` meets its contract: the three calls of `digit_in` are the three choices of the definition, and `hex-small`
+-- bounds their value by 16.
 use borrow.Author.Needs.{needs}
 use mathlib.Core.Path.{_≡_}
 use Rattle.text.specs.Hex.{hexValue}

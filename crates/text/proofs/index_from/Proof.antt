@@ -1,4 +1,5 @@
--- `text::index_from` meets its contract. Invariant: b is nowhere from at up to i. Measure: what is left of s.
+-- `text::index_from` meets its contract: the invariant says that the first b from i on is the first from `at` on; `index-hit`,
+-- `index-miss` and `index-end` are its three cases. Measure: what is left of s.
 use mathlib.Core.Path.{_≡_, refl, sym, _∙_}
 use Prim.Native.Nat.{_-_, _≤_, max}
 use native.Mathlib.Omega.{arith}

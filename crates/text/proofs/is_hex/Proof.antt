@@ -1,4 +1,4 @@
--- `text::is_hex` meets its contract.
+-- `text::is_hex` meets its contract: the three calls of `between` are the definition's three ranges.
 use borrow.Author.Needs.{needs}
 use Rattle.text.proofs.is_hex.Statement.{statement}
 use Rattle.text.proofs.is_hex.Tie as tie

@@ -1,4 +1,5 @@
--- `text::is_hex_word` meets its contract.
+-- `text::is_hex_word` meets its contract: the length picks the case of the definition: `word-none` for 0, `word-one` for 1, and
+-- `word-more` carries on the equation of `are_pairs`.
 use borrow.Author.Needs.{needs}
 use mathlib.Core.Path.{_∙_}
 use Rattle.text.proofs.{Hexes.word-none, Hexes.word-one, Hexes.word-more, is_hex_word.Statement.statement}

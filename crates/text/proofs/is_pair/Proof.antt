@@ -1,4 +1,4 @@
--- `text::is_pair` meets its contract.
+-- `text::is_pair` meets its contract: the two calls of `is_hex` are the definition's two tests.
 use borrow.Author.Needs.{needs}
 use Rattle.text.proofs.is_pair.Statement.{statement}
 use Rattle.text.proofs.is_pair.Tie as tie

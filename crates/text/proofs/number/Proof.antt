@@ -1,5 +1,6 @@
--- `text::number` meets its contract. Invariant: n is the value of the first i bytes, which are digits.
--- Measure: what is left of s.
+-- `text::number` meets its contract: the invariant says that n, continued with the bytes from i on, is the value of s, and that
+-- these are digits just where all of s is; the three refusals are `bad-length`, `bad-digits` and `bad-value`, where the value
+-- only grows, and the end is `good-number`. Measure: what is left of s.
 use mathlib.Core.Path.{_≡_, refl, sym, ap, _∙_}
 use Prim.Native.Nat.{ℕ, _+_, _-_, _*_, _≤_}
 use native.Mathlib.Omega.{arith}

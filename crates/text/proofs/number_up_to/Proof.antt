@@ -1,4 +1,5 @@
--- `text::number_up_to` meets its contract.
+-- `text::number_up_to` meets its contract: from the end of s on nothing is left, which is no number by `bad-length`; else
+-- `between` says that the slice up to the index of b is the word that `number` reads.
 use mathlib.Core.{Path.refl, Path.sym, Path.ap, Path._∙_, List.[]}
 use borrow.Author.Needs.{needs}
 use lib.ListN.{drop-of-length-le}

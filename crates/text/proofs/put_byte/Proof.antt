@@ -1,4 +1,5 @@
--- `text::put_byte` meets its contract.
+-- `text::put_byte` meets its contract: inside the buffer the slice's assignment is the definition, and past its end `placed-none`
+-- drops the byte.
 use borrow.Author.Needs.{needs}
 use Rattle.base.proofs.Placing.{placed-none}
 use Rattle.text.proofs.put_byte.Statement.{statement}

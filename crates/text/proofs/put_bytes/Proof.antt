@@ -1,4 +1,5 @@
--- `text::put_bytes` meets its contract. Measure: the bytes left.
+-- `text::put_bytes` meets its contract: the invariant `Parts` says that the first i bytes are placed, `parts-next` appends the
+-- one that `put_byte` places, and at the end `parts-of` gives them all. Measure: the bytes left.
 use mathlib.Core.Path.{refl}
 use Prim.Native.Nat.{_-_}
 use native.Mathlib.Omega.{arith}

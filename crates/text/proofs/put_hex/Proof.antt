@@ -1,4 +1,5 @@
--- `text::put_hex` meets its contract. Measure: the bytes left.
+-- `text::put_hex` meets its contract: no bytes print `-` by `hex-none`; else the invariant `Parts` says that the digits of the
+-- first i bytes are placed, and `hex-step` appends those of one byte more. Measure: the bytes left.
 use mathlib.Core.Path.{refl}
 use Prim.Native.Nat.{_-_, _≤_}
 use native.Mathlib.Omega.{arith}

@@ -1,4 +1,4 @@
--- `text::put_hex_byte` meets its contract.
+-- `text::put_hex_byte` meets its contract: `placed-append` joins the two digits, which `hex-pair` knows as the byte's pair.
 use native.Mathlib.Omega.{arith}
 use borrow.Author.Needs.{needs}
 use Rattle.base.proofs.Placing.{placed-append}

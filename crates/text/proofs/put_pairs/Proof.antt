@@ -1,5 +1,5 @@
--- `text::put_pairs` meets its contract. Invariant: once the rest of s is placed, all of it is.
--- Measure: what is left of s.
+-- `text::put_pairs` meets its contract: the invariant says that placing the pairs of the rest of s places all of them;
+-- `pair-step` unfolds one pair more, and `pairs-end` shows that fewer than two bytes give none. Measure: what is left of s.
 use mathlib.Core.{Path._≡_, Path.refl, Path.ap, Path._∙_, List.List}
 use Prim.Native.Nat.{ℕ, _+_, _-_, _*_, _≤_}
 use native.Mathlib.Omega.{arith}

@@ -1,4 +1,6 @@
--- `text::same_bytes` meets its contract. Invariant: what is left decides, with what was seen. Measure: what is left.
+-- `text::same_bytes` meets its contract: texts of different lengths differ by `same-other`; else the invariant says that the
+-- result so far and the comparison of the bytes from i on decide, `same-next` takes one byte more, and `same-end` closes the
+-- loop. Measure: what is left.
 use mathlib.Core.{Path._≡_, Path.refl, Path.sym, Path._∙_, Bool._&&_}
 use Prim.Native.Nat.{_-_, _≤_}
 use native.Mathlib.Omega.{arith}
