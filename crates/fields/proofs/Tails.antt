@@ -1,4 +1,4 @@
--- The first word of a line, and all that is left behind an index.
+-- The first word of a line ends at its first space, and what is taken up to the end from an index on is all the rest.
 use mathlib.Core.{Path._≡_, List.List}
 use Prim.Native.Nat.{ℕ, _-_}
 use native.Mathlib.Omega.{arith}

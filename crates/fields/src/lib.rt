@@ -1,17 +1,17 @@
-// Numbers of a row by their places, at 8, 16 and 32 bits.
+// Reads the numbers of a row by index, as 8, 16 or 32 bits.
 use pll::PllConfig;
 ghost use mathlib.Core.Path.{_≡_};
 ghost use Prim.Native.Nat.{min};
 ghost use Rattle.fields.specs.Row.{nth, byteAt, halfAt, roomAt, pllAt, tenAt};
 
-// The number at a place of a row, 0 past the row's end.
+// The number at index i of a row; 0 past the row's end.
 pub fn number_at(row: &[u32], i: usize) -> u32
     ensures { λ r. ⌜ r ≡ nth (now (row .entry)) i ⌝ }
 {
     if i < row.len() { row[i] } else { 0 }
 }
 
-// The same, cut at a top.
+// The number at index i, at most `top`.
 fn cut_at(row: &[u32], i: usize, top: u32) -> u32
     ensures { λ r. ⌜ r ≡ min (nth (now (row .entry)) i) top ⌝ }
 {
@@ -19,26 +19,28 @@ fn cut_at(row: &[u32], i: usize, top: u32) -> u32
     if n < top { n } else { top }
 }
 
+// The number at index i, clamped to 255.
 pub fn byte_at(row: &[u32], i: usize) -> u8
     ensures { λ r. ⌜ r ≡ byteAt (now (row .entry)) i ⌝ }
 {
     cut_at(row, i, 255) as u8
 }
 
+// The number at index i, clamped to 65535.
 pub fn half_at(row: &[u32], i: usize) -> u16
     ensures { λ r. ⌜ r ≡ halfAt (now (row .entry)) i ⌝ }
 {
     cut_at(row, i, 65535) as u16
 }
 
-// The length of a buffer, which is at most 1024.
+// The number at index i as the length of a buffer, clamped to 1024 bytes.
 pub fn room_at(row: &[u32], i: usize) -> usize
     ensures { λ r. ⌜ r ≡ roomAt (now (row .entry)) i ⌝ }
 {
     cut_at(row, i, 1024) as usize
 }
 
-// The four dividers of a PLL from place i on.
+// The four dividers of a PLL from index i on: reference, feedback, post 1, post 2.
 pub fn pll_at(row: &[u32], i: u16) -> PllConfig
     ensures { λ r. ⌜ r ≡ pllAt (now (row .entry)) i ⌝ }
 {
@@ -51,7 +53,7 @@ pub fn pll_at(row: &[u32], i: u16) -> PllConfig
     }
 }
 
-// Ten numbers from place i on.
+// Ten numbers from index i on.
 pub fn ten_at(row: &[u32], i: u16) -> [u32; 10]
     ensures { λ r. ⌜ r ≡ tenAt (now (row .entry)) i ⌝ }
 {

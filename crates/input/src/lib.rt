@@ -1,4 +1,4 @@
-// The first lines of standard input, for the programs that read them.
+// Reads the first lines of standard input for the programs.
 use libc::STDIN_FILENO;
 ghost use mathlib.Core.Path.{_≡_};
 ghost use Prim.Native.Nat.{_≤_};
@@ -7,21 +7,21 @@ ghost use lib.ListN.{length};
 ghost use Rattle.base.specs.Choice.{pick};
 ghost use Rattle.input.specs.Line.{Fits};
 
-// What reading finds: so many bytes, or an error.
+// The number of bytes read, or a read error.
 pub enum Line {
     Bytes(usize),
     Unread,
 }
 
-// How many lines a byte ends.
+// The number of lines that a byte ends: 1 for a newline, 0 otherwise.
 fn ends(b: u8) -> usize
     ensures { λ r. ⌜ (r ≡ pick (eqb b 10) 1 0) × (r ≤ 1) ⌝ }
 {
     if b == b'\n' { 1 } else { 0 }
 }
 
-// Reads so many lines, or up to the end of the input or a full buffer, and answers how many bytes it put there. What they
-// are no contract can say.
+// Reads up to `lines` lines, the end of the input or a full buffer, and answers the number of bytes stored. The contract does not
+// cover which bytes they are, as they are program input.
 pub fn read_lines(buffer: &mut [u8], lines: usize) -> Line
     ensures { λ r. ⌜ Fits r (length (now (buffer .exit))) ⌝ }
 {
@@ -46,6 +46,7 @@ pub fn read_lines(buffer: &mut [u8], lines: usize) -> Line
     Line::Bytes(n)
 }
 
+// Reads the first line, or as much of it as the buffer holds.
 pub fn read_line(line: &mut [u8]) -> Line
     ensures { λ r. ⌜ Fits r (length (now (line .exit))) ⌝ }
 {

@@ -29,7 +29,7 @@ fed-line line before other size room =
     rw zero-add at (feeds-line line before 0 other (omega arith)) in
     rw (all, le-ltb 4096 (length line) room, first-bytes line before (omega arith))
 
--- a line of too many bytes, and one of which n bytes are held
+-- a line that is too long already, and one that becomes too long after n held bytes
 stays-over : (line before : List ℕ) → NoNewline line → feeds (heldOf before 4097) line ≡ heldOf before 4097
 unfolding feeds fed
 stays-over [] before other = refl

@@ -1,4 +1,4 @@
-// Lines gathered byte by byte from pieces of a text of any size, and the answer to each on standard output.
+// Gathers lines byte by byte from pieces of a text of any size, and writes the answer to each line to standard output.
 use libc::STDIN_FILENO;
 use libc::STDOUT_FILENO;
 ghost use mathlib.Core.Path.{_≡_};
@@ -7,13 +7,14 @@ ghost use lib.ListN.{length};
 ghost use Rattle.base.specs.Placed.{Placed};
 ghost use Rattle.lines.specs.Lines.{heldOf, heldText, pushed, feeds, feedsOut, Feeding};
 
-// How many bytes of a line are held after a byte, 4097 for a line of more than 4096; and how long the answer is, 0 for none.
+// The number of bytes held after a byte is taken, 4097 for a line of more than 4096; and the answer's length, 0 where there is
+// none.
 pub struct Fed {
     pub len: usize,
     pub answer: usize,
 }
 
-// A byte more of a line.
+// Adds a byte to the held line and answers its new length, 4097 where it is too long.
 fn push(held: &mut [u8; 4096], len: usize, b: u8) -> usize
     ensures { λ r. ⌜ heldOf (now (held .exit)) r ≡ pushed (heldOf (now (held .entry)) len) b ⌝ }
 {
@@ -24,7 +25,7 @@ fn push(held: &mut [u8; 4096], len: usize, b: u8) -> usize
     4097
 }
 
-// Answers the line held, and closes the answer with a newline.
+// Writes the answer to the held line and a newline, and answers the index after them.
 fn answer(held: &[u8], len: usize, out: &mut [u8]) -> usize
     ensures placed { λ r. ⌜ Placed (now (out .entry)) 0 (heldText (heldOf (now (held .entry)) len)) r (now (out .exit)) ⌝ }
     ensures short { λ _. ⌜ length (heldText (heldOf (now (held .entry)) len)) ≤ 3478 ⌝ }
@@ -37,7 +38,7 @@ fn answer(held: &[u8], len: usize, out: &mut [u8]) -> usize
     text::put_byte(out, end, b'\n')
 }
 
-// Takes a byte. A newline closes the line held, which is then answered.
+// Takes a byte. A newline closes the held line, which is then answered.
 fn feed(held: &mut [u8; 4096], len: usize, b: u8, out: &mut [u8]) -> Fed
     ensures { λ r. ⌜ Feeding (heldOf (now (held .entry)) len) b (now (out .entry)) r (now (held .exit)) (now (out .exit)) ⌝ }
 {
@@ -49,7 +50,7 @@ fn feed(held: &mut [u8; 4096], len: usize, b: u8, out: &mut [u8]) -> Fed
     Fed { len, answer: 0 }
 }
 
-// Answers each line that a piece closes, in their order, and holds what follows the last.
+// Answers each line that the piece closes, in order, and holds the bytes after the last newline; answers how many are held.
 pub fn take_piece(piece: &[u8], held: &mut [u8; 4096], before: usize, out: &mut [u8]) -> usize
     ensures held { λ r. ⌜ heldOf (now (held .exit)) r ≡ feeds (heldOf (now (held .entry)) before) (now (piece .entry)) ⌝ }
     ensures out { λ _. ⌜ now (out .exit) ≡ feedsOut (heldOf (now (held .entry)) before) (now (out .entry)) (now (piece .entry)) ⌝ }
@@ -66,12 +67,12 @@ pub fn take_piece(piece: &[u8], held: &mut [u8; 4096], before: usize, out: &mut 
     len
 }
 
-// Answers the lines of standard input. The last may lack its newline.
+// Answers the lines of standard input; the last line may lack its newline.
 pub fn serve() {
     let mut held = [0u8; 4096];
     let mut out = [0u8; 4096];
     let mut len = 0;
-    // A loop has to end: no input has so many pieces.
+    // The count bounds the loop, as every loop has to end; no input has 2 ^ 64 pieces.
     let mut turns = u64::MAX;
     while 0 < turns {
         let mut piece = io::large_buffer();

@@ -1,4 +1,4 @@
--- One number more behind a space.
+-- Numbers that each follow a space are printed one by one: the text of two lists is that of both, one after the other.
 use mathlib.Core.Path.{_≡_, refl, ap}
 use mathlib.Core.List.{List, [], _∷_, _++_, append-nil, append-assoc}
 use Prim.Native.Nat.{ℕ, _+_, _<_}

@@ -1,16 +1,18 @@
-// The texts that answers are made of, each put into the caller's buffer.
+// Writes the texts that answers consist of into the caller's buffer. Each function answers the index after its text.
 ghost use mathlib.Core.List.{_∷_};
 ghost use Rattle.base.specs.Placed.{Placed};
 ghost use Rattle.text.specs.Decimal.{decimalOf};
 ghost use Rattle.text.specs.Output.{Whole};
 ghost use Rattle.replies.specs.Reply.{badCase, refusedText, refusedLine, spaced, rowText};
 
+// Writes `bad case` at the buffer's start.
 pub fn put_bad(out: &mut [u8]) -> usize
     ensures { λ r. ⌜ Placed (now (out .entry)) 0 badCase r (now (out .exit)) ⌝ }
 {
     text::put_bytes(out, 0, b"bad case")
 }
 
+// Writes `refused N` at the buffer's start.
 pub fn put_refused(out: &mut [u8], number: u8) -> usize
     ensures { λ r. ⌜ Placed (now (out .entry)) 0 (refusedText number) r (now (out .exit)) ⌝ }
 {
@@ -18,6 +20,7 @@ pub fn put_refused(out: &mut [u8], number: u8) -> usize
     text::put_decimal(out, end, number as u64)
 }
 
+// Writes `refused N` and a newline at the buffer's start.
 pub fn put_refused_line(out: &mut [u8], number: u8) -> usize
     ensures { λ r. ⌜ Placed (now (out .entry)) 0 (refusedLine number) r (now (out .exit)) ⌝ }
 {
@@ -25,14 +28,14 @@ pub fn put_refused_line(out: &mut [u8], number: u8) -> usize
     text::put_byte(out, end, b'\n')
 }
 
-// A program's whole output where its input cannot be read.
+// Writes `refused 24` and a newline, a program's whole output where its input cannot be read.
 pub fn put_unread(out: &mut [u8; 11]) -> usize
     ensures { λ r. ⌜ Whole (refusedLine 24) (now (out .entry)) r (now (out .exit)) ⌝ }
 {
     put_refused_line(out, 24)
 }
 
-// A space and a number.
+// Writes a space and a number.
 fn put_next(out: &mut [u8], at: usize, n: u64) -> usize
     ensures { λ r. ⌜ Placed (now (out .entry)) at (32 ∷ decimalOf n) r (now (out .exit)) ⌝ }
 {
@@ -40,7 +43,7 @@ fn put_next(out: &mut [u8], at: usize, n: u64) -> usize
     text::put_decimal(out, end, n)
 }
 
-// Numbers, each behind a space.
+// Writes numbers, each after a space.
 fn put_spaced(out: &mut [u8], at: usize, ns: &[u64]) -> usize
     ensures { λ r. ⌜ Placed (now (out .entry)) at (spaced (now (ns .entry))) r (now (out .exit)) ⌝ }
 {
@@ -53,7 +56,7 @@ fn put_spaced(out: &mut [u8], at: usize, ns: &[u64]) -> usize
     end
 }
 
-// The same of numbers of 32 bits.
+// Writes 32-bit numbers, each after a space.
 pub fn put_words(out: &mut [u8], at: usize, ns: &[u32]) -> usize
     ensures { λ r. ⌜ Placed (now (out .entry)) at (spaced (now (ns .entry))) r (now (out .exit)) ⌝ }
 {
@@ -66,7 +69,7 @@ pub fn put_words(out: &mut [u8], at: usize, ns: &[u32]) -> usize
     end
 }
 
-// Numbers with one space between.
+// Writes numbers with one space between.
 pub fn put_row(out: &mut [u8], at: usize, first: u64, more: &[u64]) -> usize
     ensures { λ r. ⌜ Placed (now (out .entry)) at (rowText first (now (more .entry))) r (now (out .exit)) ⌝ }
 {

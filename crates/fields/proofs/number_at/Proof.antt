@@ -1,4 +1,4 @@
--- `fields::number_at` meets its contract.
+-- `fields::number_at` meets its contract: past the row's end `List·getD-eq-default` gives the 0.
 use mathlib.Core.Path.{sym}
 use borrow.Author.Needs.{needs}
 use lib.ListN.{List·getD-eq-default}

@@ -1,4 +1,4 @@
--- `fields::pll_at` meets its contract.
+-- `fields::pll_at` meets its contract: the four calls give the four fields, each by its own equation.
 use borrow.Author.Needs.{needs}
 use Rattle.fields.proofs.pll_at.Statement.{statement}
 use Rattle.fields.proofs.pll_at.Tie as tie

@@ -1,4 +1,4 @@
--- `fields::ten_at` meets its contract.
+-- `fields::ten_at` meets its contract: the ten calls of `number_at` give the ten elements, and congruence joins their equations.
 use borrow.Author.Needs.{needs}
 use Rattle.fields.proofs.ten_at.Statement.{statement}
 use Rattle.fields.proofs.ten_at.Tie as tie

@@ -1,4 +1,4 @@
--- `input::ends` meets its contract.
+-- `input::ends` meets its contract: the comparison with the newline is the definition's, and both of its values are at most 1.
 use native.Mathlib.Omega.{arith}
 use borrow.Author.Tests.{eq-eqb, ne-eqb}
 use Rattle.input.proofs.ends.Statement.{statement}

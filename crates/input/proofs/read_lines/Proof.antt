@@ -1,5 +1,5 @@
--- `input::read_lines` meets its contract. Invariant: n is at most the buffer's length, which stays, as the byte's does.
--- Measure: what is left of the buffer.
+-- `input::read_lines` meets its contract: the invariant says that n is at most the buffer's length, which stays, as the byte's
+-- does; so each exit answers a count within the buffer. Measure: what is left of the buffer.
 use mathlib.Core.Path.{_≡_}
 use Prim.Native.Nat.{_-_, _≤_}
 use borrow.Author.Needs.{needs}

@@ -1,4 +1,5 @@
--- `lines::answer` meets its contract: the answer, and after it the newline.
+-- `lines::answer` meets its contract: the test of the length picks `put_bad` or `cases::answer`, and `placed-append` adds the
+-- newline to the text.
 use native.Mathlib.Omega.{arith}
 use borrow.{Author.Needs.needs, Author.Tests.lt-ltb, Author.Tests.le-ltb}
 use lib.ListN.{length-append}

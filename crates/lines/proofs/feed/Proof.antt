@@ -1,4 +1,5 @@
--- `lines::feed` meets its contract.
+-- `lines::feed` meets its contract: the test for a newline picks the case: `answer` gives the text and its end, `push` the byte
+-- that is held.
 use mathlib.Core.Path.{refl}
 use native.Mathlib.Omega.{arith}
 use borrow.{Author.Needs.needs, Author.Tests.eq-eqb, Author.Tests.ne-eqb}

@@ -1,5 +1,5 @@
--- `lines::take_piece` meets its contract. Invariant: what is held, and the buffer of the answers, fed with what is left of
--- the piece, are what the whole piece gives. Measure: what is left of it.
+-- `lines::take_piece` meets its contract: the invariant says that what is held and the buffer of answers, fed with the rest of
+-- the piece, are what the whole piece gives; the equations of `feed` carry it over one byte. Measure: what is left of the piece.
 use mathlib.Core.Path.{_≡_, refl, ap, _∙_}
 use Prim.Native.Nat.{suc, _-_, _≤_}
 use native.Mathlib.{Numerals.add-one, Omega.arith}

@@ -1,4 +1,4 @@
--- `replies::put_next` meets its contract.
+-- `replies::put_next` meets its contract: `placed-append` joins the space and the decimal.
 use borrow.Author.Needs.{needs}
 use Rattle.base.proofs.Placing.{placed-append}
 use Rattle.replies.proofs.put_next.Statement.{statement}

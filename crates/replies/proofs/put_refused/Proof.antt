@@ -1,4 +1,4 @@
--- `replies::put_refused` meets its contract.
+-- `replies::put_refused` meets its contract: `placed-append` joins the word and the decimal.
 use borrow.Author.Needs.{needs}
 use Rattle.base.proofs.Placing.{placed-append}
 use Rattle.replies.proofs.put_refused.Statement.{statement}

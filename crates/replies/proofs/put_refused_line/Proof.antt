@@ -1,4 +1,4 @@
--- `replies::put_refused_line` meets its contract.
+-- `replies::put_refused_line` meets its contract: `placed-append` joins the refusal and the newline.
 use borrow.Author.Needs.{needs}
 use Rattle.base.proofs.Placing.{placed-append}
 use Rattle.replies.proofs.put_refused_line.Statement.{statement}

@@ -1,4 +1,4 @@
--- `replies::put_row` meets its contract.
+-- `replies::put_row` meets its contract: `placed-append` joins the first number and the spaced ones.
 use borrow.Author.Needs.{needs}
 use Rattle.base.proofs.Placing.{placed-append}
 use Rattle.replies.proofs.put_row.Statement.{statement}

@@ -1,4 +1,5 @@
--- `replies::put_unread` meets its contract.
+-- `replies::put_unread` meets its contract: `refused-most` bounds the line by the 11 bytes of the buffer, so `whole` says that it
+-- is written whole.
 use native.Mathlib.Omega.{arith}
 use borrow.Author.Needs.{needs}
 use Rattle.text.proofs.Outputs.{whole}

@@ -1,4 +1,5 @@
--- `replies::put_words` meets its contract. Measure: the numbers left.
+-- `replies::put_words` meets its contract: the invariant `Parts` says that the first i numbers are placed, each after a space,
+-- and `spaced-step` appends the one that `put_next` places; `wide` does not change it. Measure: the numbers left.
 use mathlib.Core.Path.{refl}
 use Prim.Native.Nat.{_-_}
 use native.Mathlib.Omega.{arith}
