@@ -1,4 +1,5 @@
--- How long an answer is: a number of 32 bits has at most 10 digits, one of 64 bits at most 20, a byte has two.
+-- An answer has at most 3477 bytes: a 32-bit number has at most 10 digits, a 64-bit number at most 20, and a byte has two hex
+-- digits.
 use mathlib.Core.{Path._≡_, Bool.Bool, Bool.true, Bool.false, List.List, List.[], List._∷_, List._++_}
 use Prim.Native.Nat.{ℕ, suc, _+_, _*_, _%_, _≤_, _<_}
 use native.Mathlib.Omega.{arith}

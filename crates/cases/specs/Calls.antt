@@ -1,4 +1,5 @@
--- What the cases answer that lend a buffer, a runner, a bench or slots, from the row n of their numbers.
+-- The answers of the cases that lend a buffer, a runner, a bench or slots, from the row n of their numbers (docs/CASES.md). The
+-- words of a case are named above its definition.
 use mathlib.Core.{Bool.Bool, List.List, List.[], List._∷_, List._++_, Option.Option}
 use Prim.Native.Nat.{ℕ, _-_}
 use lib.{Dec.eqb, Dec.ltb, ListN.length, ListN.take, ListN.drop, ListN.replicate, Seq.sets}
@@ -23,15 +24,15 @@ use Rattle.export.specs.Sheet.{sheetNumber, sheetBuffer, planOn}
 use Rattle.words.specs.Said.{callText}
 use Rattle.cases.specs.Say.{oneText, writtenText, plannedText}
 
--- 0 the RP2040, 1 the RP235x
+-- 0 is the RP2040, 1 the RP235x
 abbrev pub chipAt : List ℕ → Chip
 chipAt n = pick (eqb (nth n 0) 1) Rp235x Rp2040
 
--- a lent buffer has as many bytes as the case says, and holds 0xEE before the call
+-- a lent buffer has as many bytes as the case asks for, each 0xEE before the call
 abbrev pub lent : ℕ → List ℕ
 lent room = replicate room 238
 
--- so many numbers from place i on
+-- count numbers from index i on, 0 past the end
 abbrev pub part : ℕ → ℕ → List ℕ → List ℕ
 part count i n = sets (replicate count 0) 0 (drop i n)
 
@@ -61,11 +62,11 @@ sheetIn plan reading buffer = writtenText (sheetNumber plan reading buffer) (she
 unfoldable pub sheetText : List ℕ → ℕ → List ℕ
 sheetText n count = sheetIn (planOn (planAt n count) (chipNumbered (byteAt n 2))) (byteAt n 0) (lent (roomAt n 1))
 
--- numbers that hold the kept length at place i, and the bytes that are kept
+-- the answer r, the numbers, which hold the kept length at index i, and the kept bytes
 abbrev pub keptText : ℕ → ℕ → List ℕ → List ℕ → List ℕ
 keptText i r numbers kept = callText r numbers (take (nth numbers i) kept)
 
--- SHEET KEPT, the runner's 15 numbers; answered with the bytes that are kept
+-- SHEET KEPT, the runner's 15 numbers; the answer includes the kept bytes
 
 unfoldable pub startText : List ℕ → List ℕ → List ℕ → List ℕ
 startText n kept sheet =
@@ -78,7 +79,7 @@ runText n kept sheet =
     let ready = eqb (nth n 2) 1 in
     callText (runNumber (part 15 3 n) kept sheet ready) (runLeaves (part 15 3 n) kept sheet ready) []
 
--- SHEET KEPT BOARD, which a start does not look at, the bench's 113 numbers; answered with the bytes that are kept
+-- SHEET KEPT BOARD, which a start ignores, the bench's 113 numbers; the answer includes the kept bytes
 unfoldable pub benchStartOf : List ℕ → List ℕ → List ℕ → List ℕ
 benchStartOf bench kept sheet =
     let o = startAllOf (benchIn bench kept) sheet in
@@ -94,7 +95,7 @@ benchRunText n kept sheet =
     let ready = eqb (nth n 3) 1 in
     callText (benchNumber (part 113 4 n) kept board sheet ready) (benchLeaves (part 113 4 n) kept board sheet ready) []
 
--- SLOT, eleven words, four slots; answered with words, slots and steps in a row of 87
+-- SLOT, eleven words, four slots; the answer has words, slots and steps in a row of 87
 abbrev pub changedText : ℕ → List ℕ → List ℕ → List ℕ → List ℕ
 changedText r words slots steps = callText r (sets (replicate 87 0) 0 (words ++ (slots ++ steps))) []
 

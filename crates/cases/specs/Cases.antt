@@ -1,4 +1,4 @@
--- The cases, a row for each: its name, its letters, and what it answers.
+-- The table of cases: each row has a name, the letters of its words, and the answer (docs/CASES.md).
 use mathlib.Core.{Bool.true, Bool.false, List.List, List.[], List._∷_, List._++_, Option.Option, Option.none, Option.some}
 use Prim.Native.{Nat.ℕ, Nat.zero, Nat.suc, Nat._-_, String.String}
 use lib.{Dec.ltb, ListN.length, ListN.take, ListN.drop, ListN.replicate}
@@ -26,7 +26,7 @@ pub record Case (A : Type 0) : Type 0 where
 abbrev pub row : {A : Type 0} → String → (A → List ℕ) → Case A
 row words text = record { words = ascii words; text = text }
 
--- from the numbers n
+-- the cases that take only numbers, from the row n of these
 abbrev pub plainRows : List (Case (List ℕ))
 plainRows =
     -- INPUT REFDIV FBDIV POST1 POST2
@@ -57,11 +57,11 @@ plainRows =
     ∷ row "system_from fww" (λ n. plannedText (systemPlanFrom (chipAt n) (nth n 1) (nth n 2)))
     ∷ row "manual wbhbbb" manualText ∷ []
 
--- SHEET, the first word
+-- SHEET is the first word
 abbrev pub sheetOf : State → List ℕ
 sheetOf s = take (nth (s .row) 0) (s .sheet)
 
--- from the numbers and the bytes of the words of hex
+-- the cases that also take words of hex or a count, from all that is read
 abbrev pub callRows : List (Case State)
 callRows =
     row "sheet brfwwwwwwwwwwwwwwwwwwwwwwwwwwwwwwwwwwwwwwwwwwwooooo" (λ s. sheetText (s .row) (s .count))
@@ -105,7 +105,7 @@ abbrev pub rowAt : List (List ℕ) → List ℕ
 rowAt [] = []
 rowAt (r ∷ rs) = r
 
--- the row of the line's first word, and the words after it
+-- a line is answered by the row that its first word names, from the words after it
 unfoldable pub answerTo : List ℕ → List ℕ
 answerTo line =
     let k = named (upTo 32 line) rows in

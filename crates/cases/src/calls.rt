@@ -1,4 +1,5 @@
-// The cases that lend a buffer, a runner, a bench or slots. Each takes the row n of the case's numbers.
+// The cases that lend a buffer, a runner, a bench or slots. Each takes the row n of the case's numbers, writes the answer at the
+// start of `out` and answers the index after it.
 use crate::Given;
 use crate::KeptBytes;
 use crate::say::put;
@@ -33,6 +34,7 @@ pub(crate) fn chip_at(n: &Given) -> Chip
     }
 }
 
+// Lists into a lent buffer and answers the bytes written.
 fn put_list_in(out: &mut [u8], input: u32, target: u32, buf: &mut [u8]) -> usize
     requires { ⌜ length (now buf) ≤ 1024 ⌝ }
     ensures { λ x. ⌜ Answered (now (out .entry)) (listIn input target (now (buf .entry))) x (now (out .exit)) ⌝ }
@@ -41,6 +43,7 @@ fn put_list_in(out: &mut [u8], input: u32, target: u32, buf: &mut [u8]) -> usize
     put_written(out, r, buf)
 }
 
+// The case `list`: INPUT TARGET ROOM.
 pub(crate) fn put_list(n: &Given, out: &mut [u8]) -> usize
     ensures { λ x. ⌜ Answered (now (out .entry)) (listText (now (n .entry))) x (now (out .exit)) ⌝ }
 {
@@ -49,6 +52,7 @@ pub(crate) fn put_list(n: &Given, out: &mut [u8]) -> usize
     put_list_in(out, n[0], n[1], &mut buf[..room])
 }
 
+// The case `manual`: CRYSTAL, four dividers, CODE; a code that is no voltage's is malformed.
 pub(crate) fn put_manual(n: &Given, out: &mut [u8]) -> usize
     ensures { λ x. ⌜ Answered (now (out .entry)) (manualText (now (n .entry))) x (now (out .exit)) ⌝ }
 {
@@ -73,6 +77,7 @@ fn plan_at(n: &Given, count: usize) -> &[u32]
     &all[3..count]
 }
 
+// Writes a plan's sheet into a lent buffer and answers the bytes written.
 fn put_sheet_in(out: &mut [u8], chip: u8, plan: &[u32], reading: u8, buf: &mut [u8]) -> usize
     requires { ⌜ length (now buf) ≤ 1024 ⌝ }
     ensures { λ x. ⌜ Answered (now (out .entry)) (sheetIn (planOn (now (plan .entry)) (chipNumbered chip)) reading (now (buf .entry))) x (now (out .exit)) ⌝ }
@@ -81,6 +86,7 @@ fn put_sheet_in(out: &mut [u8], chip: u8, plan: &[u32], reading: u8, buf: &mut [
     put_written(out, r, buf)
 }
 
+// The case `sheet`: READING ROOM CHIP PLAN.
 pub(crate) fn put_sheet(n: &Given, count: usize, out: &mut [u8]) -> usize
     ensures { λ x. ⌜ Answered (now (out .entry)) (sheetText (now (n .entry)) count) x (now (out .exit)) ⌝ }
 {
@@ -92,7 +98,7 @@ pub(crate) fn put_sheet(n: &Given, count: usize, out: &mut [u8]) -> usize
     put_sheet_in(out, chip, plan, reading, &mut buf[..room])
 }
 
-// What a start leaves: the runner's numbers, and the bytes that are kept.
+// Writes what a start leaves: the runner's numbers and the kept bytes.
 fn put_started(out: &mut [u8], r: u64, runner: &[u32; 15], held: &KeptBytes) -> usize
     ensures { λ x. ⌜ Answered (now (out .entry)) (keptText 4 r (now (runner .entry)) (now (held .entry))) x (now (out .exit)) ⌝ }
 {
@@ -100,6 +106,7 @@ fn put_started(out: &mut [u8], r: u64, runner: &[u32; 15], held: &KeptBytes) -> 
     put(out, r, runner, base::first(held, len))
 }
 
+// The case `start`: SHEET KEPT RUNNER.
 pub(crate) fn put_start(n: &Given, kept: &KeptBytes, sheet: &[u8], out: &mut [u8]) -> usize
     ensures { λ x. ⌜ Answered (now (out .entry)) (startText (now (n .entry)) (now (kept .entry)) (now (sheet .entry))) x (now (out .exit)) ⌝ }
 {
@@ -111,12 +118,14 @@ pub(crate) fn put_start(n: &Given, kept: &KeptBytes, sheet: &[u8], out: &mut [u8
     put_started(out, r, &runner, &held)
 }
 
+// Writes the answer of a run and the runner's numbers.
 fn put_runner(out: &mut [u8], r: u64, runner: &[u32; 15]) -> usize
     ensures { λ x. ⌜ Answered (now (out .entry)) (callText r (now (runner .entry)) []) x (now (out .exit)) ⌝ }
 {
     put(out, r, runner, b"")
 }
 
+// The case `run`: SHEET KEPT READY RUNNER.
 pub(crate) fn put_run(n: &Given, kept: &KeptBytes, sheet: &[u8], out: &mut [u8]) -> usize
     ensures { λ x. ⌜ Answered (now (out .entry)) (runText (now (n .entry)) (now (kept .entry)) (now (sheet .entry))) x (now (out .exit)) ⌝ }
 {
@@ -127,7 +136,7 @@ pub(crate) fn put_run(n: &Given, kept: &KeptBytes, sheet: &[u8], out: &mut [u8])
     put_runner(out, r, &runner)
 }
 
-// The same of a bench.
+// Writes what a start of a bench leaves: its numbers and the kept bytes.
 fn put_bench_started(out: &mut [u8], r: u64, bench: &[u32; 113], held: &KeptBytes) -> usize
     ensures { λ x. ⌜ Answered (now (out .entry)) (keptText 112 r (now (bench .entry)) (now (held .entry))) x (now (out .exit)) ⌝ }
 {
@@ -135,6 +144,7 @@ fn put_bench_started(out: &mut [u8], r: u64, bench: &[u32; 113], held: &KeptByte
     put(out, r, bench, base::first(held, len))
 }
 
+// Starts a bench of the given numbers.
 fn put_bench_start_of(out: &mut [u8], given: [u32; 113], kept: &KeptBytes, sheet: &[u8]) -> usize
     ensures { λ x. ⌜ Answered (now (out .entry)) (benchStartOf given (now (kept .entry)) (now (sheet .entry))) x (now (out .exit)) ⌝ }
 {
@@ -144,6 +154,7 @@ fn put_bench_start_of(out: &mut [u8], given: [u32; 113], kept: &KeptBytes, sheet
     put_bench_started(out, r, &bench, &held)
 }
 
+// The case `bench_start`: SHEET KEPT BOARD BENCH; a start ignores BOARD.
 pub(crate) fn put_bench_start(n: &Given, kept: &KeptBytes, sheet: &[u8], out: &mut [u8]) -> usize
     ensures { λ x. ⌜ Answered (now (out .entry)) (benchStartText (now (n .entry)) (now (kept .entry)) (now (sheet .entry))) x (now (out .exit)) ⌝ }
 {
@@ -153,12 +164,14 @@ pub(crate) fn put_bench_start(n: &Given, kept: &KeptBytes, sheet: &[u8], out: &m
     put_bench_start_of(out, bench, kept, sheet)
 }
 
+// Writes the answer of a board's call and the bench's numbers.
 fn put_bench(out: &mut [u8], r: u64, bench: &[u32; 113]) -> usize
     ensures { λ x. ⌜ Answered (now (out .entry)) (callText r (now (bench .entry)) []) x (now (out .exit)) ⌝ }
 {
     put(out, r, bench, b"")
 }
 
+// The case `bench_run`: SHEET KEPT BOARD READY BENCH.
 pub(crate) fn put_bench_run(n: &Given, kept: &KeptBytes, sheet: &[u8], out: &mut [u8]) -> usize
     ensures { λ x. ⌜ Answered (now (out .entry)) (benchRunText (now (n .entry)) (now (kept .entry)) (now (sheet .entry))) x (now (out .exit)) ⌝ }
 {
@@ -170,7 +183,7 @@ pub(crate) fn put_bench_run(n: &Given, kept: &KeptBytes, sheet: &[u8], out: &mut
     put_bench(out, r, &bench)
 }
 
-// What a sleep or a wake leaves: words, slots and steps.
+// Writes what a sleep or a wake leaves: words, slots and steps.
 fn put_changed(
     out: &mut [u8],
     r: u64,
@@ -187,6 +200,7 @@ fn put_changed(
     put(out, r, &row, b"")
 }
 
+// Sleeps or wakes over the given slots and words.
 fn put_asked(out: &mut [u8], wakes: bool, kept: [u32; 48], slot: u8, given: [u32; 11]) -> usize
     ensures { λ x. ⌜ Answered (now (out .entry)) (changeOf wakes kept slot given) x (now (out .exit)) ⌝ }
 {
@@ -197,7 +211,7 @@ fn put_asked(out: &mut [u8], wakes: bool, kept: [u32; 48], slot: u8, given: [u32
     put_changed(out, r, &words, &slots, &steps)
 }
 
-// A sleep or a wake: SLOT, eleven words, four slots.
+// The cases `sleep` and `wake`: SLOT, eleven words, four slots.
 pub(crate) fn put_change(wakes: bool, n: &Given, out: &mut [u8]) -> usize
     ensures { λ x. ⌜ Answered (now (out .entry)) (changeText wakes (now (n .entry))) x (now (out .exit)) ⌝ }
 {

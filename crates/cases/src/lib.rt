@@ -1,4 +1,4 @@
-// Cases as text: a line in, the answer to it out.
+// Cases as text: a line is a question, and its answer is a text (docs/CASES.md).
 mod calls;
 mod say;
 mod table;
@@ -22,12 +22,12 @@ ghost use Rattle.words.specs.Words.{stateOf};
 ghost use Rattle.cases.specs.Say.{Answered};
 ghost use Rattle.cases.specs.Cases.{plainRows, callRows, textAt, caseText, lineText, answerTo};
 
-// The numbers of a case, a row of which its words fill the start; and a runner's kept bytes.
+// The row of a case's numbers, which its words fill from the start; and the bytes that a runner keeps.
 pub type Given = [u32; 128];
 
 pub type KeptBytes = [u8; MAX_BYTES];
 
-// The cases of numbers alone, in the order of the table.
+// Answers the cases that take only numbers, in the order of the table.
 fn put_numbers(k: usize, n: &Given, out: &mut [u8]) -> usize
     requires { ⌜ k < 11 ⌝ }
     ensures { λ x. ⌜ Answered (now (out .entry)) (textAt plainRows k (now (n .entry))) x (now (out .exit)) ⌝ }
@@ -56,7 +56,7 @@ fn put_numbers(k: usize, n: &Given, out: &mut [u8]) -> usize
     }
 }
 
-// The presets: the chip, then the preset's numbers.
+// Answers the presets: the chip, then the preset's numbers.
 fn put_presets(k: usize, n: &Given, out: &mut [u8]) -> usize
     requires { ⌜ (11 ≤ k) × (k < 17) ⌝ }
     ensures { λ x. ⌜ Answered (now (out .entry)) (textAt plainRows k (now (n .entry))) x (now (out .exit)) ⌝ }
@@ -71,7 +71,7 @@ fn put_presets(k: usize, n: &Given, out: &mut [u8]) -> usize
     }
 }
 
-// The cases of numbers and words of hex, of which the first is SHEET.
+// Answers the cases that take numbers and words of hex; a case's first word of hex is SHEET.
 fn put_called(
     k: usize,
     n: &Given,
@@ -96,6 +96,7 @@ fn put_called(
     }
 }
 
+// Answers the case of row k of the table from the words read.
 fn put_case(
     k: usize,
     n: &Given,
@@ -115,7 +116,7 @@ fn put_case(
     put_called(k - 17, n, count, kept, bytes, out)
 }
 
-// The answer to a line whose name ends at `at`, by a row of the table.
+// Answers a line whose name ends at `at`, by row k of the table and its letters.
 fn put_line(k: usize, letters: &[u8], line: &[u8], at: usize, out: &mut [u8]) -> usize
     ensures { λ x. ⌜ Answered (now (out .entry)) (lineText k (now (letters .entry)) (now (line .entry)) at) x (now (out .exit)) ⌝ }
 {
@@ -128,11 +129,12 @@ fn put_line(k: usize, letters: &[u8], line: &[u8], at: usize, out: &mut [u8]) ->
     }
 }
 
-// Answers a line: the answer is put at the buffer's start, and the index past it is returned.
+// Writes the answer to a line at the buffer's start and answers the index after it; a refusal is text there too.
 pub fn answer(line: &[u8], out: &mut [u8]) -> usize
     ensures { λ x. ⌜ Answered (now (out .entry)) (answerTo (now (line .entry))) x (now (out .exit)) ⌝ }
 {
-    // f a flag, b 8 bits, h 16 bits, r a room, w and o 32 bits, from o on the words may be absent; x and k are hex
+    // f is a flag, b has 8 bits, h 16 bits, r is a buffer's length, w and o have 32 bits; from o on words may be absent; x and k
+    // are hex
     let table = b"valid wbhbb
 output wbhbb
 search ww

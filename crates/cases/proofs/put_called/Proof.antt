@@ -1,4 +1,5 @@
--- `cases::put_called` meets its contract: each row by its number, and past the last no case.
+-- `cases::put_called` meets its contract: each arm of the match is the row of its number, `first` gives the sheet, and past the
+-- last row `text-out` says that there is no case.
 use Prim.Native.Nat.{zero-le}
 use borrow.Author.Needs.{needs}
 use Rattle.cases.proofs.{Rows.text-out, Rows.others, put_called.Statement.statement}

@@ -1,4 +1,5 @@
--- `cases::calls::put_bench_start` meets its contract.
+-- `cases::calls::put_bench_start` meets its contract: `put_numbers` fills the bench from the row, and `take-rest` says that all
+-- from index 3 on is taken.
 use borrow.Author.Needs.{needs}
 use Rattle.fields.proofs.Tails.{take-rest}
 use Rattle.cases.proofs.calls.put_bench_start.Statement.{statement}

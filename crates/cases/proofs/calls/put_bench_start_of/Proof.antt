@@ -1,4 +1,5 @@
--- `cases::calls::put_bench_start_of` meets its contract.
+-- `cases::calls::put_bench_start_of` meets its contract: the equations of `dizbaral_bench_start` give the answer, the numbers and
+-- the bytes that `put_bench_started` writes.
 use borrow.Author.Needs.{needs}
 use Rattle.cases.specs.Calls.{benchStartOf}
 use Rattle.cases.proofs.calls.put_bench_start_of.Statement.{statement}

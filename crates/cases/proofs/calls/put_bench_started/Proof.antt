@@ -1,4 +1,5 @@
--- `cases::calls::put_bench_started` meets its contract.
+-- `cases::calls::put_bench_started` meets its contract: `first` cuts the kept bytes to the kept length, which `wide` does not
+-- change, so they are at most 1024.
 use Prim.Native.Nat.{_≤_}
 use borrow.Author.Needs.{needs}
 use native.Mathlib.Omega.{arith}

@@ -1,4 +1,5 @@
--- `cases::say::put` meets its contract: the elements of a slice are numbers of their type, so the text is short.
+-- `cases::say::put` meets its contract: `put_call` places the text, which `call-short` bounds, as every element of the slice is a
+-- 32-bit number.
 use borrow.Author.Needs.{needs}
 use native.Mathlib.Omega.{arith}
 use Rattle.cases.proofs.{Short.call-short, say.put.Statement.statement}
