@@ -1,4 +1,5 @@
--- What holds of benches holds of exported calls one after another.
+-- The numbers and bytes after any exported calls for a bench are those of the bench after the same calls, and so are the answers.
+-- So what holds of benches holds of exported calls: after a start each board is a single runner of its own.
 use mathlib.Core.{Bool.Bool, Bool.true, Bool.false, List.List, List.[], List._∷_, List.map}
 use mathlib.Core.Path.{_≡_, refl, sym, ap, _∙_}
 use Prim.Native.Nat.{ℕ, zero, suc, _+_, _*_, _≤_}
@@ -33,7 +34,7 @@ after-one : (b : Bench) (e : BenchEvent) (es : List BenchEvent) → benchAfter (
 after-one b (start sheet) es = refl
 after-one b (poll n sheet ready) es = refl
 
--- a bench, by its numbers and bytes
+-- the bench that numbers and bytes hold
 abbrev pub benchHeld : Held → Bench
 benchHeld h = benchIn (h .numbers) (h .bytes)
 
@@ -98,7 +99,7 @@ bench-history h (e ∷ es) is =
     let rest = bench-history (benchCallLeaves h e) es (s .1) in
     (rest .0 ∙ ap (λ (b : Bench). benchAfter b es) (s .0) ∙ after-one (benchHeld h) e es, rest .1)
 
--- and a call answers the number of what the bench answers
+-- a call answers the number of the bench's answer
 bench-number : (ns kept : List ℕ) → IsBench ns → (m : ℕ) (sheet : List ℕ) (ready : Bool)
     → benchNumber ns kept m sheet ready ≡ answerNumber progressNumber (benchOf (benchIn ns kept) m sheet ready .answer)
 unfolding benchNumber
@@ -138,7 +139,7 @@ bench-answered n (poll m sheet ready ∷ es) h is =
 alike-by : (n : ℕ) {b c : Bench} {r q : Runner} → b ≡ c → r ≡ q → Alike n c q → Alike n b r
 alike-by n e f k = rw (e, f) k
 
--- the numbers of a board that is a runner's are the runner's
+-- a board that equals a runner has the runner's numbers
 board-numbers : (ns kept : List ℕ) → IsBench ns → (n : ℕ) → n ≤ 7 → (r : Runner) → Alike n (benchIn ns kept) r
     → runnerAt ns n ≡ heldOf r .numbers
 board-numbers ns kept is n few r k =

@@ -24,7 +24,7 @@ mark-least : (b : Bool) → bit b ≤ 1
 mark-least true = omega arith
 mark-least false = omega arith
 
--- numbers set in a row, and those that are not
+-- numbers outside the ones set in a row stay, and those inside are the new ones
 outside : (vs l : List ℕ) (i k : ℕ) → (k < i) ⊎ (i + length vs ≤ k) → nth (sets l i vs) k ≡ nth l k
 outside [] l i k h = refl
 outside (a ∷ vs) l i k (inl h) =
@@ -41,7 +41,7 @@ inside (a ∷ vs) l i (suc j) h room =
     let there : i + suc j ≡ suc i + j = omega arith in
     rw there (inside vs (set l i a) (suc i) j (omega arith) (omega (arith, length-set l i a)))
 
--- numbers that stand there already
+-- numbers that the row already holds
 abbrev Stand : List ℕ → ℕ → List ℕ → Type 0
 Stand l i [] = Unit {0}
 Stand l i (a ∷ vs) = (a ≡ nth l i) × Stand l (suc i) vs
@@ -51,7 +51,7 @@ sets-same [] l i s = refl
 sets-same (a ∷ vs) l i (e, s) =
     ap (λ (x : List ℕ). sets x (suc i) vs) (ap (set l i) e ∙ set-getD l i 0) ∙ sets-same vs l (suc i) s
 
--- ten frequencies stay ten
+-- the list of frequencies keeps its length
 stored-long : (step : Step) (freqs : List ℕ) → length (storedBy step freqs) ≡ length freqs
 unfolding storedBy
 stored-long step freqs = go (eqb (step .kind) kind.store)
@@ -144,7 +144,7 @@ module _ (ns : List ℕ) (long : length ns ≡ 113) (n : ℕ) (few : n ≤ 7) (b
       → benchIn after kept ≡ record { boards = set (boardsFrom 8 0 ns) n b; kept = kept; len = nth ns 112 }
   decoded kept = rw (from-here 8 0 n (omega arith) (omega arith), elsewhere 112 (inr (omega arith)))
 
--- a board's own numbers set again
+-- setting a board's own numbers again changes nothing
 pub board-again : (ns : List ℕ) (n : ℕ) → nth ns (14 * n + 3) ≤ 1 → withBoard n (stepperAt ns n) ns ≡ ns
 board-again ns n marked =
     sets-same (boardNumbers (stepperAt ns n)) ns (14 * n) (
@@ -159,7 +159,7 @@ board-again ns n marked =
     at : {B : Type 0} {i k : ℕ} → i ≡ k → B → (nth ns i ≡ nth ns k) × B
     at e rest = (ap (nth ns) e, rest)
 
--- what a call for one of the eight leaves
+-- the numbers that a call for one of the eight boards leaves
 pub left-is : (ns kept : List ℕ) (n : ℕ) (few : n ≤ 7) → nth ns (14 * n + 3) ≤ 1 → (sheet : List ℕ) (ready : Bool)
     → benchLeaves ns kept n sheet ready ≡ withBoard n (call ns kept n sheet ready few .next) ns
 unfolding benchLeaves
@@ -174,14 +174,14 @@ module _ (ns kept : List ℕ) (is : IsBench ns) (n : ℕ) (few : n ≤ 7) (sheet
   unfolding stepperOf
   freqs-long = after-long (call ns kept n sheet ready few .answer) (tenAt ns (14 * n + 4))
 
-  -- what a call for a board leaves, read as a bench
+  -- the numbers that a call for a board leaves, read as a bench, are the definition's bench
   pub bench-decoded : benchIn (benchLeaves ns kept n sheet ready) kept ≡ benchOf (benchIn ns kept) n sheet ready .next
   bench-decoded =
       rw left
       (decoded ns (is .all) n few (call ns kept n sheet ready few .next) freqs-long kept
       ∙ ap (λ (x : Outcome Bench). x .next) (sym (of-board ns kept n sheet ready few)))
 
-  -- and is 113 numbers with their marks again
+  -- they are again 113 numbers with marks of 1 or 0
   pub bench-held : IsBench (benchLeaves ns kept n sheet ready)
   bench-held =
       rw left (record { all = length-sets ns (14 * n) (boardNumbers (call ns kept n sheet ready few .next)) ∙ is .all; marked = marked })

@@ -1,5 +1,5 @@
--- A runner's numbers are read to the runner, and an exported call leaves the numbers of the runner that the definition
--- leaves; so what holds of runners holds of exported calls one after another.
+-- A runner's numbers read back as the runner, and an exported call leaves the numbers of the runner that the definition leaves.
+-- So what holds of runners holds of any sequence of exported calls.
 use mathlib.Core.{Bool.Bool, Bool.true, Bool.false, List.List, List.[], List._∷_, List._++_, List.map}
 use mathlib.Core.Path.{_≡_, refl, sym, ap, _∙_}
 use Prim.Native.Nat.{ℕ, zero, suc, _≤_}
@@ -73,7 +73,7 @@ module _ (r : Runner) (sheet : List ℕ) (ready : Bool) where
   unfolding advanceOf stepperOf
   formed = turn-formed _ _ _ _ _
 
--- what a start leaves, by what it answers
+-- the numbers and bytes that a start leaves, by its answer
 startedBy : Held → Begun Runner → Held
 startedBy h o = record { numbers = startLeaves (o .answer) (h .numbers) (o .next .len); bytes = o .next .kept }
 
@@ -95,7 +95,7 @@ begun-held r sheet = go (badSize (length sheet)) refl
 
 -- ---- calls one after another
 
--- what is held after any calls are the numbers and bytes of the runner after the same calls
+-- the numbers and bytes after any calls are those of the runner after the same calls
 pub history : (es : List Own) (r : Runner) → heldAfter (heldOf r) es ≡ heldOf (singleAfter r es)
 history [] r = refl
 history (start sheet ∷ es) r = ap (λ (h : Held). heldAfter h es) (begun-held r sheet) ∙ history es (startOf r sheet .next)
@@ -122,7 +122,7 @@ polled-with : (sheet : List ℕ) (flags : List Bool) (r : Runner) → after r sh
 polled-with sheet [] r = refl
 polled-with sheet (ready ∷ flags) r = polled-with sheet flags (advanceOf r sheet ready .next)
 
--- a runner goes by the sheet that it was started with, and by no other
+-- a runner follows the sheet that it was started with and no other
 pub exported-one-sheet : ExportedOneSheet
 exported-one-sheet h sheet ok calls =
     let r = startedWith sheet in
@@ -130,7 +130,7 @@ exported-one-sheet h sheet ok calls =
     ∙ ap heldOf (polled calls r ∙ one-sheet sheet calls ∙ polled-with sheet (flagsOf sheet calls) r)
     ∙ sym (after-start h sheet ok (pollsWith sheet (flagsOf sheet calls)))
 
--- ---- up
+-- ---- bring-up
 
 module _ (h : Held) (sheet : List ℕ) (ok : badSize (length sheet) ≡ false) (ready : ℕ → Bool) where
   held : (i : ℕ) → heldFrom h sheet ready i ≡ heldOf (runnerAfter sheet ready i)
@@ -153,7 +153,7 @@ module _ (h : Held) (sheet : List ℕ) (ok : badSize (length sheet) ≡ false) (
       go (value waiting) e w f = omega (arith, z, number-is i, ap (answerNumber progressNumber) e)
       go (refusal n) e w f = w
 
--- an accepted plan's sheet comes up by exported calls
+-- the sheet of an accepted plan brings the board up by exported calls
 pub exported-comes-up : (p : ClockConfig) (reading : ℕ) → Accepted p reading → Typed (settingsOf p reading)
     → ExportedComesUp p reading
 exported-comes-up p reading ok t h k small ready hears =

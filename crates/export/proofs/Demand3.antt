@@ -1,5 +1,5 @@
--- Demand 3 of the exported calls, from what they promise alone: a number below the refusals is a length, so the call
--- is one of `init`, of which demand 3 holds.
+-- Demand 3 holds of the exported calls by their contracts alone: a number below the refusals is a length, so the call is a call
+-- of `init`, of which demand 3 holds.
 use mathlib.Core.{Path._≡_, Path.refl, Path.ap, Logic._↔_, List.List, Option.Option, Option.none, Option.some}
 use Prim.Native.Nat.{ℕ, _<_}
 use native.Mathlib.Omega.{arith}
@@ -14,7 +14,7 @@ use Rattle.numbers.specs.Answers.{answerNumber, itself, refusals, chipNumbered}
 use Rattle.export.specs.Sheet.{planGiven, SheetCall, presetOn, planOn}
 use Rattle.export.specs.Demand3.{settingsIn, Sheets, PlanSheets, SystemSheets, SystemSheetsFrom}
 
--- a call that answered a length is one of `init`
+-- a call that answers a length is a call of `init`
 record Wrote (plan : Option ClockConfig) (reading : ℕ) (before : List ℕ) (r : ℕ) (after : List ℕ) : Type 0 where
   pub config : ClockConfig
   pub is : plan ≡ some config

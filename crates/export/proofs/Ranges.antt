@@ -1,4 +1,4 @@
--- The ranges of exported answers hold, so that a caller may tell them apart by size alone.
+-- The ranges of exported answers hold, so a caller distinguishes the kinds of answers by size alone.
 use mathlib.Core.{Bool.Bool, Bool.true, Bool.false, Path._≡_, Path.refl}
 use Prim.Native.Nat.{_^_, _≤_}
 use native.Mathlib.Omega.{arith}
@@ -14,7 +14,7 @@ is-true : (b : Bool) → T b → b ≡ true
 is-true true t = refl
 is-true false t = absurd t
 
--- a step's kind, from 1 on, stands in the word's upper 6 bits
+-- a step's kind, which is at least 1, is in the word's upper 6 bits
 pub word-from : (s : Step) → WellFormed s → 2 ^ 58 ≤ packOf s
 unfolding kindIn known
 word-from s w =

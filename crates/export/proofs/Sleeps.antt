@@ -1,5 +1,5 @@
--- The numbers of slots are read to the slots and written as they were; so what holds of slots holds of exported sleeps and
--- wakes one after another.
+-- The numbers of slots read back as the slots, and slots are written as the same numbers. So what holds of slots holds of any
+-- sequence of exported sleeps and wakes.
 use mathlib.Core.{Bool.Bool, Bool.true, Bool._&&_, Option.some}
 use mathlib.Core.{List.List, List.[], List._∷_, List._++_, List.append-nil, Path._≡_, Path.refl, Path.sym, Path.ap, Path._∙_}
 use Prim.Native.Nat.{ℕ, zero, suc, _+_, _≤_}
@@ -22,7 +22,7 @@ use Rattle.export.proofs.Calls.{mark-back, mark-same, mark-good}
 pub zeros-fresh : slotsIn (replicate 48 0) 0 ≡ freshSlots
 zeros-fresh = refl
 
--- numbers that are put over all that stand there
+-- numbers that replace all of a row
 sets-all : (vs l : List ℕ) → length vs ≡ length l → sets l 0 vs ≡ vs
 sets-all vs l e =
     let all : 0 + length vs ≡ length l = omega arith in
@@ -33,7 +33,7 @@ pub record IsSlots (ns : List ℕ) : Type 0 where
   pub all : length ns ≡ 48
   pub flags : areSlots ns ≡ true
 
--- a slot by its flag and eleven numbers of a row, and four of these
+-- a slot given by its flag and eleven numbers of a row, and four of these
 record Given : Type 0 where
   pub flag : Bool
   pub row : List ℕ
@@ -45,7 +45,7 @@ slotOf g = record { saved = g .flag; words = wordsAt (g .row) (g .place) }
 abbrev four : Given → Given → Given → Given → List Slot
 four a b c d = slotOf a ∷ slotOf b ∷ slotOf c ∷ slotOf d ∷ []
 
--- what is written over 48 numbers is read
+-- the slots written over 48 numbers read back as themselves
 record Back (ns : List ℕ) (s : List Slot) : Type 0 where
   pub read : slotsIn (sets ns 0 (slotsNumbers s)) 0 ≡ s
   pub slots : IsSlots (sets ns 0 (slotsNumbers s))
@@ -73,7 +73,7 @@ set-four P all a b c d e (suc (suc (suc (suc n)))) h = absurd (omega arith)
 abbrev at : List ℕ → ℕ → Given
 at ns i = record { flag = eqb (nth ns i) 1; row = ns; place = i + 1 }
 
--- what is read is written again
+-- slots that are read and written again give the same numbers
 again : (ns : List ℕ) → IsSlots ns → sets ns 0 (slotsNumbers (slotsIn ns 0)) ≡ ns
 again ns is =
     let h = both-true ((leb (nth ns 0) 1 && leb (nth ns 12) 1) && leb (nth ns 24) 1) (leb (nth ns 36) 1) (is .flags) in
@@ -92,7 +92,7 @@ asked : (call : List Slot → ℕ → List ℕ → SleepOutcome) (ns : List ℕ)
 asked call ns is slot words = rw (is .flags) (either-way (ltb 3 slot) (λ e. rw e) (λ e. rw e))
 
 module _ (ns : List ℕ) (is : IsSlots ns) (slot : ℕ) (words : List ℕ) where
-  -- a sleep
+  -- a sleep leaves the numbers of the slots that the definition leaves
   sleep-left : (slotsIn (slotsLeft sleepOf ns slot words) 0 ≡ sleepOf (slotsIn ns 0) slot (wordsAt words 0) .slots)
       × IsSlots (slotsLeft sleepOf ns slot words)
   unfolding sleepOf
@@ -103,7 +103,7 @@ module _ (ns : List ℕ) (is : IsSlots ns) (slot : ℕ) (words : List ℕ) where
       (record { flag = true; row = words; place = 0 }) slot (ltb-false 3 slot e) in
       rw e (b .read, b .slots)))
 
-  -- a wake leaves the slots
+  -- a wake leaves the slots unchanged
   wake-left : slotsLeft wakeOf ns slot words ≡ ns
   unfolding wakeOf
   wake-left =

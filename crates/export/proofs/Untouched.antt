@@ -1,5 +1,5 @@
--- A refusal leaves what was lent: of the runner and the bench by what theirs leave (runner/proofs/Untouched), of the other
--- calls since their values have numbers below the refusals'.
+-- A refusal leaves what was lent unchanged. For the runner and the bench this follows from runner/proofs/Untouched; for the other
+-- calls, from the fact that their values have numbers below the refusals.
 use mathlib.Core.{Bool.Bool, Bool.true, Bool.false, Bool.not, Logic.inl, Logic.inr, Option.Option, Option.none, Option.some}
 use mathlib.Core.{List.List, List.[], List._∷_, List.flatMap, Path._≡_, Path.refl, Path.sym, Path.ap, Path._∙_}
 use Prim.Native.Nat.{ℕ, _+_, _*_, _≤_}
@@ -43,7 +43,7 @@ use Rattle.export.specs.Untouched.{Refused, SaveTimeout, timedOutNumbers
 use Rattle.export.proofs.{Ranges.word-from, Calls.read-written, Calls.ran, Calls.ran-number, Calls.formed}
 use Rattle.export.proofs.Benches.{board-again, left-is}
 
--- a call that may time out, by the numbers f of what it leaves
+-- a call that may time out, where f gives the numbers of what it leaves
 carried : {A : Type 0} (f : A → List ℕ) (same out : A) (x : Outcome A) {r : ℕ} {before after timedOut : List ℕ}
     → HandsFormed (x .answer) → Stays same out x → r ≡ answerNumber progressNumber (x .answer) → after ≡ f (x .next)
     → f same ≡ before → f out ≡ timedOut → Refused r → SaveTimeout r before after timedOut
@@ -72,7 +72,7 @@ run-keeps ns kept sheet ready long r =
     (ap (λ (g : Held). callLeaves g (poll sheet ready) .numbers) (sym again) ∙ ap (λ (g : Held). g .numbers) (ran at sheet ready))
     (ap (λ (g : Held). g .numbers) again) (ap (λ (g : Held). timedOutNumbers (g .numbers)) again) r) (λ e. inl (rw e))
 
--- what a board of the eight answers, and that it hands out well-formed steps
+-- the answer of one of the eight boards, and that the steps it hands out are well formed
 board-number : (ns kept : List ℕ) (n : ℕ) (sheet : List ℕ) (ready : Bool) (few : n ≤ 7) → leb (nth ns (14 * n + 3)) 1 ≡ true
     → benchNumber ns kept n sheet ready ≡ answerNumber progressNumber (call ns kept n sheet ready few .answer)
 unfolding benchNumber
@@ -98,7 +98,7 @@ bench-keeps ns kept n sheet ready r =
     (board-number ns kept n sheet ready few m) (left-is ns kept n few marked sheet ready) (board-again ns n marked) refl r)
     (λ m. inl (sym (bad-leaves ns kept n sheet ready few (leb-false (nth ns (14 * n + 3)) 1 m)))))
 
--- a start whose number is a refusal's is refused
+-- a start that answers a refusal's number changes nothing
 start-refuses : {A : Type 0} (b next : A) (x : Begun A) (bad : Bool) → (bad ≡ true → begun (refusal 20) b ≡ x)
     → (bad ≡ false → begun (value started) next ≡ x) → {r : ℕ} → r ≡ answerNumber goNumber (x .answer) → Refused r
     → x ≡ begun (refusal 20) b

@@ -1,5 +1,5 @@
--- 15 and then 25 come before every other refusal of the preset from a crystal, from what the exported call promises alone: with
--- no plan there is nothing to refuse.
+-- Refusals 15 and then 25 precede every other refusal of the preset from a crystal. This follows from the exported call's
+-- contract alone: without a plan there is nothing else to refuse.
 use mathlib.Core.{Path._≡_, List.List, Option.some}
 use Prim.Native.Nat.{ℕ}
 use Rattle.base.specs.Answer.{Answer, refusal}

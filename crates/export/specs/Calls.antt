@@ -1,6 +1,6 @@
--- Exported calls one after another: what the caller holds after each, and what it is told. The theorems are in
--- proofs/Calls (a runner), proofs/Benches (a bench) and proofs/Sleeps (slots): what the caller holds after any calls are
--- the numbers of the runner, bench or slots after the same calls.
+-- Sequences of exported calls: the numbers and bytes that the caller holds after each, and the answers. The theorems are in
+-- proofs/Calls (a runner), proofs/BenchCalls (a bench) and proofs/Sleeps (slots): after any calls the caller holds the numbers of
+-- the runner, bench or slots after the same calls.
 use mathlib.Core.{Bool.Bool, Bool.false, Path._≡_, List.List, List.[], List._∷_, Option.some}
 use Prim.Native.Nat.{ℕ, zero, suc, _+_, _*_, _≤_, _<_}
 use lib.{Dec.eqb, ListN.length, ListN.getD, ListN.drop, ListN.replicate, Seq.sets}
@@ -33,7 +33,7 @@ pub record Held : Type 0 where
 abbrev pub runnerOf : Held → Runner
 runnerOf h = runnerIn (h .numbers) (h .bytes)
 
--- the other way: a runner's numbers
+-- encodes a runner as its numbers and bytes
 abbrev pub heldOf : Runner → Held
 heldOf r =
     let s = r .stepper .state in
@@ -42,7 +42,7 @@ heldOf r =
       bytes = r .kept;
     }
 
--- what `dizbaral_start` and `dizbaral_run` leave
+-- the numbers and bytes that `dizbaral_start` and `dizbaral_run` leave
 abbrev pub callLeaves : Held → Own → Held
 callLeaves h (start sheet) =
     let o = startOf (runnerOf h) sheet in
@@ -54,7 +54,7 @@ abbrev pub heldAfter : Held → List Own → Held
 heldAfter h [] = h
 heldAfter h (e ∷ es) = heldAfter (callLeaves h e) es
 
--- what the calls of `dizbaral_run` answer
+-- the answers of the calls of `dizbaral_run`
 abbrev pub runNumbers : Held → List Own → List ℕ
 runNumbers h [] = []
 runNumbers h (start sheet ∷ es) = runNumbers (callLeaves h (start sheet)) es
@@ -70,14 +70,14 @@ abbrev pub pollsWith : List ℕ → List Bool → List Own
 pollsWith sheet [] = []
 pollsWith sheet (ready ∷ flags) = poll sheet ready ∷ pollsWith sheet flags
 
--- whatever was there before a start that is taken, and whatever sheets are handed in after it: what is held is as after
--- the calls with the sheet of the start alone
+-- whatever the runner was before an accepted start, and whatever sheets are handed in after it, the numbers and bytes are those
+-- after the same calls with the sheet of the start alone
 abbrev pub ExportedOneSheet : Type 0
 ExportedOneSheet =
     (h : Held) (sheet : List ℕ) → badSize (length sheet) ≡ false → (calls : List Call)
     → heldAfter h (start sheet ∷ polls calls) ≡ heldAfter h (start sheet ∷ pollsWith sheet (flagsOf sheet calls))
 
--- a start, and then a call for each ready flag
+-- a start followed by a call for each ready flag
 unfoldable pub heldFrom : Held → List ℕ → (ℕ → Bool) → ℕ → Held
 heldFrom h sheet ready zero = callLeaves h (start sheet)
 heldFrom h sheet ready (suc i) = callLeaves (heldFrom h sheet ready i) (poll sheet (ready i))
@@ -86,9 +86,8 @@ abbrev pub numberOf : Held → List ℕ → (ℕ → Bool) → ℕ → ℕ
 numberOf h sheet ready i =
     runNumber (heldFrom h sheet ready i .numbers) (heldFrom h sheet ready i .bytes) sheet (ready i)
 
--- `ComesUp` of exported calls: whatever numbers and bytes the runner was started over, with at most k unready polls at
--- each wait 0 comes first after at most so many calls, and comes at each call from then on; the last ten numbers are then
--- the stored values
+-- `ComesUp` of exported calls: whatever the runner was before its start, with at most k unready polls at each wait the first
+-- answer 0 follows at most `mostCalls` calls, every later call answers 0, and the last ten numbers are then the stored values
 pub record ExportedUp (p : ClockConfig) (reading : ℕ) (h : Held) (k : ℕ) (ready : ℕ → Bool) : Type 0 where
   pub calls : ℕ
   pub few : calls ≤ mostCalls (settingsOf p reading .board .chip) k
@@ -109,7 +108,7 @@ pub record IsBench (ns : List ℕ) : Type 0 where
   pub all : length ns ≡ 113
   pub marked : (n : ℕ) → n ≤ 7 → getD ns (14 * n + 3) 0 ≤ 1
 
--- what `dizbaral_bench_start` and `dizbaral_bench_run` leave
+-- the numbers and bytes that `dizbaral_bench_start` and `dizbaral_bench_run` leave
 abbrev pub benchCallLeaves : Held → BenchEvent → Held
 benchCallLeaves h (BenchEvent.start sheet) =
     let o = startAllOf (benchIn (h .numbers) (h .bytes)) sheet in
@@ -121,7 +120,7 @@ abbrev pub benchHeldAfter : Held → List BenchEvent → Held
 benchHeldAfter h [] = h
 benchHeldAfter h (e ∷ es) = benchHeldAfter (benchCallLeaves h e) es
 
--- what the calls for board n answer
+-- the answers of the calls for board n
 abbrev pub benchNumbers : ℕ → Held → List BenchEvent → List ℕ
 benchNumbers n h [] = []
 benchNumbers n h (BenchEvent.start sheet ∷ es) = benchNumbers n (benchCallLeaves h (BenchEvent.start sheet)) es
@@ -129,15 +128,15 @@ benchNumbers n h (BenchEvent.poll m sheet ready ∷ es) =
     let rest = benchNumbers n (benchCallLeaves h (BenchEvent.poll m sheet ready)) es in
     pick (eqb m n) (benchNumber (h .numbers) (h .bytes) m sheet ready ∷ rest) rest
 
--- `AsSingle` of exported calls, of a bench h and a runner g that were started with the same sheet, whatever both were:
--- board n answered as the runner does over what concerns the board, and the board's numbers are the runner's fifteen
+-- `AsSingle` of exported calls, for a bench h and a runner g that are started with the same sheet, whatever both were: board n
+-- answers as the runner does over the board's own calls, and the board's numbers are the runner's fifteen
 pub record ExportedSingle (n : ℕ) (h g : Held) (sheet : List ℕ) (es : List BenchEvent) : Type 0 where
   pub answered : benchNumbers n h (BenchEvent.start sheet ∷ es) ≡ runNumbers g (start sheet ∷ ownOf n es)
   pub numbers :
       runnerAt (benchHeldAfter h (BenchEvent.start sheet ∷ es) .numbers) n ≡ heldAfter g (start sheet ∷ ownOf n es) .numbers
   pub bytes : benchHeldAfter h (BenchEvent.start sheet ∷ es) .bytes ≡ heldAfter g (start sheet ∷ ownOf n es) .bytes
 
--- `SameBoard` of exported calls: two benches h and d that were started with the same sheet
+-- `SameBoard` of exported calls, for two benches h and d that are started with the same sheet
 pub record ExportedSame (n : ℕ) (h d : Held) (sheet : List ℕ) (es fs : List BenchEvent) : Type 0 where
   pub answered : benchNumbers n h (BenchEvent.start sheet ∷ es) ≡ benchNumbers n d (BenchEvent.start sheet ∷ fs)
   pub numbers :
@@ -146,27 +145,27 @@ pub record ExportedSame (n : ℕ) (h d : Held) (sheet : List ℕ) (es fs : List 
 
 -- ---- the four slots: 48 numbers
 
--- what `dizbaral_sleep` and `dizbaral_wake` leave of them
+-- the slots that `dizbaral_sleep` and `dizbaral_wake` leave
 abbrev pub slotsLeft : (List Slot → ℕ → List ℕ → SleepOutcome) → List ℕ → ℕ → List ℕ → List ℕ
 slotsLeft change slots slot words =
     leftAsked (askedWith change slots slot words) (λ (o : SleepOutcome) (s : List Step). slotsNumbers (o .slots)) slots
 
--- after a history from zeros, the latest event first
+-- the slots after a history that starts from zeros, the latest event first
 unfoldable pub slotsAfter : List SleepEvent → List ℕ
 slotsAfter [] = replicate 48 0
 slotsAfter (sleeps slot ws ∷ h) = slotsLeft sleepOf (slotsAfter h) slot ws
 slotsAfter (wakes slot ws ∷ h) = slotsLeft wakeOf (slotsAfter h) slot ws
 slotsAfter (writes i v ∷ h) = slotsAfter h
 
--- the words that are handed in are eleven
+-- each call is given eleven words
 abbrev pub Elevens : List SleepEvent → Type 0
 Elevens [] = Unit {0}
 Elevens (sleeps slot ws ∷ h) = (length ws ≡ 11) × Elevens h
 Elevens (wakes slot ws ∷ h) = (length ws ≡ 11) × Elevens h
 Elevens (writes i v ∷ h) = Elevens h
 
--- `Restores` of exported calls: after any history a wake in a slot whose last sleep was handed the words ws answers them,
--- and its steps write them
+-- `Restores` of exported calls: after any history, a wake in a slot whose last sleep was given the words ws returns them, and its
+-- steps write them
 pub record ExportedRestores (ws slots words steps slots′ words′ steps′ : List ℕ) : Type 0 where
   pub wordsBack : words′ ≡ ws
   pub slotsKept : slots′ ≡ slots

@@ -1,4 +1,5 @@
--- Demand 3 of the exported calls: two sheets are equal exactly when their plans agree in every setting.
+-- Demand 3 of the exported calls: two sheets are equal exactly when their plans agree in every setting (docs/FORMAT.md, Settings
+-- that count).
 use mathlib.Core.{Path._≡_, Logic._↔_, List.List, Option.Option, Option.none, Option.some}
 use Prim.Native.Nat.{ℕ, _<_}
 use Rattle.base.specs.Answer.{Answer}
@@ -15,7 +16,7 @@ abbrev pub settingsIn : Option ClockConfig → ℕ → Option Settings
 settingsIn (some plan) reading = some (settingsOf plan reading)
 settingsIn none reading = none
 
--- Two calls at one reading, of any two plans, with any two buffers, that answered lengths.
+-- two calls at one reading, of any two plans, with any two buffers, that both answer lengths
 abbrev pub Sheets : Option (Answer ClockConfig) → Option (Answer ClockConfig) → Type 0
 Sheets p q =
     (reading : ℕ) (b b′ c c′ : List ℕ) (r s : ℕ)

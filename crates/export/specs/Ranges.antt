@@ -1,4 +1,4 @@
--- The ranges by which a caller tells exported answers apart, as bindings/c/dizbaral.h lists them.
+-- The ranges by which a caller distinguishes the kinds of exported answers, as bindings/c/dizbaral.h lists them.
 use Prim.Native.Nat.{ℕ, _^_, _≤_, _<_}
 use Rattle.base.specs.Answer.{refusal}
 use Rattle.pll.specs.declared.PllConfig.{PllConfig}
@@ -7,7 +7,7 @@ use Rattle.runner.specs.Run.{Progress, done, handed, passed, waiting}
 use Rattle.numbers.specs.Answers.{refusals, malformed, itself, answerNumber, settingNumber, levelNumber}
 use Rattle.numbers.specs.Run.{progressNumber}
 
--- a progress that hands out no step has a number below 2 ^ 48; a step that a sheet may hold one from 2 ^ 58 on
+-- an answer that hands out no step has a number below 2 ^ 48; a well-formed step has one from 2 ^ 58 on
 abbrev pub ProgressRange : Progress → Type 0
 ProgressRange done = progressNumber done < refusals
 ProgressRange passed = progressNumber passed < refusals
@@ -21,7 +21,7 @@ pub record Ranges : Type 1 where
       → settingNumber c < refusals
   pub voltages : (code brownout : ℕ) → code < 32 → brownout < 32 → levelNumber code brownout < refusals
   pub numbers : (n : ℕ) → n < 2 ^ 32 → itself n < refusals
-  -- a refusal of 8 bits is from 2 ^ 48 on and below 2 ^ 49, which says that the numbers given are no such thing
+  -- a refusal of 8 bits is from 2 ^ 48 on and below 2 ^ 49, which is the answer to malformed numbers
   pub refused : {A : Type 0} (f : A → ℕ) (n : ℕ) → n < 256
       → (refusals ≤ answerNumber f (refusal n)) × (answerNumber f (refusal n) < malformed)
   pub malformed-below : malformed < 2 ^ 58

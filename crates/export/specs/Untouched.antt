@@ -1,6 +1,6 @@
--- A refusal leaves what was lent as it was, for every exported call that may write: where the answer is a refusal, or says
--- that the numbers given are malformed, each number and each byte that was lent is the one that stood there before. The
--- one exception is the lock timeout of `dizbaral_run` and `dizbaral_bench_run`, the first refusal 22 of a run.
+-- A refusal leaves what was lent unchanged, for every exported call that may write: where the answer is a refusal or malformed,
+-- each lent number and byte keeps its value. The one exception is the lock timeout of `dizbaral_run` and `dizbaral_bench_run`,
+-- the first refusal 22 of a run.
 use mathlib.Core.{Bool.Bool, Path._≡_, Logic._⊎_, List.List, Option.Option}
 use Prim.Native.Nat.{ℕ, _+_, _^_, _≤_, _<_}
 use lib.ListN.{length, getD, set}
@@ -16,7 +16,7 @@ use Rattle.numbers.specs.Bench.{stepperAt, withBoard, benchNumber, benchLeaves,
 use Rattle.numbers.specs.{SleepCall.SlotsCall, Read.RowCall}
 use Rattle.export.specs.Sheet.{SheetCall}
 
--- an answer that is a refusal, or malformed: below lie the values, above the words of steps
+-- an answer that is a refusal or malformed; values are below this range, the words of steps above it
 abbrev pub Refused : ℕ → Type 0
 Refused r = (refusals ≤ r) × (r < 2 ^ 58)
 
@@ -24,7 +24,7 @@ Refused r = (refusals ≤ r) × (r < 2 ^ 58)
 abbrev pub SaveTimeout : ℕ → List ℕ → List ℕ → List ℕ → Type 0
 SaveTimeout r before after timedOut = (after ≡ before) ⊎ ((r ≡ refusals + 22) × (after ≡ timedOut))
 
--- the lock timeout sets the mark and adds 1 to the total, which sticks at its top
+-- the lock timeout sets the stopped mark and adds 1 to the total, which saturates
 abbrev pub timedOutNumbers : List ℕ → List ℕ
 timedOutNumbers ns = set (set ns 2 (oneMore (getD ns 2 0))) 3 1
 

@@ -1,4 +1,5 @@
--- The order of the refusals of `dizbaral_system_sheet_from`.
+-- The order of the refusals of `dizbaral_system_sheet_from`: 15 first, then 25, then those of the sheet (docs/FORMAT.md,
+-- Refusals).
 use mathlib.Core.{Path._≡_, List.List, Option.some}
 use Prim.Native.Nat.{ℕ, _+_}
 use Rattle.base.specs.Answer.{value, refusal}
@@ -9,12 +10,12 @@ use Rattle.config.specs.Presets.{systemPlanFrom}
 use Rattle.numbers.specs.Answers.{refusals, chipNumbered}
 use Rattle.export.specs.Sheet.{SheetCall, presetOn}
 
--- a call answered refusal n, and wrote nothing
+-- a call answers refusal n and writes nothing
 abbrev pub Refuses : ℕ → ℕ → List ℕ → List ℕ → Type 0
 Refuses n r before after = (r ≡ refusals + n) × (after ≡ before)
 
--- 25 is given before any other refusal of the preset but 15: at any reading and into any buffer, so whatever else would be
--- refused of its plan or its sheet, the answer is 15 where the search has no system PLL, and else 25 where there is no USB PLL.
+-- 25 precedes every other refusal of the preset except 15. At any reading and into any buffer, the answer is 15 where the search
+-- finds no system PLL, and otherwise 25 where there is no USB PLL.
 abbrev pub UsbRefusalFirst : Type 0
 UsbRefusalFirst =
     (on from hz reading r : ℕ) (before after : List ℕ) (chip : Chip) → chipNumbered on ≡ some chip

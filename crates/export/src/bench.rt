@@ -1,11 +1,11 @@
-// A bench as 113 numbers: of each of its eight boards position, lock polls, total, stopped mark and ten frequencies, then
-// the kept length; and its kept bytes. A board and the kept length are a runner's numbers: module run.
+// A bench as 113 numbers and its kept bytes: for each of its eight boards position, lock polls, total, stopped mark and ten
+// frequencies, then the kept length. A board's numbers and the kept length are a runner's numbers.
 use numbers::answers;
 use step::MAX_BYTES;
 ghost use mathlib.Core.Path.{_≡_};
 ghost use Rattle.numbers.specs.Bench.{benchNumber, benchLeaves, StartAllCall};
 
-// Any numbers may be given: a start makes a bench of them.
+// Starts eight fresh boards with one sheet and answers 0; any numbers may be given before. Refusal: 20.
 #[no_mangle]
 pub extern "C" fn dizbaral_bench_start(
     bench: &mut [u32; 113],
@@ -23,6 +23,7 @@ pub extern "C" fn dizbaral_bench_start(
     number
 }
 
+// One call for a board, as `dizbaral_run` for a runner. Refusals: 28, then those of `dizbaral_run`; a bad mark is malformed.
 #[no_mangle]
 pub extern "C" fn dizbaral_bench_run(
     bench: &mut [u32; 113],

@@ -1,4 +1,5 @@
-// The product for programs in C and Rust: numbers and slices alone. Each answer is one number, by numbers/specs/Answers.
+// The product for programs in C and Rust: its calls take numbers and slices only. Each answer is one number, by
+// numbers/specs/Answers.
 pub mod bench;
 pub mod read;
 pub mod slots;
@@ -33,6 +34,7 @@ ghost use Rattle.export.specs.Sheet.{SheetCall, presetOn, given, planOn}
 ghost use Rattle.numbers.specs.Run.{runNumber, runLeaves, StartCall};
 ghost use Rattle.numbers.specs.Access.{AccessCall};
 
+// The PLL setting for a target, as one number. Refusal: 15.
 #[no_mangle]
 pub extern "C" fn dizbaral_search(input_hz: u32, target_hz: u32) -> u64
     ensures { λ r. ⌜ r ≡ answerNumber settingNumber (searchOf «input_hz» «target_hz») ⌝ }
@@ -40,6 +42,7 @@ pub extern "C" fn dizbaral_search(input_hz: u32, target_hz: u32) -> u64
     answers::found(pll::find_pll_params(input_hz, target_hz))
 }
 
+// The PLL setting for a target from a 12 MHz crystal, by the book. Refusal: 15.
 #[no_mangle]
 pub extern "C" fn dizbaral_lookup(target_hz: u32) -> u64
     ensures { λ r. ⌜ r ≡ answerNumber settingNumber (searchOf crystal «target_hz») ⌝ }
@@ -47,6 +50,7 @@ pub extern "C" fn dizbaral_lookup(target_hz: u32) -> u64
     answers::found(speed_book::lookup(target_hz))
 }
 
+// Writes the 12 MHz book, for `dizbaral_lookup_in`.
 #[no_mangle]
 pub extern "C" fn dizbaral_open_book(book: &mut [u64; 1988])
     ensures { λ _. ⌜ now (book .exit) ≡ table ⌝ }
@@ -54,6 +58,7 @@ pub extern "C" fn dizbaral_open_book(book: &mut [u64; 1988])
     *book = speed_book::open();
 }
 
+// The PLL setting for a target, looked up in an open book. Refusal: 15.
 #[no_mangle]
 pub extern "C" fn dizbaral_lookup_in(book: &[u64; 1988], target_hz: u32) -> u64
     ensures { λ r. ⌜ r ≡ answerNumber settingNumber (lookupIn (now (book .entry)) «target_hz») ⌝ }
@@ -61,6 +66,7 @@ pub extern "C" fn dizbaral_lookup_in(book: &[u64; 1988], target_hz: u32) -> u64
     answers::found(speed_book::lookup_in(book, target_hz))
 }
 
+// The PLL setting that gives exactly 48 MHz from a crystal. Refusal: 25.
 #[no_mangle]
 pub extern "C" fn dizbaral_usb_pll(crystal_hz: u32) -> u64
     ensures { λ r. ⌜ r ≡ answerNumber settingNumber (usbOf «crystal_hz») ⌝ }
@@ -68,6 +74,7 @@ pub extern "C" fn dizbaral_usb_pll(crystal_hz: u32) -> u64
     answers::found(pll::usb::find_usb_pll(crystal_hz))
 }
 
+// Writes the nearest lower and higher targets with another setting, 2 ^ 32 where absent; answers 0. Refusal: 15.
 #[no_mangle]
 pub extern "C" fn dizbaral_target_margin(
     input_hz: u32,
@@ -86,6 +93,7 @@ pub extern "C" fn dizbaral_target_margin(
     }
 }
 
+// Whether the four dividers are valid for an input frequency.
 #[no_mangle]
 pub extern "C" fn dizbaral_is_valid(
     input_hz: u32,
@@ -105,6 +113,7 @@ pub extern "C" fn dizbaral_is_valid(
     setting.is_valid(input_hz)
 }
 
+// The output frequency of a PLL in Hz, without a test of validity. Refusal: 16.
 #[no_mangle]
 pub extern "C" fn dizbaral_output_frequency(
     input_hz: u32,
@@ -124,6 +133,7 @@ pub extern "C" fn dizbaral_output_frequency(
     answers::number(setting.output_frequency(input_hz))
 }
 
+// The voltage code and brownout level of a regulator reading. Refusal: 18; an unknown chip is malformed.
 #[no_mangle]
 pub extern "C" fn dizbaral_core_voltage(chip: u8, reading: u8) -> u64
     ensures { λ r. ⌜ r ≡ onChip (λ on. voltageNumber on reading) (chipNumbered chip) ⌝ }
@@ -134,6 +144,7 @@ pub extern "C" fn dizbaral_core_voltage(chip: u8, reading: u8) -> u64
     }
 }
 
+// The PIO clock divider in 256ths. Refusal: 17.
 #[no_mangle]
 pub extern "C" fn dizbaral_pio_divider(sys_hz: u32, target_hz: u32) -> u64
     ensures { λ r. ⌜ r ≡ answerNumber itself (pioOf «sys_hz» «target_hz») ⌝ }
@@ -141,6 +152,7 @@ pub extern "C" fn dizbaral_pio_divider(sys_hz: u32, target_hz: u32) -> u64
     answers::number(divider::calculate_pio_clock_divider_value(sys_hz, target_hz))
 }
 
+// The frequency of a Gpout in Hz. Refusal: 23; an unknown chip or a fraction of too many bits is malformed.
 #[no_mangle]
 pub extern "C" fn dizbaral_gpout_frequency(
     chip: u8,
@@ -157,12 +169,14 @@ pub extern "C" fn dizbaral_gpout_frequency(
     }
 }
 
+// Writes a plan's sheet and answers its length. Refusals: 18, 1 to 14, 19.
 fn write(plan: ClockConfig, reading: u8, sheet: &mut [u8]) -> u64
     ensures { λ r. ⌜ SheetCall (some (value plan)) reading (now (sheet .entry)) r (now (sheet .exit)) ⌝ }
 {
     answers::length(sheet::init(plan, reading, sheet))
 }
 
+// Writes the sheet of a preset's plan, or answers the preset's refusal.
 fn write_planned(plan: Planned, reading: u8, sheet: &mut [u8]) -> u64
     ensures { λ r. ⌜ SheetCall (some (plannedIs plan)) reading (now (sheet .entry)) r (now (sheet .exit)) ⌝ }
 {
@@ -172,6 +186,7 @@ fn write_planned(plan: Planned, reading: u8, sheet: &mut [u8]) -> u64
     }
 }
 
+// Writes the sheet of a plan that is given as numbers; numbers of no plan are malformed.
 fn write_given(plan: PlanRead, reading: u8, sheet: &mut [u8]) -> u64
     ensures { λ r. ⌜ SheetCall (given (planReadIs plan)) reading (now (sheet .entry)) r (now (sheet .exit)) ⌝ }
 {
@@ -181,6 +196,7 @@ fn write_given(plan: PlanRead, reading: u8, sheet: &mut [u8]) -> u64
     }
 }
 
+// Writes the sheet of `system_freq` and answers its length. Refusals: 18, 1 to 14, 19; an unknown chip is malformed.
 #[no_mangle]
 pub extern "C" fn dizbaral_system_sheet(chip: u8, hz: u32, reading: u8, sheet: &mut [u8]) -> u64
     ensures { λ r. ⌜ SheetCall (presetOn (λ on. systemPlan on hz) (chipNumbered chip)) reading (now (sheet .entry)) r (now (sheet .exit)) ⌝ }
@@ -191,6 +207,7 @@ pub extern "C" fn dizbaral_system_sheet(chip: u8, hz: u32, reading: u8, sheet: &
     }
 }
 
+// Writes the sheet of `system_freq_from`. Refusals: 15, 25, 18, 1 to 14, 19; an unknown chip is malformed.
 #[no_mangle]
 pub extern "C" fn dizbaral_system_sheet_from(
     chip: u8,
@@ -211,6 +228,7 @@ pub extern "C" fn dizbaral_system_sheet_from(
     }
 }
 
+// Writes the sheet of a plan given as numbers. Refusals: 18, 1 to 14, 19; an unknown chip or no plan is malformed.
 #[no_mangle]
 pub extern "C" fn dizbaral_plan_sheet(chip: u8, plan: &[u32], reading: u8, sheet: &mut [u8]) -> u64
     ensures { λ r. ⌜ SheetCall (planOn (now (plan .entry)) (chipNumbered chip)) reading (now (sheet .entry)) r (now (sheet .exit)) ⌝ }
@@ -221,6 +239,7 @@ pub extern "C" fn dizbaral_plan_sheet(chip: u8, plan: &[u32], reading: u8, sheet
     }
 }
 
+// Writes every setting that gives the target exactly, two bytes each, and answers the length in bytes. Refusal: 19.
 #[no_mangle]
 pub extern "C" fn dizbaral_list(input_hz: u32, target_hz: u32, list: &mut [u8]) -> u64
     ensures { λ r. ⌜ r ≡ answerNumber itself (listedOf «input_hz» «target_hz» (length (now (list .entry)))) ⌝ }
@@ -229,7 +248,7 @@ pub extern "C" fn dizbaral_list(input_hz: u32, target_hz: u32, list: &mut [u8]) 
     answers::length(lister::list_exact(input_hz, target_hz, list))
 }
 
-// Any numbers may be given: a start makes a runner of them.
+// Starts a runner with a sheet and answers 0; any numbers may be given before. Refusal: 20.
 #[no_mangle]
 pub extern "C" fn dizbaral_start(
     runner: &mut [u32; 15],
@@ -241,6 +260,7 @@ pub extern "C" fn dizbaral_start(
     numbers::board::start(runner, kept, sheet)
 }
 
+// One call of the runner: done, passed, waiting, or the word of the step handed out. Refusals: 21, 22, 27, 20.
 #[no_mangle]
 pub extern "C" fn dizbaral_run(
     runner: &mut [u32; 15],
@@ -254,7 +274,7 @@ pub extern "C" fn dizbaral_run(
     numbers::board::call(runner, kept, sheet, ready)
 }
 
-// What the step at a position of a sheet does to the chip.
+// Writes the register access of the step at a position: address, mask and value; answers its kind. Refusal: 20.
 #[no_mangle]
 pub extern "C" fn dizbaral_access(
     chip: u8,
@@ -267,6 +287,7 @@ pub extern "C" fn dizbaral_access(
     numbers::board::access(chip, sheet, position, access)
 }
 
+// The most calls until a run is done, where each wait has at most k unready polls; 2 ^ 32 - 1 from 1000000 on.
 #[no_mangle]
 pub extern "C" fn dizbaral_longest_wait(k: u32) -> u32
     ensures { λ r. ⌜ r ≡ longestWait k ⌝ }

@@ -1,7 +1,8 @@
-// Sleep and wake over slots, words and steps that are given as numbers (numbers/src/slots).
+// Sleep and wake (docs/SLEEP.md) over slots, words and steps that are given as numbers (numbers/src/slots).
 ghost use Rattle.sleep.specs.Sleep.{sleepOf, wakeOf};
 ghost use Rattle.numbers.specs.SleepCall.{askedWith, SlotsCall};
 
+// Saves the words in a slot and writes the sleep's steps; answers their count of numbers. Refusal: 29; a bad flag is malformed.
 #[no_mangle]
 pub extern "C" fn dizbaral_sleep(
     slots: &mut [u32; 48],
@@ -14,6 +15,7 @@ pub extern "C" fn dizbaral_sleep(
     numbers::sleep_call::change(false, slots, slot, words, steps)
 }
 
+// Restores the words of a slot and writes the wake's steps. Refusals: 29, 30; a bad flag is malformed.
 #[no_mangle]
 pub extern "C" fn dizbaral_wake(
     slots: &mut [u32; 48],

@@ -1,4 +1,5 @@
--- `export::dizbaral_core_voltage` meets its contract.
+-- `export::dizbaral_core_voltage` meets its contract: the answer of `answers::chip` picks the case: a chip carries on the
+-- equation of `answers::voltage`, and any other number is malformed.
 use borrow.Author.Needs.{needs}
 use Rattle.export.proofs.dizbaral_core_voltage.Statement.{statement}
 use Rattle.export.proofs.dizbaral_core_voltage.Tie as tie

@@ -1,4 +1,5 @@
--- `export::dizbaral_gpout_frequency` meets its contract.
+-- `export::dizbaral_gpout_frequency` meets its contract: the answer of `answers::divider` picks the case: a divider carries on
+-- the equations of `get_freq` and `answers::number`, and any other is malformed.
 use borrow.Author.Needs.{needs}
 use Rattle.export.proofs.dizbaral_gpout_frequency.Statement.{statement}
 use Rattle.export.proofs.dizbaral_gpout_frequency.Tie as tie

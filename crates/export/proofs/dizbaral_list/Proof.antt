@@ -1,4 +1,5 @@
--- `export::dizbaral_list` meets its contract.
+-- `export::dizbaral_list` meets its contract: `list_exact` gives the answer and the buffer, and `answers::length` the answer's
+-- number.
 use mathlib.Core.Path.{ap, _∙_}
 use borrow.Author.Needs.{needs}
 use Rattle.numbers.specs.Answers.{answerNumber, itself}

@@ -1,4 +1,4 @@
--- `export::dizbaral_lookup` meets its contract.
+-- `export::dizbaral_lookup` meets its contract: `speed_book::lookup` gives the search at 12 MHz, and `answers::found` its number.
 use borrow.Author.Needs.{needs}
 use Rattle.export.proofs.dizbaral_lookup.Statement.{statement}
 use Rattle.export.proofs.dizbaral_lookup.Tie as tie

@@ -1,4 +1,4 @@
--- `export::dizbaral_output_frequency` meets its contract.
+-- `export::dizbaral_output_frequency` meets its contract: `output_frequency` gives the answer, and `answers::number` its number.
 use borrow.Author.Needs.{needs}
 use Rattle.export.proofs.dizbaral_output_frequency.Statement.{statement}
 use Rattle.export.proofs.dizbaral_output_frequency.Tie as tie

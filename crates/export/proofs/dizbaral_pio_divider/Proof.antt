@@ -1,4 +1,5 @@
--- `export::dizbaral_pio_divider` meets its contract.
+-- `export::dizbaral_pio_divider` meets its contract: `calculate_pio_clock_divider_value` gives the answer, and `answers::number`
+-- its number.
 use borrow.Author.Needs.{needs}
 use Rattle.export.proofs.dizbaral_pio_divider.Statement.{statement}
 use Rattle.export.proofs.dizbaral_pio_divider.Tie as tie

@@ -1,4 +1,5 @@
--- `export::dizbaral_plan_sheet` meets its contract.
+-- `export::dizbaral_plan_sheet` meets its contract: the answer of `answers::chip` picks the case: a chip carries on the equations
+-- of `plan::plan` and `write_given`, and any other number is malformed and writes nothing.
 use mathlib.Core.Path.{refl}
 use borrow.Author.Needs.{needs}
 use Rattle.export.proofs.dizbaral_plan_sheet.Statement.{statement}

@@ -1,4 +1,4 @@
--- `export::dizbaral_search` meets its contract.
+-- `export::dizbaral_search` meets its contract: `find_pll_params` gives the search, and `answers::found` its number.
 use borrow.Author.Needs.{needs}
 use Rattle.export.proofs.dizbaral_search.Statement.{statement}
 use Rattle.export.proofs.dizbaral_search.Tie as tie

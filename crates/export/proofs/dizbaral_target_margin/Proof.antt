@@ -1,4 +1,5 @@
--- `export::dizbaral_target_margin` meets its contract.
+-- `export::dizbaral_target_margin` meets its contract: the variant that `target_margin` answers picks the case: the equations of
+-- `limit` give the two limits, and a refusal leaves them.
 use mathlib.Core.Path.{refl, sym, ap, _∙_}
 use borrow.Author.Needs.{needs}
 use Rattle.margin.specs.Margin.{marginIs}

@@ -1,4 +1,4 @@
--- `export::dizbaral_usb_pll` meets its contract.
+-- `export::dizbaral_usb_pll` meets its contract: `find_usb_pll` gives the setting, and `answers::found` its number.
 use borrow.Author.Needs.{needs}
 use Rattle.export.proofs.dizbaral_usb_pll.Statement.{statement}
 use Rattle.export.proofs.dizbaral_usb_pll.Tie as tie

@@ -1,4 +1,5 @@
--- `export::write` meets its contract.
+-- `export::write` meets its contract: `sheet::init` gives the answer, the buffer and the typed settings, and `answers::length`
+-- the answer's number.
 use mathlib.Core.Path.{ap, _∙_}
 use borrow.Author.Needs.{needs}
 use Rattle.numbers.specs.Answers.{answerNumber, itself}

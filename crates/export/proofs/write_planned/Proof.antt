@@ -1,4 +1,5 @@
--- `export::write_planned` meets its contract.
+-- `export::write_planned` meets its contract: the variant picks the case: a plan carries on the equation of `write`, and a
+-- refusal writes nothing.
 use mathlib.Core.Path.{refl}
 use borrow.Author.Needs.{needs}
 use Rattle.export.proofs.write_planned.Statement.{statement}

@@ -1,4 +1,6 @@
--- `export::bench::dizbaral_bench_run` meets its contract.
+-- `export::bench::dizbaral_bench_run` meets its contract: a board over 7 is refused by `over-number` and `over-leaves`, a bad
+-- mark is malformed by `bad-number` and `bad-leaves`, and else `board-number` and `board-leaves` turn the equations of
+-- `dizbaral_run` over the board's numbers into those of the bench.
 use borrow.Author.Needs.{needs}
 use mathlib.Core.{List.List, Path.ap, Path._∙_}
 use Prim.Native.Nat.{ℕ, _*_}

@@ -1,4 +1,5 @@
--- `export::bench::dizbaral_bench_start` meets its contract.
+-- `export::bench::dizbaral_bench_start` meets its contract: `dizbaral_start` decides: `all-started` says that where it answers 0
+-- the zeros and the kept length are eight fresh boards, and `all-turned` that a refusal leaves the bench.
 use borrow.Author.Needs.{needs}
 use Rattle.numbers.proofs.Boards.{all-started, all-turned}
 use Rattle.export.proofs.bench.{dizbaral_bench_start.Statement.statement}

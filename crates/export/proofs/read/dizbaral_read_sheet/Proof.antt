@@ -1,4 +1,5 @@
--- `export::read::dizbaral_read_sheet` meets its contract.
+-- `export::read::dizbaral_read_sheet` meets its contract: `read_sheet` gives the plan or the refusal, and `numbers::read::leave`
+-- the numbers of it.
 use borrow.Author.Needs.{needs}
 use Rattle.export.proofs.read.dizbaral_read_sheet.Statement.{statement}
 use Rattle.export.proofs.read.dizbaral_read_sheet.Tie as tie
