@@ -1,4 +1,4 @@
--- A function that changes a struct in place by a function of its value, a walk of its MIR:
+-- The theorem of a function that changes a struct in place by a function g of its value, proved by a walk of its MIR:
 --     let s = g(*r, xs ..); *r = s.next; s.answer        or, of one field,        r.f = s.next
 -- The borrow is opened, the struct that it points to is copied into a local, g is called on the copy, the struct that g returns
 -- is stored over the old value, and the borrow is closed at the new one. The theorem is stated over the types and the contract of

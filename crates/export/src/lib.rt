@@ -287,7 +287,7 @@ pub extern "C" fn dizbaral_access(
     numbers::board::access(chip, sheet, position, access)
 }
 
-// The most calls until a run is done, where each wait has at most k unready polls; 2 ^ 32 - 1 from 1000000 on.
+// The most calls until a run is done, where each wait has at most k unready polls; 2 ^ 32 - 1 for k from 1000000 on.
 #[no_mangle]
 pub extern "C" fn dizbaral_longest_wait(k: u32) -> u32
     ensures { λ r. ⌜ r ≡ longestWait k ⌝ }

@@ -1,4 +1,5 @@
--- A bench as numbers: its boards, a call for one, and a start of all.
+-- A bench given as numbers: a call for a board is the runner's call over the board's numbers, and a start of one runner over
+-- zeros decides the start of all eight boards.
 use mathlib.Core.{Bool.Bool, Bool.true, Bool.false, List.List, Path._≡_, Path.refl, Path.sym, Path.ap, Path._∙_}
 use Prim.Native.Nat.{ℕ, zero, suc, _+_, _*_, _<_, _≤_}
 use native.Mathlib.Omega.{arith}
@@ -25,7 +26,7 @@ board-from (suc count) n zero ns h = ap (stepperAt ns) (omega arith)
 board-from (suc count) n (suc i) ns h = board-from count (suc n) i ns (omega arith) ∙ ap (stepperAt ns) (omega arith)
 
 module _ (ns kept : List ℕ) (n : ℕ) (sheet : List ℕ) (ready : Bool) where
-  -- a number over 7
+  -- a board number over 7 is refused
   pub over-number : 7 < n → refusals + 28 ≡ benchNumber ns kept n sheet ready
   unfolding benchNumber
   over-number h = rw (lt-ltb 7 n h)
@@ -36,7 +37,7 @@ module _ (ns kept : List ℕ) (n : ℕ) (sheet : List ℕ) (ready : Bool) where
   over-leaves h = rw (lt-ltb 7 n h) refl
 
   module _ (few : n ≤ 7) where
-    -- a mark that is none
+    -- a stopped mark other than 0 and 1 is malformed
     module _ (bad : 1 < nth ns (14 * n + 3)) where
       pub bad-number : malformed ≡ benchNumber ns kept n sheet ready
       unfolding benchNumber
@@ -49,7 +50,7 @@ module _ (ns kept : List ℕ) (n : ℕ) (sheet : List ℕ) (ready : Bool) where
     pub board-at : boardAt (benchIn ns kept) n ≡ stepperAt ns n
     board-at = board-from 8 0 n ns (omega arith) ∙ ap (stepperAt ns) (omega arith)
 
-    -- what the board does
+    -- the call of the board's own stepper
     abbrev pub call : Outcome Stepper
     call = stepperOf (stepperAt ns n) (nth ns 112) kept sheet ready
 
@@ -73,7 +74,7 @@ module _ (ns kept : List ℕ) (n : ℕ) (sheet : List ℕ) (ready : Bool) where
       unfolding runLeaves benchLeaves advanceOf withState withFreqs
       board-leaves = rw (le-ltb 7 n few, le-leb _ _ good, next-board) refl
 
--- a start of one board over zeros, told of all eight
+-- a start of one runner over zeros, as the start of all eight boards
 module _ (ns kept sheet : List ℕ) (r : ℕ) (one kept′ : List ℕ)
     (call : StartCall (replicate 15 0) kept sheet r one kept′) where
   abbrev board : Runner

@@ -1,4 +1,4 @@
--- One step more behind the first ones.
+-- The numbers of the first i + 1 steps are those of the first i and of step i, as the loop of `put_steps` places them.
 use mathlib.Core.{Path._≡_, List.List, List.[], List._∷_, List._++_, List.append-nil, List.append-assoc}
 use Prim.Native.Nat.{ℕ, _+_, _<_}
 use native.Mathlib.Numerals.{add-one}
@@ -9,7 +9,7 @@ use Rattle.base.specs.Placed.{Placed}
 use Rattle.base.proofs.Parts.{Parts, parts-next}
 use Rattle.numbers.specs.Slots.{eachStep}
 
--- i of the first count steps are put, each as f says
+-- i of the first count steps are placed, each as the numbers that f gives
 abbrev pub StepParts : (Step → List ℕ) → List Item → ℕ → List ℕ → ℕ → ℕ → ℕ → List ℕ → Type 0
 StepParts f items count = Parts (λ k. eachStep f (firstSteps items k)) count
 

@@ -1,4 +1,4 @@
--- The test on a row, number by number.
+-- The test of a row against its limits takes one number and one limit at a time.
 use mathlib.Core.{Path._≡_, Bool.Bool, Bool._&&_, List.List}
 use Prim.Native.Nat.{ℕ, suc, _+_, _<_}
 use native.Mathlib.Omega.{arith}

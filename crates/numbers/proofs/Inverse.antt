@@ -1,4 +1,4 @@
--- The numbers of a plan are read to the plan, and a row that is read as a plan is the row of the plan's numbers.
+-- The numbers of a plan read back as the plan, and a row that reads as a plan is the row of that plan's numbers.
 use mathlib.Core.{Bool.Bool, Bool.true, Bool.false, Bool._&&_, Option.Option, Option.none, Option.some}
 use mathlib.Core.{List.List, List.[], List._∷_, List._++_, Path._≡_, Path.refl, Path.sym, Path.ap, Path._∙_}
 use Prim.Native.Nat.{ℕ, _≤_}
@@ -104,7 +104,7 @@ crystal-row m s u em es eu ls lu = go (eqb (nth m 0) 1) refl
         let w = fits false m 0 crystalLimits (rw f at em) in
         rw f (gone m crystalLimits em (w .0), gone s pllLimits es (omega (arith, w .0)), gone u pllLimits eu (omega (arith, w .0)))
 
--- ---- a plan, with its chip's part c apart
+-- ---- a plan, with its chip-specific part c separate
 
 abbrev planWith : ChipConfig → ClockConfig → ClockConfig
 planWith c p =
@@ -186,7 +186,7 @@ module _ (c : ChipConfig) (p : ClockConfig) (t : PlanTyped p) (z : List ℕ) whe
       ∙ ap (λ (b : Bool). pick b (withChip (chipAt chip row) row) none) (both fit (both oscillators-fit clocks-fit))
       ∙ ap (λ (o : Option ChipConfig). withChip o row) read ∙ ap some plan-is
 
--- every plan is read back from its numbers
+-- every typed plan reads back from its numbers
 pub plan-back : (p : ClockConfig) → PlanTyped p → planNumbered (boardOf (p .chip) .chip) (planRow p) ≡ some p
 unfolding wholeChip isPart chipAt rtcAt
 plan-back p t = go (p .chip) (t .chip)
@@ -217,9 +217,9 @@ plan-back p t = go (p .chip) (t .chip)
           «div_frac» = cut (h .1) i;
         }))))
 
--- ---- a row that is read
+-- ---- a row that reads as a plan
 
--- the chip's part of it
+-- the chip-specific part of it
 abbrev old : CoreVoltage → List ℕ → ChipConfig
 old v n = on2040 (record { «core_voltage» = v; «div_int» = nth n 31; «div_frac» = byteAt n 32; «rtc_clk» = rtcAt n })
 
@@ -292,7 +292,7 @@ module _ (n : List ℕ) (osc : wholeOscillators n ≡ true) (clk : wholeClocks n
       plan-row (new v n) (code-is (codeOf Rp235x) (voltages Rp235x) v read) (cut (w .0)) (cut (w .1 .0))
       ∙ row-whole 43 n (eqb-true (length n) 43 (h .0))
 
--- an option that is there
+-- the value of an option, or a default
 abbrev or : {A : Type 0} → A → Option A → A
 or a (some x) = x
 or a none = a
@@ -300,7 +300,7 @@ or a none = a
 abbrev tests : Chip → List ℕ → List Bool
 tests chip n = wholeChip chip n ∷ wholeOscillators n ∷ wholeClocks n ∷ []
 
--- a row that is read as a plan is the row of its numbers, and the plan is one of the chip
+-- a row that reads as a plan is the row of the plan's numbers, and the plan is for the chip asked for
 pub row-back : (chip : Chip) (n : List ℕ) (p : ClockConfig) → planNumbered chip n ≡ some p
     → (planRow p ≡ n) × (boardOf (p .chip) .chip ≡ chip)
 unfolding planNumbered chipAt planAt

@@ -1,5 +1,5 @@
--- The numbers of a plan and the plan of its numbers are inverse to each other, part by part: a part's numbers are read to
--- the part, and a part that is read has these numbers.
+-- Writing a plan as numbers and reading it from them are inverse to each other, part by part: a part's numbers read back as the
+-- part, and a part that is read has these numbers.
 use mathlib.Core.{Bool.Bool, Bool.true, Bool.false, Bool._&&_}
 use mathlib.Core.{List.List, List.[], List._∷_, List._++_, Path._≡_, Path.refl, Path.sym, Path.ap, Path._∙_}
 use Prim.Native.Nat.{ℕ, zero, suc, min, _≤_}
@@ -32,7 +32,7 @@ use Rattle.numbers.specs.Typed.{PllTyped, RingTyped, TimeTyped, AuxTyped
 
 -- ---- numbers in a row
 
--- so many numbers from place i on
+-- k numbers from index i on
 abbrev pub rowFrom : ℕ → ℕ → List ℕ → List ℕ
 rowFrom zero i l = []
 rowFrom (suc k) i l = nth l i ∷ rowFrom k (suc i) l
@@ -55,7 +55,7 @@ cut h = omega arith
 pub both : {a b : Bool} → a ≡ true → b ≡ true → (a && b) ≡ true
 both {a} {b} e f = rw (e, f)
 
--- what the limits say, number by number
+-- the bounds that the limits give, number by number
 abbrev pub Within : Bool → List ℕ → ℕ → List ℕ → Type 0
 Within there n i [] = Unit {0}
 Within there n i (limit ∷ limits) = (nth n i ≤ pick there limit 0) × Within there n (suc i) limits
@@ -70,7 +70,7 @@ fits there n i (limit ∷ limits) e =
     let h = both-true (leb (nth n i) (pick there limit 0)) (fitFrom there n (suc i) limits) e in
     (leb-true (nth n i) (pick there limit 0) (h .0), fits there n (suc i) limits (h .1))
 
--- a part that is there, and one that is absent
+-- the numbers of a part that is there fit their limits, and those of an absent part are all 0
 pub there-fits : (n limits : List ℕ) → nth n 0 ≡ 1 → Within true n 0 limits → isPart n 0 limits ≡ true
 unfolding isPart
 there-fits n limits e w = rw (eq-eqb (nth n 0) 1 e) (fit true n 0 limits w)
@@ -87,7 +87,7 @@ pub gone : (n limits : List ℕ) → isPart n 0 limits ≡ true → nth n 0 ≤ 
 unfolding isPart
 gone n limits e h = absent-row n 0 limits (fits false n 0 limits (rw (ne-eqb (nth n 0) 1 (λ one. omega arith)) at e))
 
--- a part o of the numbers n: by its flag all are within the limits, or all are 0
+-- a part o that is read from the numbers n: by its flag all numbers are within the limits, or all are 0
 by-flag : {A : Type 0} (row : A → List ℕ) (o : A) (n limits : List ℕ) → isPart n 0 limits ≡ true
     → (eqb (nth n 0) 1 ≡ true → nth n 0 ≡ 1 → Within true n 0 limits → row o ≡ rowFrom (length limits) 0 n)
     → (eqb (nth n 0) 1 ≡ false → row o ≡ replicate (length limits) 0) → row o ≡ rowFrom (length limits) 0 n
@@ -119,7 +119,7 @@ peri-code PeriClkSrc.PllUsb = (refl, omega arith)
 peri-code PeriClkSrc.Rosc = (refl, omega arith)
 peri-code PeriClkSrc.Xosc = (refl, omega arith)
 
--- a number up to 4 that is the code of what it stands for
+-- a number within the range of a code is the code of the variant that it decodes to
 pub codes : (n : ℕ) → (n ≤ 3 → (rangeCode (rangeFrom n) ≡ n) × (auxCode (auxFrom n) ≡ n)) × (n ≤ 2 → refCode (refFrom n) ≡ n)
     × (n ≤ 4 → (sysCode (sysSourceFrom n) ≡ n) × (periAux (periFrom n) ≡ n))
 codes zero = ((λ h. (refl, refl)), (λ h. refl), λ h. (refl, refl))
@@ -141,7 +141,7 @@ code-read code-of code (u ∷ vs) v e = go (eqb code (code-of u)) refl (code-rea
         ap code-of (sym same) ∙ sym (eqb-true code (code-of u) f)
     go false f rest = rest (rw f at e)
 
--- ---- the parts, each by itself from place 0 on: its numbers fit, are read to it, and are those of what is read
+-- ---- the parts, each from index 0 on: its numbers fit, read back as the part, and are those of the part that is read
 
 abbrev pub ringLimits : List ℕ
 ringLimits = 1 ∷ u32 ∷ 3 ∷ u8 ∷ u8 ∷ u8 ∷ u8 ∷ u8 ∷ u8 ∷ u8 ∷ u8 ∷ u16 ∷ []
@@ -252,7 +252,7 @@ aux-row n e =
 abbrev pub rtcLimits : List ℕ
 rtcLimits = 1 ∷ 3 ∷ u32 ∷ u8 ∷ u8 ∷ []
 
--- the RTC as it is read, from place 0 on
+-- the RTC as it is read from index 0 on
 abbrev pub rtcIn : List ℕ → OptionRtc
 rtcIn n =
     flagged n 0 (rtc (record { src = auxFrom (nth n 1); «div_int» = nth n 2; «div_frac» = byteAt n 3; phase = byteAt n 4 })) noRtc

@@ -1,4 +1,4 @@
--- A row of 48 has place for every plan's numbers.
+-- A plan has at most 48 numbers, so a row of 48 holds every plan.
 use mathlib.Core.{Path._≡_, Path.refl, List.List}
 use Prim.Native.Nat.{ℕ, _+_, _≤_}
 use native.Mathlib.Omega.{arith}
@@ -73,7 +73,7 @@ pub row-most : (p : ClockConfig) → length (planRow p) ≤ 48
 unfolding planRow
 row-most p = simp length-append (omega (arith, oscillators-long (p .rosc) (p .xosc), clocks-long p, rtc-most (p .chip)))
 
--- a row of 48 that the numbers were put into begins with them
+-- a row of 48 into which a plan's numbers are placed begins with them
 pub record Begins (p : ClockConfig) (n : ℕ) (row : List ℕ) : Type 0 where
   pub count : n ≡ length (planRow p)
   pub inside : n ≤ length row

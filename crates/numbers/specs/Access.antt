@@ -1,4 +1,4 @@
--- What a step of a sheet does, as numbers: the answer is the access's code, and address, mask and value are left.
+-- The register access of a step as numbers: the answer is the code of the access, and the call writes address, mask and value.
 use mathlib.Core.{Path._≡_, List.List, List.[], List._∷_, Option.Option, Option.none, Option.some}
 use Prim.Native.Nat.{ℕ}
 use Rattle.base.specs.Answer.{Answer, value, refusal}
@@ -10,7 +10,7 @@ use Rattle.numbers.specs.Answers.{answerNumber, onChip}
 abbrev pub opNumber : Access → ℕ
 opNumber a = a .op
 
--- the three numbers after it; a refusal leaves them as they were
+-- the three numbers after the call; a refusal leaves them unchanged
 abbrev pub accessAfter : Answer Access → List ℕ → List ℕ
 accessAfter (value a) before = a .address ∷ a .mask ∷ a .value ∷ []
 accessAfter (refusal n) before = before
@@ -19,7 +19,7 @@ abbrev pub accessLeaves : Option Chip → List ℕ → ℕ → List ℕ → List
 accessLeaves (some chip) sheet position before = accessAfter (accessAt chip sheet position) before
 accessLeaves none sheet position before = before
 
--- what the call promises: its answer r, and the three numbers after it
+-- the call's contract: its answer r, and the three numbers after it
 pub record AccessCall (chip : Option Chip) (sheet : List ℕ) (position : ℕ) (before : List ℕ) (r : ℕ) (after : List ℕ) : Type 0 where
   pub answer : r ≡ onChip (λ on. answerNumber opNumber (accessAt on sheet position)) chip
   pub numbers : after ≡ accessLeaves chip sheet position before

@@ -1,4 +1,4 @@
--- How an answer is one 64-bit number.
+-- An answer as one 64-bit number, as bindings/c/dizbaral.h lists the ranges.
 use mathlib.Core.{List.List, List.[], List._∷_, Option.Option, Option.none, Option.some}
 use Prim.Native.Nat.{ℕ, _+_, _*_}
 use lib.Dec.{eqb, leb}
@@ -12,7 +12,7 @@ use Rattle.divider.specs.declared.GpoutDiv.the-variants.{Rp2040 as on2040, Rp23
 use Rattle.divider.specs.Gpout.{gpoutIn}
 use Rattle.numbers.specs.declared.answers.{OptionChip.OptionChip, OptionDiv.OptionDiv}
 
--- 2 ^ 48: a value is a number of its own below it, refusal n is that much more than n
+-- 2 ^ 48: a value has a number below it, refusal n has the number 2 ^ 48 + n
 abbrev pub refusals : ℕ
 refusals = 281474976710656
 
@@ -20,23 +20,23 @@ abbrev pub answerNumber : {A : Type 0} → (A → ℕ) → Answer A → ℕ
 answerNumber f (value v) = f v
 answerNumber f (refusal n) = refusals + n
 
--- 2 ^ 49: the numbers given are of no such thing as the call is about
+-- 2 ^ 49: the numbers given are of no chip, plan, runner, board or slots
 abbrev pub malformed : ℕ
 malformed = 562949953421312
 
--- a frequency, a divider or a length stands for itself
+-- a frequency, a divider or a length is its own number
 abbrev pub itself : ℕ → ℕ
 itself n = n
 
--- a setting: reference divider, feedback divider (16 bits), post dividers (8 bits each)
+-- a PLL setting: from the top the reference divider, the feedback divider (16 bits), the post dividers (8 bits each)
 abbrev pub settingNumber : PllConfig → ℕ
 settingNumber c = (c .refdiv * 65536 + c .fbdiv) * 65536 + (c .«post_div1» * 256 + c .«post_div2»)
 
--- a chip: 0 RP2040, 1 RP235x
+-- a chip by its number: 0 is the RP2040, 1 the RP235x
 abbrev pub chipNumbered : ℕ → Option Chip
 chipNumbered n = pick (eqb n 0) (some Rp2040) (pick (eqb n 1) (some Rp235x) none)
 
--- what is asked of a chip
+-- the answer for a chip; malformed for an unknown one
 abbrev pub onChip : (Chip → ℕ) → Option Chip → ℕ
 onChip f (some chip) = f chip
 onChip f none = malformed
@@ -48,7 +48,7 @@ levelNumber code brownout = code * 256 + brownout
 unfoldable pub voltageNumber : Chip → ℕ → ℕ
 voltageNumber chip reading = answerNumber (λ v. levelNumber (codeOf chip v) (bodOf chip v)) (coreVoltageOf chip reading)
 
--- a Gpout's divider: a fraction of the RP2040 has 8 bits
+-- the divider of a Gpout; on the RP2040 a fraction of more than 8 bits is none
 abbrev pub dividerOf : ℕ → ℕ → Chip → Option GpoutDiv
 dividerOf whole fraction Rp2040 = pick (leb fraction 255) (some (on2040 whole fraction)) none
 dividerOf whole fraction Rp235x = some (on235x whole fraction)
@@ -61,12 +61,12 @@ abbrev pub gpoutNumber : Option GpoutDiv → ℕ → List ℕ → ℕ
 gpoutNumber (some divider) source freqs = answerNumber itself (gpoutIn divider source freqs)
 gpoutNumber none source freqs = malformed
 
--- a limit of a margin: its target, or 2 ^ 32 where it is absent
+-- a limit of a margin: its target in Hz, or 2 ^ 32 where it is absent
 abbrev pub limitNumber : Option ℕ → ℕ
 limitNumber (some t) = t
 limitNumber none = 4294967296
 
--- a margin: 0, and the two limits in the numbers lent; a refusal leaves them as they were
+-- a margin: the answer 0, with the two limits in the lent numbers; a refusal leaves them unchanged
 abbrev pub done : Sides → ℕ
 done s = 0
 
@@ -74,11 +74,11 @@ abbrev pub limitsAfter : Answer Sides → List ℕ → List ℕ
 limitsAfter (value s) before = limitNumber (s .lower) ∷ limitNumber (s .higher) ∷ []
 limitsAfter (refusal n) before = before
 
--- a setting of four given dividers
+-- the PLL setting of four given dividers
 abbrev pub dividersAre : ℕ → ℕ → ℕ → ℕ → PllConfig
 dividersAre r fb p1 p2 = record { refdiv = r; fbdiv = fb; «post_div1» = p1; «post_div2» = p2 }
 
--- what the code's answers mean
+-- the options that the code's answers mean
 abbrev pub chipIs : OptionChip → Option Chip
 chipIs (OptionChip.Some chip) = some chip
 chipIs OptionChip.None = none

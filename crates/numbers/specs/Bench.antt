@@ -1,4 +1,4 @@
--- The bench's start and call over a bench that is given as 113 numbers and its kept bytes.
+-- The start and the call of a bench that is given as 113 numbers and its kept bytes (docs/FORMAT.md, Bench).
 use mathlib.Core.{Bool.Bool, Bool._||_, Bool._&&_, Bool.not, Path._≡_, List.List, List.[], List._∷_, List._++_}
 use Prim.Native.Nat.{ℕ, zero, suc, _+_, _*_}
 use lib.{Dec.ltb, ListN.replicate, Seq.sets}
@@ -11,7 +11,8 @@ use Rattle.boards.specs.Bench.{boardAt, benchOf, startAllOf}
 use Rattle.numbers.specs.Answers.{answerNumber, malformed}
 use Rattle.numbers.specs.Run.{stateIn, isRunner, progressNumber, goNumber}
 
--- board n: position, lock polls, total, stopped mark, the kept length, which stands last, and the ten frequencies
+-- board n as a runner's 15 numbers: position, lock polls, total, stopped mark, the kept length, which is the last of the 113, and
+-- the ten frequencies
 abbrev pub runnerAt : List ℕ → ℕ → List ℕ
 runnerAt ns n =
     nth ns (14 * n) ∷ nth ns (14 * n + 1) ∷ nth ns (14 * n + 2) ∷ nth ns (14 * n + 3) ∷ nth ns 112
@@ -28,7 +29,7 @@ boardsFrom (suc count) n ns = stepperAt ns n ∷ boardsFrom count (suc n) ns
 abbrev pub benchIn : List ℕ → List ℕ → Bench
 benchIn ns kept = record { boards = boardsFrom 8 0 ns; kept = kept; len = nth ns 112 }
 
--- a runner's numbers without the kept length, and a board's
+-- the 14 numbers of a board: a runner's without the kept length, and a stepper's
 abbrev pub fourteen : List ℕ → List ℕ
 fourteen ns = nth ns 0 ∷ nth ns 1 ∷ nth ns 2 ∷ nth ns 3 ∷ tenAt ns 5
 
@@ -37,11 +38,11 @@ boardNumbers b =
     let s = b .state in
     s .position ∷ s .«lock_polls» ∷ s .total ∷ bit (s .stopped) ∷ tenAt (b .freqs) 0
 
--- the numbers with another board n
+-- the numbers with board n replaced
 abbrev pub withBoard : ℕ → Stepper → List ℕ → List ℕ
 withBoard n b ns = sets ns (14 * n) (boardNumbers b)
 
--- a call: its answer as a number, and the numbers after it; 28 before a board's mark is looked at
+-- a call: its answer as a number, and the numbers after it; refusal 28 precedes the test of the board's mark
 unfoldable pub benchNumber : List ℕ → List ℕ → ℕ → List ℕ → Bool → ℕ
 benchNumber ns kept n sheet ready =
     pick (ltb 7 n || isRunner (runnerAt ns n))
@@ -54,16 +55,16 @@ benchLeaves ns kept n sheet ready =
     (withBoard n (boardAt (benchOf (benchIn ns kept) n sheet ready .next) n) ns)
     ns
 
--- the numbers of a bench that was just started with as many bytes
+-- the numbers of a bench just started with a sheet of len bytes
 abbrev pub freshNumbers : ℕ → List ℕ
 freshNumbers len = replicate 112 0 ++ (len ∷ [])
 
--- the numbers after a start: where it is refused, those before it
+-- the numbers after a start; a refusal leaves them unchanged
 abbrev pub startAllLeaves : Answer Go → List ℕ → ℕ → List ℕ
 startAllLeaves (value started) ns len = freshNumbers len
 startAllLeaves (refusal n) ns len = ns
 
--- what a start of all promises: its answer r, the numbers and the kept bytes after it
+-- the contract of a start of all boards: its answer r, the numbers and the kept bytes after it
 pub record StartAllCall (ns kept sheet : List ℕ) (r : ℕ) (ns′ kept′ : List ℕ) : Type 0 where
   pub answer : r ≡ answerNumber goNumber (startAllOf (benchIn ns kept) sheet .answer)
   pub numbers : ns′

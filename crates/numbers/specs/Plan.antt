@@ -1,5 +1,5 @@
--- A plan as numbers in a row, 48 for the RP2040 and 43, without the RTC's five, for the RP235x: each part's numbers in
--- order, those of a part that may be absent behind a flag.
+-- Reads a plan from a row of numbers (docs/CASES.md, A plan in numbers): 48 for the RP2040 and 43, without the RTC's five, for
+-- the RP235x. The parts are in order, and an optional part begins with a flag.
 use mathlib.Core.{Bool.Bool, Bool.true, Bool._&&_, List.List, List.[], List._∷_, Option.Option, Option.none, Option.some}
 use Prim.Native.Nat.{ℕ, _+_}
 use lib.{Dec.eqb, Dec.leb, ListN.length}
@@ -30,7 +30,7 @@ use Rattle.numbers.specs.Parts.{fitFrom, isPart}
 use Rattle.numbers.specs.declared.plan.ChipRead.{ChipRead, the-variants.Config, the-variants.None}
 use Rattle.numbers.specs.declared.plan.PlanRead.{PlanRead, the-variants.Plan, the-variants.Bad}
 
--- the greatest values: of a flag 1, of a source or range its last code; a PLL has a crystal
+-- the greatest values: 1 for a flag, the last code for a source or a range; a PLL needs a crystal
 unfoldable pub wholeOscillators : List ℕ → Bool
 wholeOscillators n =
     isPart n 0 (1 ∷ u32 ∷ 3 ∷ u8 ∷ u8 ∷ u8 ∷ u8 ∷ u8 ∷ u8 ∷ u8 ∷ u8 ∷ u16 ∷ [])  -- ring
@@ -49,7 +49,7 @@ wholeClocks n =
     && (isPart n 35 (1 ∷ 3 ∷ u8 ∷ u8 ∷ [])  -- USB
     && isPart n 39 (1 ∷ 3 ∷ u8 ∷ u8 ∷ []))))))  -- ADC
 
--- what the chips have apart: the system divider's whole part and fraction, and the RTC
+-- the chip-specific numbers: whole part and fraction of the system divider, and the RTC
 unfoldable pub wholeChip : Chip → List ℕ → Bool
 wholeChip Rp2040 n =
     eqb (length n) 48 && (fitFrom true n 31 (u32 ∷ u8 ∷ []) && isPart n 43 (1 ∷ 3 ∷ u32 ∷ u8 ∷ u8 ∷ []))
@@ -58,7 +58,7 @@ wholeChip Rp235x n = eqb (length n) 43 && fitFrom true n 31 (u16 ∷ u16 ∷ [])
 abbrev pub wholePlan : Chip → List ℕ → Bool
 wholePlan chip n = wholeChip chip n && (wholeOscillators n && wholeClocks n)
 
--- a part that may be absent, by the flag at its place
+-- an optional part, by the flag at index i
 abbrev pub flagged : {A : Type 0} → List ℕ → ℕ → A → A → A
 flagged n i there absent = pick (eqb (nth n i) 1) there absent
 
@@ -75,18 +75,18 @@ strengthsAt n =
       s7 = byteAt n 10;
     }
 
--- Hz, range, eight strengths, divider
+-- the ring: flag, Hz, range, eight strengths, divider
 unfoldable pub ringAt : List ℕ → OptionRosc
 ringAt n =
     flagged n 0
     (ring (record { hz = nth n 1; range = rangeFrom (nth n 2); «drive_strength» = strengthsAt n; div = halfAt n 11 }))
     noRing
 
--- a PLL from place i on: four dividers
+-- a PLL from index i on: flag, four dividers
 unfoldable pub optionPllAt : List ℕ → ℕ → OptionPll
 optionPllAt n i = flagged n i (pll (pllAt n (i + 1))) noPll
 
--- Hz, multiplier, then the PLLs
+-- the crystal: flag, Hz, delay multiplier, then the PLLs
 unfoldable pub crystalAt : List ℕ → OptionXosc
 crystalAt n =
     flagged n 12
@@ -99,25 +99,25 @@ crystalAt n =
     }))
     noCrystal
 
--- µs
+-- the settling time: flag, µs
 unfoldable pub settlingAt : List ℕ → OptionU32
 settlingAt n = flagged n 26 (time (nth n 27)) noTime
 
--- source, divider
+-- the reference clock: source, divider
 unfoldable pub referenceAt : List ℕ → RefClkConfig
 referenceAt n = record { src = refFrom (nth n 28); div = byteAt n 29 }
 
 unfoldable pub peripheralAt : List ℕ → OptionPeri
 peripheralAt n = flagged n 33 (peri (periFrom (nth n 34))) noPeri
 
--- USB or ADC from place i on: source, divider, phase
+-- the USB or ADC clock from index i on: flag, source, divider, phase
 unfoldable pub dividedAt : List ℕ → ℕ → OptionAux
 dividedAt n i =
     flagged n i
     (aux (record { src = auxFrom (nth n (i + 1)); div = byteAt n (i + 2); phase = byteAt n (i + 3) }))
     noAux
 
--- source, whole part, fraction, phase
+-- the RTC clock: flag, source, whole part, fraction, phase
 unfoldable pub rtcAt : List ℕ → OptionRtc
 rtcAt n =
     flagged n 43
@@ -134,7 +134,7 @@ abbrev pub with235x : Answer CoreVoltage235 → List ℕ → Option ChipConfig
 with235x (value v) n = some (on235x (record { «core_voltage» = v; «div_int» = halfAt n 31; «div_frac» = halfAt n 32 }))
 with235x (refusal m) n = none
 
--- the chip's part: voltage, system divider and RTC; none for a number that is no voltage code of the chip
+-- the chip-specific part: voltage, system divider and RTC; none for a number that is no voltage code of the chip
 unfoldable pub chipAt : Chip → List ℕ → Option ChipConfig
 chipAt Rp2040 n = with2040 (coreVoltageOf Rp2040 (byteAt n 25)) n
 chipAt Rp235x n = with235x (coreVoltageOf Rp235x (byteAt n 25)) n
@@ -160,7 +160,7 @@ withChip none n = none
 unfoldable pub planNumbered : Chip → List ℕ → Option ClockConfig
 planNumbered chip n = pick (wholePlan chip n) (withChip (chipAt chip n) n) none
 
--- the code's answers
+-- the options that the code's answers mean
 abbrev pub chipReadIs : ChipRead → Option ChipConfig
 chipReadIs (Config c) = some c
 chipReadIs None = none

@@ -1,4 +1,4 @@
--- A sheet read back: its plan's chip and numbers.
+-- A sheet read back as the chip and the numbers of its plan (docs/FORMAT.md, Reading a sheet back).
 use mathlib.Core.{Path._≡_, List.List}
 use Prim.Native.Nat.{ℕ}
 use lib.Seq.{sets}
@@ -9,7 +9,7 @@ use Rattle.config.specs.Board.{boardOf}
 use Rattle.numbers.specs.Row.{planRow}
 use Rattle.numbers.specs.Answers.{answerNumber}
 
--- a chip's number, as the calls take it: 0 RP2040, 1 RP235x
+-- the number of a chip, as the calls take it: 0 is the RP2040, 1 the RP235x
 abbrev pub chipNumber : Chip → ℕ
 chipNumber Rp2040 = 0
 chipNumber Rp235x = 1
@@ -17,12 +17,12 @@ chipNumber Rp235x = 1
 abbrev pub planChip : ClockConfig → ℕ
 planChip p = chipNumber (boardOf (p .chip) .chip)
 
--- the plan's numbers, and what stood behind them; a refusal changes nothing
+-- the plan's numbers, followed by the old ones; a refusal changes nothing
 abbrev pub rowAfter : Answer ClockConfig → List ℕ → List ℕ
 rowAfter (value p) row = sets row 0 (planRow p)
 rowAfter (refusal n) row = row
 
--- what the call promises: its answer r, and all numbers after it
+-- the call's contract: its answer r, and all numbers after it
 pub record RowCall (read : Answer ClockConfig) (before : List ℕ) (r : ℕ) (after : List ℕ) : Type 0 where
   pub answer : r ≡ answerNumber planChip read
   pub numbers : after ≡ rowAfter read before

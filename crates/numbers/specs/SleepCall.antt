@@ -1,4 +1,4 @@
--- Sleep and wake over four slots, eleven words and the steps, all given as numbers (specs/Slots).
+-- Sleep and wake (docs/SLEEP.md) over four slots, eleven words and the steps, all given as numbers (specs/Slots).
 use mathlib.Core.{Path._≡_, Bool.Bool, Bool._&&_, Bool._||_, List.List, Option.Option, Option.none, Option.some}
 use Prim.Native.Nat.{ℕ}
 use lib.{Dec.leb, Dec.ltb, ListN.getD, Seq.sets}
@@ -8,21 +8,21 @@ use Rattle.sleep.specs.Sleep.{SleepOutcome}
 use Rattle.numbers.specs.Slots.{wordsAt, slotsIn, slotsNumbers, stepsNumbers}
 use Rattle.numbers.specs.Answers.{answerNumber, malformed}
 
--- a flag is 1 or 0; no other is a slot's
+-- each of the four flags is 0 or 1; other numbers are of no slots
 abbrev pub areSlots : List ℕ → Bool
 areSlots ns = ((leb (getD ns 0 0) 1 && leb (getD ns 12 0) 1) && leb (getD ns 24 0) 1) && leb (getD ns 36 0) 1
 
--- a call with numbers; none where the slots are none, but 29 before they are looked at
+-- a call with numbers; none where they are of no slots, but refusal 29 precedes that test
 abbrev pub askedWith : (List Slot → ℕ → List ℕ → SleepOutcome) → List ℕ → ℕ → List ℕ → Option SleepOutcome
 askedWith call slots slot words =
     pick (ltb 3 slot || areSlots slots) (some (call (slotsIn slots 0) slot (wordsAt words 0))) none
 
--- how many numbers of steps were written, two a step
+-- the count of numbers written for the steps, two for each step
 abbrev pub stepsNumber : Option SleepOutcome → List ℕ → ℕ
 stepsNumber none steps = malformed
 stepsNumber (some o) steps = answerNumber (λ (s : List Step). past steps 0 (stepsNumbers s)) (o .answer)
 
--- a refusal leaves the numbers as they were
+-- the numbers after the call; a refusal leaves them unchanged
 abbrev pub leftBy : Answer (List Step) → (List Step → List ℕ) → List ℕ → List ℕ
 leftBy (value s) f numbers = sets numbers 0 (f s)
 leftBy (refusal n) f numbers = numbers
@@ -31,7 +31,7 @@ abbrev pub leftAsked : Option SleepOutcome → (SleepOutcome → List Step → L
 leftAsked none f numbers = numbers
 leftAsked (some o) f numbers = leftBy (o .answer) (f o) numbers
 
--- what a call promises: its answer r, and all numbers after it
+-- the call's contract: its answer r, and all numbers after it
 pub record SlotsCall (o : Option SleepOutcome) (slots words steps : List ℕ) (r : ℕ) (slots′ words′ steps′ : List ℕ) : Type 0
   where
     pub answer : r ≡ stepsNumber o steps

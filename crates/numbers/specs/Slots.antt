@@ -1,4 +1,4 @@
--- Slots and steps as numbers.
+-- Slots and steps as numbers (docs/SLEEP.md, As numbers).
 use mathlib.Core.List.{List, [], _∷_, _++_}
 use Prim.Native.Nat.{ℕ, _+_}
 use lib.Dec.{eqb}
@@ -10,13 +10,13 @@ use Rattle.sleep.specs.Sleep.{slotAt}
 
 -- ---- read
 
--- eleven words from place i on
+-- eleven words from index i on
 abbrev pub wordsAt : List ℕ → ℕ → List ℕ
 wordsAt n i =
     nth n i ∷ nth n (i + 1) ∷ nth n (i + 2) ∷ nth n (i + 3) ∷ nth n (i + 4) ∷ nth n (i + 5)
     ∷ nth n (i + 6) ∷ nth n (i + 7) ∷ nth n (i + 8) ∷ nth n (i + 9) ∷ nth n (i + 10) ∷ []
 
--- a slot is a flag, 1 where it is saved, and eleven words
+-- a slot is a flag, 1 where it is saved, followed by eleven words
 abbrev pub slotIn : List ℕ → ℕ → Slot
 slotIn n i = record { saved = eqb (nth n i) 1; words = wordsAt n (i + 1) }
 
@@ -32,14 +32,14 @@ abbrev pub slotsNumbers : List Slot → List ℕ
 slotsNumbers s =
     slotNumbers (slotAt s 0) ++ (slotNumbers (slotAt s 1) ++ (slotNumbers (slotAt s 2) ++ slotNumbers (slotAt s 3)))
 
--- a step is two numbers: a register and its value; or what is waited for and 0
+-- a step is two numbers: a register and its value, or the code of what is waited for and 0
 abbrev pub stepNumbers : Step → List ℕ
 stepNumbers (Write i v) = i ∷ v ∷ []
 stepNumbers RingStable = 11 ∷ 0 ∷ []
 stepNumbers CrystalStable = 12 ∷ 0 ∷ []
 stepNumbers (Locked pll) = (13 + pll) ∷ 0 ∷ []
 
--- what each step is written as, one after another
+-- the numbers of each step, one after another
 abbrev pub eachStep : (Step → List ℕ) → List Step → List ℕ
 eachStep f [] = []
 eachStep f (s ∷ steps) = f s ++ eachStep f steps

@@ -1,4 +1,4 @@
--- A plan whose numbers are of their types, as every plan that a program holds is.
+-- A plan whose numbers fit their types, as those of every plan that a program holds do.
 use Prim.Native.Nat.{_≤_}
 use Rattle.config.specs.declared.{OptionPll.OptionPll, OptionRosc.OptionRosc, OptionXosc.OptionXosc, OptionU32.OptionU32}
 use Rattle.config.specs.declared.{OptionAux.OptionAux, OptionRtc.OptionRtc, ChipConfig.ChipConfig, ClockConfig.ClockConfig}

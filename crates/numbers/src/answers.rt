@@ -1,4 +1,4 @@
-// Answers as numbers.
+// Encodes answers as 64-bit numbers: a value below 2 ^ 48, refusal n as 2 ^ 48 + n.
 use chip::Chip;
 use chip::voltage::VoltageRead;
 use chip::voltage::VoltageRead235;
@@ -17,10 +17,10 @@ ghost use Rattle.numbers.specs.Answers.{chipNumbered, chipIs, dividerOf,
 
 const REFUSAL: u64 = 1 << 48;
 
-// No target of 32 bits.
+// An absent limit, above every 32-bit target.
 const ABSENT: u64 = 1 << 32;
 
-// The numbers given are of no plan, no runner or no slots.
+// The answer where the numbers given are of no chip, no plan, no runner or no slots.
 pub const MALFORMED: u64 = 1 << 49;
 
 // A chip by its number, or None.
@@ -29,18 +29,20 @@ pub enum OptionChip {
     None,
 }
 
+// The divider of a Gpout, or None.
 pub enum OptionDiv {
     Some(GpoutDiv),
     None,
 }
 
-// A refusal by its number.
+// The number of refusal `number`.
 pub fn refused(number: u8) -> u64
     ensures { λ r. ⌜ r ≡ 281474976710656 + number ⌝ }
 {
     REFUSAL + number as u64
 }
 
+// The number of a PLL setting or its refusal: reference << 32, feedback << 16, post 1 << 8, post 2.
 pub fn found(answer: Found) -> u64
     ensures { λ r. ⌜ r ≡ answerNumber settingNumber (foundIs answer) ⌝ }
 {
@@ -51,6 +53,7 @@ pub fn found(answer: Found) -> u64
     }
 }
 
+// A number as itself, or the number of its refusal.
 pub fn number(answer: base::Number) -> u64
     ensures { λ r. ⌜ r ≡ answerNumber itself (numberIs answer) ⌝ }
 {
@@ -60,7 +63,7 @@ pub fn number(answer: base::Number) -> u64
     }
 }
 
-// The chip of a number.
+// The chip of a number: 0 is the RP2040, 1 the RP235x, any other None.
 pub fn chip(number: u8) -> OptionChip
     ensures { λ r. ⌜ chipIs r ≡ chipNumbered number ⌝ }
 {
@@ -71,6 +74,7 @@ pub fn chip(number: u8) -> OptionChip
     }
 }
 
+// The number of an RP2040 voltage: its code << 8 and its brownout level, or the number of the refusal.
 fn voltage_read(answer: VoltageRead) -> u64
     ensures { λ r. ⌜ r ≡ answerNumber (λ v. levelNumber (codeOf Rp2040 v) (bodOf Rp2040 v)) (readIs Rp2040 answer) ⌝ }
 {
@@ -80,6 +84,7 @@ fn voltage_read(answer: VoltageRead) -> u64
     }
 }
 
+// The RP235x variant of `voltage_read`.
 fn voltage_read_235(answer: VoltageRead235) -> u64
     ensures { λ r. ⌜ r ≡ answerNumber (λ v. levelNumber (codeOf Rp235x v) (bodOf Rp235x v)) (readIs Rp235x answer) ⌝ }
 {
@@ -89,6 +94,7 @@ fn voltage_read_235(answer: VoltageRead235) -> u64
     }
 }
 
+// The number of the voltage that a regulator reading names. Refusal: 18.
 pub fn voltage(chip: Chip, reading: u8) -> u64
     ensures { λ r. ⌜ r ≡ voltageNumber chip reading ⌝ }
 {
@@ -98,7 +104,7 @@ pub fn voltage(chip: Chip, reading: u8) -> u64
     }
 }
 
-// A Gpout's divider; a fraction of the RP2040 has 8 bits.
+// The divider of a Gpout; None on the RP2040 for a fraction of more than 8 bits.
 fn divider_of(chip: Chip, whole: u32, fraction: u16) -> OptionDiv
     ensures { λ r. ⌜ dividerIs r ≡ dividerOf whole fraction chip ⌝ }
 {
@@ -116,6 +122,7 @@ fn divider_of(chip: Chip, whole: u32, fraction: u16) -> OptionDiv
     }
 }
 
+// The divider of a Gpout on the chip of a number; None for an unknown chip or a fraction of too many bits.
 pub fn divider(number: u8, whole: u32, fraction: u16) -> OptionDiv
     ensures { λ r. ⌜ dividerIs r ≡ dividerNumbered whole fraction (chipNumbered number) ⌝ }
 {
@@ -125,6 +132,7 @@ pub fn divider(number: u8, whole: u32, fraction: u16) -> OptionDiv
     }
 }
 
+// A length in bytes as itself, or the number of its refusal.
 pub fn length(answer: base::Length) -> u64
     ensures { λ r. ⌜ r ≡ answerNumber itself (lengthIs answer) ⌝ }
 {
@@ -134,6 +142,7 @@ pub fn length(answer: base::Length) -> u64
     }
 }
 
+// The number of a margin's limit: its target in Hz, or 2 ^ 32 where it is absent.
 pub fn limit(limit: Limit) -> u64
     ensures { λ r. ⌜ r ≡ limitNumber (limitIs limit) ⌝ }
 {

@@ -1,11 +1,11 @@
-// A bench as 113 numbers: of each of its eight boards position, lock polls, total, stopped mark and ten frequencies, then
-// the kept length; and its kept bytes. A board and the kept length are a runner's numbers.
+// A bench as 113 numbers and its kept bytes: for each of its eight boards position, lock polls, total, stopped mark and ten
+// frequencies, then the kept length. A board's numbers and the kept length are a runner's numbers.
 ghost use mathlib.Core.Path.{_≡_};
 ghost use lib.Seq.{sets};
 ghost use Prim.Native.Nat.{_*_};
 ghost use Rattle.numbers.specs.Bench.{runnerAt, fourteen};
 
-// A board as a runner's numbers.
+// The 15 numbers of a board as a runner.
 pub fn runner_at(n: &[u32], board: u8) -> [u32; 15]
     ensures { λ r. ⌜ r ≡ runnerAt (now (n .entry)) board ⌝ }
 {
@@ -31,7 +31,7 @@ pub fn runner_at(n: &[u32], board: u8) -> [u32; 15]
     ]
 }
 
-// And back: the kept length stays.
+// Writes a runner's numbers back as a board; the kept length stays.
 pub fn put_runner(n: &mut [u32], board: u8, r: &[u32; 15])
     ensures { λ _. ⌜ now (n .exit) ≡ sets (now (n .entry)) (14 * board) (fourteen (now (r .entry))) ⌝ }
 {

@@ -1,4 +1,4 @@
-// What a board needs, over numbers and slices alone: a runner's start and call, and what a step does to the chip.
+// The calls that a board needs, over numbers and slices only: a runner's start and call, and the register access of a step.
 mod run;
 
 use crate::answers;
@@ -13,7 +13,7 @@ ghost use Rattle.numbers.specs.Answers.{chipNumbered};
 ghost use Rattle.numbers.specs.Run.{runNumber, runLeaves, StartCall};
 ghost use Rattle.numbers.specs.Access.{AccessCall};
 
-// Any numbers may be given: a start makes a runner of them.
+// Starts a runner with a sheet and answers 0; any numbers may be given before. Refusal: 20.
 pub fn start(runner: &mut [u32; 15], kept: &mut [u8; MAX_BYTES], sheet: &[u8]) -> u64
     ensures { λ r. ⌜ StartCall (now (runner .entry)) (now (kept .entry)) (now (sheet .entry)) r (now (runner .exit)) (now (kept .exit)) ⌝ }
 {
@@ -31,6 +31,7 @@ pub fn start(runner: &mut [u32; 15], kept: &mut [u8; MAX_BYTES], sheet: &[u8]) -
     }
 }
 
+// One call of the runner: done, passed, waiting, or the word of the step. Refusals: 21, 22, 27, 20; a bad mark is malformed.
 pub fn call(runner: &mut [u32; 15], kept: &[u8; MAX_BYTES], sheet: &[u8], ready: bool) -> u64
     ensures { λ r. ⌜ r ≡ runNumber (now (runner .entry)) (now (kept .entry)) (now (sheet .entry)) ready ⌝ }
     ensures { λ _. ⌜ now (runner .exit) ≡ runLeaves (now (runner .entry)) (now (kept .entry)) (now (sheet .entry)) ready ⌝ }
@@ -49,6 +50,7 @@ pub fn call(runner: &mut [u32; 15], kept: &[u8; MAX_BYTES], sheet: &[u8], ready:
     number
 }
 
+// Writes the register access of a step on a chip and answers its kind. Refusal: 20.
 fn access_on(chip: Chip, sheet: &[u8], position: u32, access: &mut [u32; 3]) -> u64
     ensures { λ r. ⌜ AccessCall (some chip) (now (sheet .entry)) position (now (access .entry)) r (now (access .exit)) ⌝ }
 {
@@ -61,7 +63,8 @@ fn access_on(chip: Chip, sheet: &[u8], position: u32, access: &mut [u32; 3]) -> 
     }
 }
 
-// What the step at a position of a sheet does.
+// Writes the register access of the step at a position of a sheet and answers its kind. Refusal: 20; an unknown chip is
+// malformed.
 pub fn access(chip: u8, sheet: &[u8], position: u32, access: &mut [u32; 3]) -> u64
     ensures { λ r. ⌜ AccessCall (chipNumbered chip) (now (sheet .entry)) position (now (access .entry)) r (now (access .exit)) ⌝ }
 {

@@ -1,4 +1,4 @@
-// Plans, answers, runners, benches and slots as numbers: what cases and exported calls are made of.
+// Plans, answers, runners, benches and slots as numbers, for the cases and the exported calls.
 pub mod answers;
 pub mod bench;
 pub mod board;

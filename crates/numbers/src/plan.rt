@@ -1,4 +1,4 @@
-// A plan from the numbers of a case: 48 for the RP2040, 43 for the RP235x.
+// Reads a plan from its numbers: 48 for the RP2040, 43 for the RP235x (docs/CASES.md, A plan in numbers).
 mod part;
 mod rows;
 
@@ -10,13 +10,13 @@ use rows::is_part;
 ghost use mathlib.Core.Path.{_≡_};
 ghost use Rattle.numbers.specs.Plan.{wholeOscillators, wholeClocks, wholeChip, wholePlan, planAt, planNumbered, planReadIs};
 
-// A plan, or Bad where the numbers are none.
+// A plan, or Bad where the numbers are of no plan.
 pub enum PlanRead {
     Plan(ClockConfig),
     Bad,
 }
 
-// The chip's part of a plan; None where the voltage code is none of the chip's.
+// The chip-specific part of a plan, or None where the chip has no voltage with this code.
 pub enum ChipRead {
     Config(ChipConfig),
     None,
@@ -28,7 +28,7 @@ const U16: u32 = 65535;
 
 const U32: u32 = 4294967295;
 
-// Whether the numbers of ring, crystal and PLLs are those of parts.
+// Whether the numbers of ring, crystal and PLLs are within their limits; a PLL needs a crystal.
 fn whole_oscillators(n: &[u32]) -> bool
     ensures { λ r. ⌜ r ≡ wholeOscillators (now (n .entry)) ⌝ }
 {
@@ -40,7 +40,7 @@ fn whole_oscillators(n: &[u32]) -> bool
     ring & (crystal & (sys_pll & (usb_pll & fed)))
 }
 
-// The same for voltage, settling time and clocks.
+// Whether the numbers of voltage, settling time and clocks are within their limits.
 fn whole_clocks(n: &[u32]) -> bool
     ensures { λ r. ⌜ r ≡ wholeClocks (now (n .entry)) ⌝ }
 {
@@ -54,7 +54,7 @@ fn whole_clocks(n: &[u32]) -> bool
     voltage & (settling & (reference & (system & (peripheral & (usb & adc)))))
 }
 
-// The same for what the chips have apart.
+// Whether the row's length, the system divider and the RTC are within the chip's limits.
 fn whole_chip(chip: Chip, n: &[u32]) -> bool
     ensures { λ r. ⌜ r ≡ wholeChip chip (now (n .entry)) ⌝ }
 {
@@ -76,6 +76,7 @@ fn whole_chip(chip: Chip, n: &[u32]) -> bool
     }
 }
 
+// Whether the numbers are of a plan, apart from the voltage code.
 fn whole_plan(chip: Chip, n: &[u32]) -> bool
     ensures { λ r. ⌜ r ≡ wholePlan chip (now (n .entry)) ⌝ }
 {
@@ -85,6 +86,7 @@ fn whole_plan(chip: Chip, n: &[u32]) -> bool
     whole_oscillators(n) & whole_clocks(n)
 }
 
+// The plan that the numbers hold, with its chip-specific part; `whole_plan` tests the numbers first.
 fn plan_at(chip: ChipConfig, n: &[u32]) -> ClockConfig
     ensures { λ r. ⌜ r ≡ planAt chip (now (n .entry)) ⌝ }
 {
@@ -101,7 +103,7 @@ fn plan_at(chip: ChipConfig, n: &[u32]) -> ClockConfig
     }
 }
 
-// The chip's plan of these numbers.
+// The plan for a chip that these numbers hold, or Bad.
 pub fn plan(chip: Chip, n: &[u32]) -> PlanRead
     ensures { λ r. ⌜ planReadIs r ≡ planNumbered chip (now (n .entry)) ⌝ }
 {

@@ -1,4 +1,4 @@
-// A plan as the numbers that cases and exported calls have it in: 48 for the RP2040, 43 for the RP235x.
+// Writes a plan as the numbers that cases and exported calls use: 48 for the RP2040, 43 for the RP235x.
 mod rows;
 
 use config::ChipConfig;
@@ -10,7 +10,7 @@ pub use rows::usb_pll;
 ghost use Rattle.base.specs.Placed.{Placed};
 ghost use Rattle.numbers.specs.Row.{oscillatorRow, clockRow, rtcNumbers, planRow};
 
-// Ring, crystal and PLLs.
+// Writes the numbers of ring, crystal and PLLs.
 fn put_oscillators(row: &mut [u32], ring: OptionRosc, crystal: OptionXosc) -> usize
     ensures { λ r. ⌜ Placed (now (row .entry)) 0 (oscillatorRow ring crystal) r (now (row .exit)) ⌝ }
 {
@@ -24,7 +24,7 @@ fn put_oscillators(row: &mut [u32], ring: OptionRosc, crystal: OptionXosc) -> us
     base::put_numbers(row, at, &usb_row)
 }
 
-// Voltage, settling time and clocks.
+// Writes the numbers of voltage, settling time and clocks.
 fn put_clocks(row: &mut [u32], at: usize, plan: ClockConfig) -> usize
     ensures { λ r. ⌜ Placed (now (row .entry)) at (clockRow plan) r (now (row .exit)) ⌝ }
 {
@@ -48,7 +48,7 @@ fn put_clocks(row: &mut [u32], at: usize, plan: ClockConfig) -> usize
     base::put_numbers(row, at, &adc)
 }
 
-// The RTC's; a plan of the RP235x has none.
+// Writes the numbers of the RTC clock; the RP235x has none.
 fn put_rtc(row: &mut [u32], at: usize, chip: ChipConfig) -> usize
     ensures { λ r. ⌜ Placed (now (row .entry)) at (rtcNumbers chip) r (now (row .exit)) ⌝ }
 {
@@ -62,7 +62,7 @@ fn put_rtc(row: &mut [u32], at: usize, chip: ChipConfig) -> usize
     }
 }
 
-// Writes the plan's numbers, and answers how many there are; what the row has no place for is dropped.
+// Writes the plan's numbers and answers how many are written; those past the row's end are dropped.
 pub fn put_plan(row: &mut [u32], plan: ClockConfig) -> usize
     ensures { λ r. ⌜ Placed (now (row .entry)) 0 (planRow plan) r (now (row .exit)) ⌝ }
 {

@@ -1,4 +1,4 @@
-// A sheet read back to its plan's numbers.
+// Writes a plan that is read back from a sheet as numbers.
 use crate::answers;
 use chip::Chip;
 use config::ClockConfig;
@@ -7,7 +7,7 @@ ghost use mathlib.Core.Path.{_≡_};
 ghost use Rattle.config.specs.Presets.{plannedIs};
 ghost use Rattle.numbers.specs.Read.{planChip, RowCall};
 
-// The number of a plan's chip.
+// The number of a plan's chip: 0 is the RP2040, 1 the RP235x.
 pub fn plan_chip(plan: ClockConfig) -> u64
     ensures { λ r. ⌜ r ≡ planChip plan ⌝ }
 {
@@ -20,7 +20,7 @@ pub fn plan_chip(plan: ClockConfig) -> u64
     }
 }
 
-// Writes the numbers of a plan that there is, and answers its chip's number.
+// Writes the numbers of a plan and answers its chip's number, or answers the refusal's number.
 pub fn leave(planned: Planned, plan: &mut [u32; 48]) -> u64
     ensures { λ r. ⌜ RowCall (plannedIs planned) (now (plan .entry)) r (now (plan .exit)) ⌝ }
 {

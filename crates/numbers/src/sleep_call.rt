@@ -1,4 +1,4 @@
-// Sleep and wake over slots, words and steps that are given as numbers (slots).
+// Sleep and wake (docs/SLEEP.md) over slots, words and steps that are given as numbers.
 use crate::answers;
 use sleep::Answer;
 use sleep::Change;
@@ -16,7 +16,7 @@ fn are_slots(n: &[u32; 48]) -> bool
     (n[0] <= 1) & (n[12] <= 1) & (n[24] <= 1) & (n[36] <= 1)
 }
 
-// The number of a call's answer. What the call leaves is put where it came from, unless it was refused.
+// The number of a call's answer. Slots, words and steps are written unless the call is refused.
 fn leave(change: Change, slots: &mut [u32; 48], words: &mut [u32; 11], steps: &mut [u32; 28]) -> u64
     ensures { λ r. ⌜ SlotsCall (some (changeIs change)) (now (slots .entry)) (now (words .entry)) (now (steps .entry)) r (now (slots .exit)) (now (words .exit)) (now (steps .exit)) ⌝ }
 {
@@ -34,6 +34,7 @@ fn leave(change: Change, slots: &mut [u32; 48], words: &mut [u32; 11], steps: &m
     }
 }
 
+// A wake or a sleep, as the flag says.
 fn asked(wakes: bool, slots: [Slot; 4], slot: u8, words: [u32; 11]) -> Change
     ensures { λ r. ⌜ changeIs r ≡ pick wakes wakeOf sleepOf slots slot words ⌝ }
 {
@@ -43,7 +44,7 @@ fn asked(wakes: bool, slots: [Slot; 4], slot: u8, words: [u32; 11]) -> Change
     sleep::sleep(slots, slot, words)
 }
 
-// A sleep or a wake on numbers: 29 before the slots are looked at.
+// A sleep or a wake on numbers; answers the count of numbers of its steps. Refusals: 29, 30; a bad flag is malformed.
 pub fn change(
     wakes: bool,
     slots: &mut [u32; 48],

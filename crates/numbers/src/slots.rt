@@ -1,4 +1,4 @@
-// Slots and steps as numbers: a slot is a flag and eleven words, a step two numbers.
+// Slots and steps as numbers: a slot is a flag and eleven words, a step is two numbers.
 mod put;
 
 use sleep::Slot;
@@ -8,7 +8,7 @@ ghost use Rattle.numbers.specs.Slots.{wordsAt, slotIn, slotsIn};
 pub use put::put_slots;
 pub use put::put_steps;
 
-// Eleven words from place i on.
+// Eleven words from index i on.
 pub fn words_at(n: &[u32], i: u16) -> [u32; 11]
     ensures { λ r. ⌜ r ≡ wordsAt (now (n .entry)) i ⌝ }
 {
@@ -29,7 +29,7 @@ pub fn words_at(n: &[u32], i: u16) -> [u32; 11]
     ]
 }
 
-// A flag, and the words behind it.
+// The slot from index i on: a flag, then its words.
 fn slot_at(n: &[u32], i: u16) -> Slot
     requires { ⌜ i < 1000 ⌝ }
     ensures { λ r. ⌜ r ≡ slotIn (now (n .entry)) i ⌝ }
@@ -40,7 +40,7 @@ fn slot_at(n: &[u32], i: u16) -> Slot
     }
 }
 
-// The four slots from place i on.
+// The four slots from index i on.
 pub fn slots_at(n: &[u32], i: u8) -> [Slot; 4]
     ensures { λ r. ⌜ r ≡ slotsIn (now (n .entry)) i ⌝ }
 {

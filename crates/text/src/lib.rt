@@ -95,6 +95,7 @@ pub fn put_hex(buf: &mut [u8], at: usize, s: &[u8]) -> usize
     end
 }
 
+// Whether low ≤ c ≤ high.
 fn between(low: u8, high: u8, c: u8) -> bool
     ensures { λ r. ⌜ r ≡ inRange low high c ⌝ }
 {
@@ -164,12 +165,14 @@ pub fn line_number(s: &[u8]) -> base::Number
     number_up_to(s, 0, b'\n')
 }
 
+// Whether c is a hex digit of either case.
 fn is_hex(c: u8) -> bool
     ensures { λ r. ⌜ r ≡ isHex c ⌝ }
 {
     between(b'0', b'9', c) | between(b'a', b'f', c) | between(b'A', b'F', c)
 }
 
+// Whether both bytes are hex digits.
 fn is_pair(a: u8, b: u8) -> bool
     ensures { λ r. ⌜ r ≡ isPair a b ⌝ }
 {
@@ -192,6 +195,7 @@ fn hex_value(c: u8) -> u8
     digit_in(b'0', b'9', b'0', c, letter)
 }
 
+// Whether s consists of pairs of hex digits.
 fn are_pairs(s: &[u8]) -> bool
     ensures { λ r. ⌜ r ≡ arePairs (now (s .entry)) ⌝ }
 {
@@ -209,6 +213,7 @@ fn are_pairs(s: &[u8]) -> bool
     true
 }
 
+// Whether s is a word of hex: `-` alone, or at least one pair.
 fn is_hex_word(s: &[u8]) -> bool
     ensures { λ r. ⌜ r ≡ isHexWord (now (s .entry)) ⌝ }
 {

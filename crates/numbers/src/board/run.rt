@@ -12,6 +12,7 @@ ghost use Rattle.runner.specs.Run.{replyIs, HandsFormed, storedBy, freqsAfter};
 ghost use Rattle.numbers.specs.Answers.{answerNumber};
 ghost use Rattle.numbers.specs.Run.{stateIn, withState, withFreqs, progressWith, startedNumbers};
 
+// The state of a runner: position, lock polls, total and stopped mark.
 pub(crate) fn state(numbers: &[u32; 15]) -> State
     ensures { λ r. ⌜ (r ≡ stateIn (now (numbers .entry))) × (r .position ≤ 4294967295) ⌝ }
 {
@@ -23,6 +24,7 @@ pub(crate) fn state(numbers: &[u32; 15]) -> State
     }
 }
 
+// Writes the state of a runner.
 pub(crate) fn put_state(numbers: &mut [u32; 15], s: State)
     requires { ⌜ s .position ≤ 4294967295 ⌝ }
     ensures { λ _. ⌜ now (numbers .exit) ≡ withState s (now (numbers .entry)) ⌝ }
@@ -33,7 +35,7 @@ pub(crate) fn put_state(numbers: &mut [u32; 15], s: State)
     numbers[3] = base::bit(s.stopped);
 }
 
-// A store sets its clock's frequency.
+// A store sets the frequency of its clock; any other step changes nothing.
 fn put_store(numbers: &mut [u32; 15], step: Step)
     requires { ⌜ WellFormed step ⌝ }
     ensures { λ _. ⌜ now (numbers .exit) ≡ withFreqs (storedBy step (drop 5 (now (numbers .entry)))) (now (numbers .entry)) ⌝ }
@@ -45,7 +47,7 @@ fn put_store(numbers: &mut [u32; 15], step: Step)
     numbers[5 + clock] = step.f1 as u32;
 }
 
-// The number of a reply at a word of the sheet; a store that is handed out sets its frequency.
+// The number of a reply, where `word` is the sheet's word at the position; a store that is handed out sets its frequency.
 pub(crate) fn answer(numbers: &mut [u32; 15], reply: Reply, word: u64) -> u64
     requires { ⌜ HandsFormed (replyIs reply) ⌝ }
     ensures { λ r. ⌜ (r ≡ answerNumber (progressWith word) (replyIs reply)) × (now (numbers .exit) ≡ withFreqs (freqsAfter (replyIs reply) (drop 5 (now (numbers .entry)))) (now (numbers .entry))) ⌝ }
@@ -62,7 +64,7 @@ pub(crate) fn answer(numbers: &mut [u32; 15], reply: Reply, word: u64) -> u64
     }
 }
 
-// A runner that was just started with as many bytes.
+// Writes the numbers of a runner just started with a sheet of `len` bytes.
 pub(crate) fn put_started(numbers: &mut [u32], len: u32)
     requires { ⌜ length (now numbers) ≡ 15 ⌝ }
     ensures { λ _. ⌜ now (numbers .exit) ≡ startedNumbers len ⌝ }

@@ -1,4 +1,4 @@
-// The parts of a plan, each from its place in the row n. A part that may be absent is there where its flag is 1.
+// The parts of a plan, each from its index in the row n. An optional part is present where its flag is 1.
 use crate::plan::ChipRead;
 use chip::Chip;
 use chip::voltage::VoltageRead;
@@ -29,6 +29,7 @@ ghost use Rattle.chip.specs.Voltage.{readIs};
 ghost use Rattle.numbers.specs.Plan.{referenceAt, peripheralAt, dividedAt, rtcAt};
 ghost use Rattle.numbers.specs.Plan.{with2040, with235x, chipAt, chipReadIs};
 
+// The ring oscillator.
 pub(crate) fn ring(n: &[u32]) -> OptionRosc
     ensures { λ r. ⌜ r ≡ ringAt (now (n .entry)) ⌝ }
 {
@@ -44,6 +45,7 @@ pub(crate) fn ring(n: &[u32]) -> OptionRosc
     })
 }
 
+// The eight drive strengths of the ring oscillator.
 fn strengths(n: &[u32]) -> DriveStrength
     ensures { λ r. ⌜ r ≡ strengthsAt (now (n .entry)) ⌝ }
 {
@@ -59,7 +61,7 @@ fn strengths(n: &[u32]) -> DriveStrength
     }
 }
 
-// The PLL from place i on.
+// The PLL from index i on.
 fn pll(n: &[u32], i: u8) -> OptionPll
     ensures { λ r. ⌜ r ≡ optionPllAt (now (n .entry)) i ⌝ }
 {
@@ -69,6 +71,7 @@ fn pll(n: &[u32], i: u8) -> OptionPll
     OptionPll::Some(fields::pll_at(n, i as u16 + 1))
 }
 
+// The crystal oscillator with its PLLs.
 pub(crate) fn crystal(n: &[u32]) -> OptionXosc
     ensures { λ r. ⌜ r ≡ crystalAt (now (n .entry)) ⌝ }
 {
@@ -83,6 +86,7 @@ pub(crate) fn crystal(n: &[u32]) -> OptionXosc
     })
 }
 
+// The settling time in µs.
 pub(crate) fn settling(n: &[u32]) -> OptionU32
     ensures { λ r. ⌜ r ≡ settlingAt (now (n .entry)) ⌝ }
 {
@@ -92,6 +96,7 @@ pub(crate) fn settling(n: &[u32]) -> OptionU32
     OptionU32::Some(number_at(n, 27))
 }
 
+// The reference clock.
 pub(crate) fn reference(n: &[u32]) -> RefClkConfig
     ensures { λ r. ⌜ r ≡ referenceAt (now (n .entry)) ⌝ }
 {
@@ -101,6 +106,7 @@ pub(crate) fn reference(n: &[u32]) -> RefClkConfig
     }
 }
 
+// The source of the peripheral clock.
 pub(crate) fn peripheral(n: &[u32]) -> OptionPeri
     ensures { λ r. ⌜ r ≡ peripheralAt (now (n .entry)) ⌝ }
 {
@@ -110,7 +116,7 @@ pub(crate) fn peripheral(n: &[u32]) -> OptionPeri
     OptionPeri::Some(settings::peri_from(number_at(n, 34) as u64))
 }
 
-// The USB or the ADC clock, from place i on.
+// The USB or the ADC clock, from index i on.
 pub(crate) fn divided(n: &[u32], i: u8) -> OptionAux
     ensures { λ r. ⌜ r ≡ dividedAt (now (n .entry)) i ⌝ }
 {
@@ -125,6 +131,7 @@ pub(crate) fn divided(n: &[u32], i: u8) -> OptionAux
     })
 }
 
+// The RTC clock, which only the RP2040 has.
 fn rtc(n: &[u32]) -> OptionRtc
     ensures { λ r. ⌜ r ≡ rtcAt (now (n .entry)) ⌝ }
 {
@@ -139,6 +146,7 @@ fn rtc(n: &[u32]) -> OptionRtc
     })
 }
 
+// The RP2040's part with this voltage; None where the code is refused.
 fn with_2040(voltage: VoltageRead, n: &[u32]) -> ChipRead
     ensures { λ r. ⌜ chipReadIs r ≡ with2040 (readIs Rp2040 voltage) (now (n .entry)) ⌝ }
 {
@@ -155,6 +163,7 @@ fn with_2040(voltage: VoltageRead, n: &[u32]) -> ChipRead
     }
 }
 
+// The RP235x's part with this voltage; None where the code is refused.
 fn with_235x(voltage: VoltageRead235, n: &[u32]) -> ChipRead
     ensures { λ r. ⌜ chipReadIs r ≡ with235x (readIs Rp235x voltage) (now (n .entry)) ⌝ }
 {
@@ -172,7 +181,7 @@ fn with_235x(voltage: VoltageRead235, n: &[u32]) -> ChipRead
     }
 }
 
-// The chip's part: voltage, system divider and RTC.
+// The chip-specific part: voltage, system divider and, on the RP2040, the RTC.
 pub(crate) fn chip(on: Chip, n: &[u32]) -> ChipRead
     ensures { λ r. ⌜ chipReadIs r ≡ chipAt on (now (n .entry)) ⌝ }
 {

@@ -1,4 +1,4 @@
-// The numbers of each part of a plan; those of an absent part are 0.
+// The numbers of each part of a plan, with a flag before an optional part; those of an absent part are 0.
 use config::OptionAux;
 use config::OptionPeri;
 use config::OptionPll;
@@ -12,6 +12,7 @@ ghost use mathlib.Core.Path.{_≡_};
 ghost use Rattle.numbers.specs.Row.{ringRow, crystalRow, sysPllIn, usbPllIn, pllRow, firstRow, sysRow, periRow};
 ghost use Rattle.numbers.specs.Row.{auxRow, rtcRow};
 
+// Flag, Hz, range code, eight strengths, divider.
 pub(crate) fn ring(ring: OptionRosc) -> [u32; 12]
     ensures { λ r. ⌜ r ≡ ringRow ring ⌝ }
 {
@@ -38,6 +39,7 @@ pub(crate) fn ring(ring: OptionRosc) -> [u32; 12]
     }
 }
 
+// Flag, Hz, delay multiplier.
 pub(crate) fn crystal(crystal: OptionXosc) -> [u32; 3]
     ensures { λ r. ⌜ r ≡ crystalRow crystal ⌝ }
 {
@@ -47,7 +49,7 @@ pub(crate) fn crystal(crystal: OptionXosc) -> [u32; 3]
     }
 }
 
-// With no crystal there is no PLL.
+// The system PLL of a crystal; without a crystal there is none.
 pub fn sys_pll(crystal: OptionXosc) -> OptionPll
     ensures { λ r. ⌜ r ≡ sysPllIn crystal ⌝ }
 {
@@ -57,6 +59,7 @@ pub fn sys_pll(crystal: OptionXosc) -> OptionPll
     }
 }
 
+// The USB PLL of a crystal; without a crystal there is none.
 pub fn usb_pll(crystal: OptionXosc) -> OptionPll
     ensures { λ r. ⌜ r ≡ usbPllIn crystal ⌝ }
 {
@@ -66,6 +69,7 @@ pub fn usb_pll(crystal: OptionXosc) -> OptionPll
     }
 }
 
+// Flag, reference, feedback and post dividers.
 pub(crate) fn pll(pll: OptionPll) -> [u32; 5]
     ensures { λ r. ⌜ r ≡ pllRow pll ⌝ }
 {
@@ -81,7 +85,7 @@ pub(crate) fn pll(pll: OptionPll) -> [u32; 5]
     }
 }
 
-// Voltage code, settling time, reference.
+// Voltage code; flag and µs of the settling time; source and divider of the reference clock.
 pub(crate) fn first(code: u8, given: OptionU32, reference: RefClkConfig) -> [u32; 5]
     ensures { λ r. ⌜ r ≡ firstRow code given reference ⌝ }
 {
@@ -93,12 +97,14 @@ pub(crate) fn first(code: u8, given: OptionU32, reference: RefClkConfig) -> [u32
     }
 }
 
+// Source, whole part and fraction of the system clock.
 pub(crate) fn sys(src: SysClkSrc, whole: u32, fraction: u16) -> [u32; 3]
     ensures { λ r. ⌜ r ≡ sysRow src whole fraction ⌝ }
 {
     [settings::sys_code(src) as u32, whole, fraction as u32]
 }
 
+// Flag and source of the peripheral clock.
 pub(crate) fn peri(peri: OptionPeri) -> [u32; 2]
     ensures { λ r. ⌜ r ≡ periRow peri ⌝ }
 {
@@ -108,6 +114,7 @@ pub(crate) fn peri(peri: OptionPeri) -> [u32; 2]
     }
 }
 
+// Flag, source, divider and phase of the USB or ADC clock.
 pub(crate) fn aux(aux: OptionAux) -> [u32; 4]
     ensures { λ r. ⌜ r ≡ auxRow aux ⌝ }
 {
@@ -125,6 +132,7 @@ pub(crate) fn aux(aux: OptionAux) -> [u32; 4]
     }
 }
 
+// Flag, source, whole part, fraction and phase of the RTC clock.
 pub(crate) fn rtc(rtc: OptionRtc) -> [u32; 5]
     ensures { λ r. ⌜ r ≡ rtcRow rtc ⌝ }
 {

@@ -1,5 +1,5 @@
-// Numbers put into a lent buffer. Each function writes at `at` and answers the index past what it wrote; what lies past
-// the buffer's end is dropped.
+// Writes slots and steps as numbers into a lent buffer. Each function writes at `at` and answers the index after its numbers;
+// those past the buffer's end are dropped.
 use sleep::Slot;
 use sleep::steps::Step;
 use sleep::steps::Steps;
@@ -8,6 +8,7 @@ ghost use Rattle.base.specs.Placed.{Placed};
 ghost use Rattle.sleep.specs.Sleep.{stepList};
 ghost use Rattle.numbers.specs.Slots.{slotNumbers, slotsNumbers, stepNumbers, stepsNumbers};
 
+// Writes a slot: its flag, then its eleven words.
 fn put_slot(buf: &mut [u32], at: usize, slot: Slot) -> usize
     ensures { λ r. ⌜ Placed (now (buf .entry)) at (slotNumbers slot) r (now (buf .exit)) ⌝ }
 {
@@ -16,6 +17,7 @@ fn put_slot(buf: &mut [u32], at: usize, slot: Slot) -> usize
     base::put_numbers(buf, end, &words)
 }
 
+// Writes the four slots, 48 numbers.
 pub fn put_slots(buf: &mut [u32], at: usize, slots: [Slot; 4]) -> usize
     ensures { λ r. ⌜ Placed (now (buf .entry)) at (slotsNumbers slots) r (now (buf .exit)) ⌝ }
 {
@@ -25,6 +27,7 @@ pub fn put_slots(buf: &mut [u32], at: usize, slots: [Slot; 4]) -> usize
     put_slot(buf, three, slots[3])
 }
 
+// Writes two numbers.
 fn put_pair(buf: &mut [u32], at: usize, a: u32, b: u32) -> usize
     ensures { λ r. ⌜ Placed (now (buf .entry)) at (a ∷ b ∷ []) r (now (buf .exit)) ⌝ }
 {
@@ -32,6 +35,7 @@ fn put_pair(buf: &mut [u32], at: usize, a: u32, b: u32) -> usize
     base::put_number(buf, end, b)
 }
 
+// Writes a step: a register and its value, or a wait's code (11 ring, 12 crystal, 13 and 14 PLLs) and 0.
 fn put_step(buf: &mut [u32], at: usize, step: Step) -> usize
     ensures { λ r. ⌜ Placed (now (buf .entry)) at (stepNumbers step) r (now (buf .exit)) ⌝ }
 {
@@ -43,6 +47,7 @@ fn put_step(buf: &mut [u32], at: usize, step: Step) -> usize
     }
 }
 
+// Writes the steps, two numbers each.
 pub fn put_steps(buf: &mut [u32], at: usize, steps: Steps) -> usize
     ensures { λ r. ⌜ Placed (now (buf .entry)) at (stepsNumbers (stepList steps)) r (now (buf .exit)) ⌝ }
 {

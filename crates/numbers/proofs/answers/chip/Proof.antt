@@ -1,4 +1,4 @@
--- `numbers::answers::chip` meets its contract.
+-- `numbers::answers::chip` meets its contract: each arm of the match is a chip's number, and any other number is no chip.
 use borrow.Author.Tests.{ne-eqb}
 use Rattle.numbers.proofs.answers.chip.Statement.{statement}
 use Rattle.numbers.proofs.answers.chip.Tie as tie

@@ -1,4 +1,5 @@
--- `numbers::answers::divider` meets its contract.
+-- `numbers::answers::divider` meets its contract: the answer of `chip` picks the case: a chip carries on the equation of
+-- `divider_of`, and no chip has no divider.
 use borrow.Author.Needs.{needs}
 use Rattle.numbers.proofs.answers.divider.Statement.{statement}
 use Rattle.numbers.proofs.answers.divider.Tie as tie

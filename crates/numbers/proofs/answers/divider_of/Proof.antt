@@ -1,4 +1,5 @@
--- `numbers::answers::divider_of` meets its contract.
+-- `numbers::answers::divider_of` meets its contract: the chip picks the case, and on the RP2040 the comparison with 255 is the
+-- definition's.
 use borrow.{Author.Tests.lt-leb, Author.Tests.le-leb, Author.Needs.needs}
 use Rattle.numbers.proofs.answers.divider_of.Statement.{statement}
 use Rattle.numbers.proofs.answers.divider_of.Tie as tie

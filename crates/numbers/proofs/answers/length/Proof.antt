@@ -1,4 +1,5 @@
--- `numbers::answers::length` meets its contract.
+-- `numbers::answers::length` meets its contract: the variant picks the case of the definition, and a refusal's number is below
+-- 256.
 use borrow.Author.Needs.{needs}
 use Rattle.numbers.proofs.answers.length.Statement.{statement}
 use Rattle.numbers.proofs.answers.length.Tie as tie

@@ -1,4 +1,5 @@
--- `numbers::answers::voltage` meets its contract.
+-- `numbers::answers::voltage` meets its contract: the chip picks the case, and `number-is` unfolds the definition to the
+-- equations of the chip's `core_voltage` and of `voltage_read`.
 use mathlib.Core.Path.{_≡_, refl}
 use Prim.Native.Nat.{ℕ}
 use borrow.Author.Needs.{needs}

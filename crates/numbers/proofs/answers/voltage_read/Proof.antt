@@ -1,4 +1,5 @@
--- `numbers::answers::voltage_read` meets its contract.
+-- `numbers::answers::voltage_read` meets its contract: the variant picks the case, and a voltage has the code and the level that
+-- `code` and `recommended_bod` answer.
 use borrow.Author.Needs.{needs}
 use Rattle.numbers.proofs.answers.voltage_read.Statement.{statement}
 use Rattle.numbers.proofs.answers.voltage_read.Tie as tie

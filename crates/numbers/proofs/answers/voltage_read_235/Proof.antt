@@ -1,4 +1,5 @@
--- `numbers::answers::voltage_read_235` meets its contract.
+-- `numbers::answers::voltage_read_235` meets its contract: the variant picks the case, and a voltage has the code and the level
+-- that `code` and `recommended_bod` answer.
 use borrow.Author.Needs.{needs}
 use Rattle.numbers.proofs.answers.voltage_read_235.Statement.{statement}
 use Rattle.numbers.proofs.answers.voltage_read_235.Tie as tie

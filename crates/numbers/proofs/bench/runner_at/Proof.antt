@@ -1,4 +1,5 @@
--- `numbers::bench::runner_at` meets its contract.
+-- `numbers::bench::runner_at` meets its contract: five calls of `number_at` and one of `ten_at` give the fifteen numbers, each by
+-- its own equation.
 use borrow.Author.Needs.{needs}
 use Rattle.numbers.proofs.bench.runner_at.Statement.{statement}
 use Rattle.numbers.proofs.bench.runner_at.Tie as tie

@@ -1,4 +1,5 @@
--- `numbers::board::access` meets its contract.
+-- `numbers::board::access` meets its contract: the answer of `answers::chip` picks the case: a chip carries on the equation of
+-- `access_on`, and any other number is malformed and changes nothing.
 use borrow.Author.Needs.{needs}
 use mathlib.Core.Path.{refl, sym, ap, _∙_}
 use Rattle.numbers.specs.Answers.{chipIs}

@@ -1,4 +1,5 @@
--- `numbers::board::access_on` meets its contract.
+-- `numbers::board::access_on` meets its contract: the variant that `access_at` answers picks the case: an access is written, and
+-- a refusal changes nothing.
 use borrow.Author.Needs.{needs}
 use mathlib.Core.Path.{refl, sym, ap, _∙_}
 use Rattle.registers.specs.Access.{accessedIs}

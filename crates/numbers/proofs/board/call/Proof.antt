@@ -1,4 +1,6 @@
--- `numbers::board::call` meets its contract.
+-- `numbers::board::call` meets its contract: a bad mark is malformed; else the equation of `turn` gives the state and the reply,
+-- `turn-word` says that the step handed out is the word read at the position, and `position-fits` that the new position has 32
+-- bits.
 use borrow.{Author.Tests.le-leb, Author.Tests.lt-leb, Author.Needs.needs}
 use mathlib.Core.Path.{ap, _∙_}
 use Rattle.runner.specs.declared.State.{State}

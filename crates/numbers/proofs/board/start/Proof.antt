@@ -1,4 +1,6 @@
--- `numbers::board::start` meets its contract.
+-- `numbers::board::start` meets its contract: the reply of `restarted` picks the case: `start-taken` and `start-kept` say that
+-- the runner holds the padded sheet, which `copy` writes whole, and `start-turned` and `start-refused` that a refusal changes
+-- nothing.
 use borrow.Author.Needs.{needs}
 use mathlib.Core.{Bool.false, List.[], List._++_, List.append-nil, Path._≡_, Path.refl, Path.ap, Path.ap₂, Path._∙_}
 use Prim.Native.Nat.{_≤_}

@@ -1,4 +1,5 @@
--- `numbers::plan::plan` meets its contract.
+-- `numbers::plan::plan` meets its contract: the answer of `whole_plan` is the definition's test; where it holds, the answer of
+-- `part::chip` picks the plan of `plan_at` or none.
 use Rattle.numbers.specs.Plan.{planNumbered}
 use borrow.{Author.Tests.not-true, Author.Tests.not-false, Author.Needs.needs}
 use mathlib.Core.Path.{sym, _∙_}

@@ -1,4 +1,4 @@
--- `numbers::plan::plan_at` meets its contract.
+-- `numbers::plan::plan_at` meets its contract: each part's equation gives its field.
 use Rattle.numbers.specs.Plan.{planAt}
 use borrow.Author.Needs.{needs}
 use Rattle.numbers.proofs.plan.plan_at.Statement.{statement}

@@ -1,4 +1,5 @@
--- `numbers::plan::whole_chip` meets its contract.
+-- `numbers::plan::whole_chip` meets its contract: the chip picks the case, and the length and the equations of `fits` and
+-- `is_part` are the tests of the definition.
 use Rattle.numbers.specs.Plan.{wholeChip}
 use borrow.{Author.Needs.needs, Author.Tests.eq-eqb, Author.Tests.ne-eqb}
 use Rattle.numbers.proofs.plan.whole_chip.Statement.{statement}

@@ -1,4 +1,5 @@
--- `numbers::plan::whole_clocks` meets its contract.
+-- `numbers::plan::whole_clocks` meets its contract: the seven equations of `fits` and `is_part` are the seven tests of the
+-- definition.
 use Rattle.numbers.specs.Plan.{wholeClocks}
 use borrow.Author.Needs.{needs}
 use Rattle.numbers.proofs.plan.whole_clocks.Statement.{statement}

@@ -1,4 +1,5 @@
--- `numbers::plan::whole_oscillators` meets its contract.
+-- `numbers::plan::whole_oscillators` meets its contract: the equations of `is_part` and `at_most` are the six tests of the
+-- definition, and congruence joins them.
 use Rattle.numbers.specs.Plan.{wholeOscillators}
 use borrow.Author.Needs.{needs}
 use Rattle.numbers.proofs.plan.whole_oscillators.Statement.{statement}

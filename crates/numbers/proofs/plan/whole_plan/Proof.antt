@@ -1,4 +1,5 @@
--- `numbers::plan::whole_plan` meets its contract.
+-- `numbers::plan::whole_plan` meets its contract: where `whole_chip` answers false so does the definition; else the other two
+-- tests decide.
 use mathlib.Core.Path.{sym, _∙_}
 use borrow.{Author.Tests.not-true, Author.Tests.not-false, Author.Needs.needs}
 use Rattle.numbers.proofs.plan.whole_plan.Statement.{statement}

@@ -1,4 +1,5 @@
--- `numbers::plan_row::put_clocks` meets its contract.
+-- `numbers::plan_row::put_clocks` meets its contract: `placed-append` joins the five parts' rows, each by the equation of its own
+-- call.
 use Rattle.base.proofs.Placing.{placed-append}
 use Rattle.numbers.specs.Row.{clockRow}
 use borrow.Author.Needs.{needs}

@@ -1,4 +1,5 @@
--- `numbers::plan_row::put_oscillators` meets its contract.
+-- `numbers::plan_row::put_oscillators` meets its contract: `placed-append` joins the four parts' rows, each by the equation of
+-- its own call.
 use Rattle.base.proofs.Placing.{placed-append}
 use Rattle.numbers.specs.Row.{oscillatorRow}
 use borrow.Author.Needs.{needs}

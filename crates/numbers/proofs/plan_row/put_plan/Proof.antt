@@ -1,4 +1,4 @@
--- `numbers::plan_row::put_plan` meets its contract.
+-- `numbers::plan_row::put_plan` meets its contract: `placed-append` joins the rows of oscillators, clocks and RTC.
 use Rattle.base.proofs.Placing.{placed-append}
 use Rattle.numbers.specs.Row.{planRow}
 use borrow.Author.Needs.{needs}

@@ -1,4 +1,5 @@
--- `numbers::plan_row::put_rtc` meets its contract.
+-- `numbers::plan_row::put_rtc` meets its contract: the chip picks the case: the RP2040 has the row of `rows::rtc`, and the RP235x
+-- has no numbers, so only the index is clamped.
 use mathlib.Core.Path.{refl}
 use native.Mathlib.Omega.{arith}
 use borrow.Author.Needs.{needs}

@@ -1,4 +1,5 @@
--- `numbers::read::leave` meets its contract.
+-- `numbers::read::leave` meets its contract: the variant picks the case: `put_plan` writes the numbers and `plan_chip` answers
+-- the chip, and a refusal changes nothing.
 use mathlib.Core.Path.{refl}
 use borrow.Author.Needs.{needs}
 use Rattle.numbers.proofs.read.leave.Statement.{statement}

@@ -1,4 +1,4 @@
--- `numbers::read::plan_chip` meets its contract.
+-- `numbers::read::plan_chip` meets its contract: `board` gives the chip, which picks the case.
 use borrow.Author.Needs.{needs}
 use Rattle.numbers.proofs.read.plan_chip.Statement.{statement}
 use Rattle.numbers.proofs.read.plan_chip.Tie as tie

@@ -1,4 +1,4 @@
--- `numbers::sleep_call::asked` meets its contract.
+-- `numbers::sleep_call::asked` meets its contract: the flag picks `wake` or `sleep`, whose outcome is the definition's.
 use borrow.Author.Needs.{needs}
 use Rattle.numbers.proofs.sleep_call.asked.Statement.{statement}
 use Rattle.numbers.proofs.sleep_call.asked.Tie as tie

@@ -1,4 +1,5 @@
--- `numbers::sleep_call::change` meets its contract.
+-- `numbers::sleep_call::change` meets its contract: the test is the definition's: where it holds, the equations of `slots_at`,
+-- `words_at` and `asked` are carried on to `leave`, and else nothing changes.
 use borrow.Author.Needs.{needs}
 use mathlib.Core.Path.{refl}
 use Rattle.numbers.proofs.sleep_call.change.Statement.{statement}

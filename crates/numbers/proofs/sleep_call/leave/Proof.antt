@@ -1,4 +1,5 @@
--- `numbers::sleep_call::leave` meets its contract.
+-- `numbers::sleep_call::leave` meets its contract: the variant picks the case: `put_slots`, `put_numbers` and `put_steps` write
+-- what is left, and a refusal changes nothing.
 use borrow.Author.Needs.{needs}
 use mathlib.Core.Path.{refl}
 use Rattle.numbers.proofs.sleep_call.leave.Statement.{statement}

@@ -1,4 +1,4 @@
--- `numbers::slots::slot_at` meets its contract.
+-- `numbers::slots::slot_at` meets its contract: `number_at` reads the flag and `words_at` the words.
 use borrow.Author.Needs.{needs}
 use Rattle.numbers.proofs.slots.slot_at.Statement.{statement}
 use Rattle.numbers.proofs.slots.slot_at.Tie as tie

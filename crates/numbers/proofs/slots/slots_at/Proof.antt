@@ -1,4 +1,4 @@
--- `numbers::slots::slots_at` meets its contract.
+-- `numbers::slots::slots_at` meets its contract: the four equations of `slot_at` give the four slots.
 use borrow.Author.Needs.{needs}
 use Rattle.numbers.proofs.slots.slots_at.Statement.{statement}
 use Rattle.numbers.proofs.slots.slots_at.Tie as tie

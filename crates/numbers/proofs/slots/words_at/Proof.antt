@@ -1,4 +1,4 @@
--- `numbers::slots::words_at` meets its contract.
+-- `numbers::slots::words_at` meets its contract: `ten_at` gives the first ten words and `number_at` the last.
 use borrow.Author.Needs.{needs}
 use Rattle.numbers.proofs.slots.words_at.Statement.{statement}
 use Rattle.numbers.proofs.slots.words_at.Tie as tie

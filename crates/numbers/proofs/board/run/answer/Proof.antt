@@ -1,4 +1,5 @@
--- `numbers::board::run::answer` meets its contract.
+-- `numbers::board::run::answer` meets its contract: the variant picks the case: a step handed out carries on the equation of
+-- `put_store`, and for any other reply `freqs-kept` says that the numbers stay.
 use borrow.Author.Needs.{needs}
 use mathlib.Core.Path.{refl}
 use Rattle.numbers.proofs.Runners.{freqs-kept}

@@ -1,4 +1,5 @@
--- `numbers::board::run::put_started` meets its contract.
+-- `numbers::board::run::put_started` meets its contract: the fifteen assignments are one run from index 0 on, and `sets-eq` says
+-- that it replaces all fifteen numbers.
 use mathlib.Core.{List.[], Path._≡_, Path.refl, Path._∙_}
 use native.Mathlib.Omega.{arith}
 use lib.{ListN.length, ListN.drop, ListN.length-set, ListN.drop-of-length-le, Seq.sets-eq}

@@ -1,4 +1,5 @@
--- `numbers::board::run::put_state` meets its contract.
+-- `numbers::board::run::put_state` meets its contract: the four assignments are the definition's, with the mark that `bit`
+-- answers.
 use borrow.Author.Needs.{needs}
 use Rattle.numbers.specs.Run.{withState}
 use Rattle.numbers.proofs.board.run.put_state.Statement.{statement}

@@ -1,4 +1,5 @@
--- `numbers::board::run::put_store` meets its contract.
+-- `numbers::board::run::put_store` meets its contract: a step of another kind leaves the numbers by `freqs-kept`; of a store
+-- `store-fits` bounds clock and value, and `set-behind` says that the number set is the clock's frequency.
 use borrow.Author.Tests.{eq-eqb, ne-eqb}
 use Prim.Native.Nat.{_<_}
 use native.Mathlib.Omega.{arith}

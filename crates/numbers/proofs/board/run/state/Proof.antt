@@ -1,4 +1,4 @@
--- `numbers::board::run::state` meets its contract.
+-- `numbers::board::run::state` meets its contract: `wide` gives the position, and its bound.
 use borrow.Author.Needs.{needs}
 use Rattle.numbers.proofs.board.run.state.Statement.{statement}
 use Rattle.numbers.proofs.board.run.state.Tie as tie

@@ -1,4 +1,5 @@
--- `numbers::plan::part::chip` meets its contract.
+-- `numbers::plan::part::chip` meets its contract: the chip picks the case, and the equations of `byte_at`, of the chip's
+-- `core_voltage` and of `with_2040` or `with_235x` are carried on.
 use Rattle.numbers.specs.Plan.{chipAt}
 use borrow.Author.Needs.{needs}
 use Rattle.numbers.proofs.plan.part.chip.Statement.{statement}

@@ -1,4 +1,5 @@
--- `numbers::plan::part::crystal` meets its contract.
+-- `numbers::plan::part::crystal` meets its contract: the flag picks the case by `absent` and `there`, and the equations of
+-- `number_at` and `pll` give the four fields.
 use Rattle.numbers.specs.Plan.{crystalAt}
 use Rattle.numbers.proofs.{Flags.there, Flags.absent, plan.part.crystal.Statement.statement}
 use borrow.Author.Needs.{needs}

@@ -1,4 +1,5 @@
--- `numbers::plan::part::divided` meets its contract.
+-- `numbers::plan::part::divided` meets its contract: the flag picks the case by `absent` and `there`, and the equations of
+-- `aux_from` and `byte_at` give the three fields.
 use Rattle.numbers.specs.Plan.{dividedAt}
 use Rattle.numbers.proofs.{Flags.there, Flags.absent, plan.part.divided.Statement.statement}
 use borrow.Author.Needs.{needs}

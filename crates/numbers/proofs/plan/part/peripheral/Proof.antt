@@ -1,4 +1,5 @@
--- `numbers::plan::part::peripheral` meets its contract.
+-- `numbers::plan::part::peripheral` meets its contract: the flag picks the case by `absent` and `there`, and the equation of
+-- `peri_from` gives the source.
 use Rattle.numbers.specs.Plan.{peripheralAt}
 use Rattle.numbers.proofs.{Flags.there, Flags.absent, plan.part.peripheral.Statement.statement}
 use borrow.Author.Needs.{needs}

@@ -1,4 +1,5 @@
--- `numbers::plan::part::pll` meets its contract.
+-- `numbers::plan::part::pll` meets its contract: the flag picks the case by `absent` and `there`, and the equation of `pll_at`
+-- gives the dividers.
 use Rattle.numbers.specs.Plan.{optionPllAt}
 use Rattle.numbers.proofs.{Flags.there, Flags.absent, plan.part.pll.Statement.statement}
 use borrow.Author.Needs.{needs}

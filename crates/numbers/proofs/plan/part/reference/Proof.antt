@@ -1,4 +1,4 @@
--- `numbers::plan::part::reference` meets its contract.
+-- `numbers::plan::part::reference` meets its contract: the equations of `ref_from` and `byte_at` give the two fields.
 use Rattle.numbers.specs.Plan.{referenceAt}
 use borrow.Author.Needs.{needs}
 use Rattle.numbers.proofs.plan.part.reference.Statement.{statement}

@@ -1,4 +1,5 @@
--- `numbers::plan::part::ring` meets its contract.
+-- `numbers::plan::part::ring` meets its contract: the flag picks the case by `absent` and `there`, and the equations of
+-- `number_at`, `range_from`, `strengths` and `half_at` give the four fields.
 use Rattle.numbers.specs.Plan.{ringAt}
 use Rattle.numbers.proofs.{Flags.there, Flags.absent, plan.part.ring.Statement.statement}
 use borrow.Author.Needs.{needs}

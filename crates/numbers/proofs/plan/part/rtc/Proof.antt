@@ -1,4 +1,5 @@
--- `numbers::plan::part::rtc` meets its contract.
+-- `numbers::plan::part::rtc` meets its contract: the flag picks the case by `absent` and `there`, and the equations of
+-- `aux_from`, `number_at` and `byte_at` give the four fields.
 use Rattle.numbers.specs.Plan.{rtcAt}
 use Rattle.numbers.proofs.{Flags.there, Flags.absent, plan.part.rtc.Statement.statement}
 use borrow.Author.Needs.{needs}

@@ -1,4 +1,5 @@
--- `numbers::plan::part::settling` meets its contract.
+-- `numbers::plan::part::settling` meets its contract: the flag picks the case by `absent` and `there`, and the equation of
+-- `number_at` gives the time.
 use Rattle.numbers.specs.Plan.{settlingAt}
 use Rattle.numbers.proofs.{Flags.there, Flags.absent, plan.part.settling.Statement.statement}
 use borrow.Author.Needs.{needs}

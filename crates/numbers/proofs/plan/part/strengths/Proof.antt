@@ -1,4 +1,4 @@
--- `numbers::plan::part::strengths` meets its contract.
+-- `numbers::plan::part::strengths` meets its contract: the eight equations of `byte_at` give the eight fields.
 use Rattle.numbers.specs.Plan.{strengthsAt}
 use borrow.Author.Needs.{needs}
 use Rattle.numbers.proofs.plan.part.strengths.Statement.{statement}

@@ -1,4 +1,5 @@
--- `numbers::plan::part::with_2040` meets its contract.
+-- `numbers::plan::part::with_2040` meets its contract: the variant picks the case: a voltage carries on the equations of
+-- `number_at`, `byte_at` and `rtc`, and a refused code gives none.
 use borrow.Author.Needs.{needs}
 use Rattle.numbers.proofs.plan.part.with_2040.Statement.{statement}
 use Rattle.numbers.proofs.plan.part.with_2040.Tie as tie

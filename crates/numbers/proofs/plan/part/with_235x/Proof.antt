@@ -1,4 +1,5 @@
--- `numbers::plan::part::with_235x` meets its contract.
+-- `numbers::plan::part::with_235x` meets its contract: the variant picks the case: a voltage carries on the two equations of
+-- `half_at`, and a refused code gives none.
 use borrow.Author.Needs.{needs}
 use Rattle.numbers.proofs.plan.part.with_235x.Statement.{statement}
 use Rattle.numbers.proofs.plan.part.with_235x.Tie as tie

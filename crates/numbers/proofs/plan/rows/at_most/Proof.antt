@@ -1,4 +1,4 @@
--- `numbers::plan::rows::at_most` meets its contract.
+-- `numbers::plan::rows::at_most` meets its contract: the two equations of `number_at` give the two numbers compared.
 use borrow.Author.Needs.{needs}
 use Rattle.numbers.proofs.plan.rows.at_most.Statement.{statement}
 use Rattle.numbers.proofs.plan.rows.at_most.Tie as tie

@@ -1,4 +1,5 @@
--- `numbers::plan::rows::fits` meets its contract. Invariant: the numbers before place at fit. Measure: the limits left.
+-- `numbers::plan::rows::fits` meets its contract: the invariant says that the limits from k on, tested from index i + k on,
+-- decide what all of them decide; `fit-step` takes one limit more. Measure: the limits left.
 use mathlib.Core.Path.{_≡_, refl, sym, _∙_}
 use Prim.Native.Nat.{_+_, _-_, _≤_}
 use native.Mathlib.Omega.{arith}

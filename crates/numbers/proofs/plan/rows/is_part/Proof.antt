@@ -1,4 +1,4 @@
--- `numbers::plan::rows::is_part` meets its contract.
+-- `numbers::plan::rows::is_part` meets its contract: `number_at` reads the flag, and `fits` tests the numbers with it.
 use Rattle.numbers.specs.Parts.{isPart}
 use borrow.Author.Needs.{needs}
 use Rattle.numbers.proofs.plan.rows.is_part.Statement.{statement}

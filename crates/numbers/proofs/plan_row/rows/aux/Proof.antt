@@ -1,4 +1,4 @@
--- `numbers::plan_row::rows::aux` meets its contract.
+-- `numbers::plan_row::rows::aux` meets its contract: the variant picks the case, and `aux_code` gives the source's code.
 use borrow.Author.Needs.{needs}
 use Rattle.numbers.proofs.plan_row.rows.aux.Statement.{statement}
 use Rattle.numbers.proofs.plan_row.rows.aux.Tie as tie

@@ -1,4 +1,4 @@
--- `numbers::plan_row::rows::first` meets its contract.
+-- `numbers::plan_row::rows::first` meets its contract: the variant picks the case, and `ref_code` gives the source's code.
 use borrow.Author.Needs.{needs}
 use Rattle.numbers.proofs.plan_row.rows.first.Statement.{statement}
 use Rattle.numbers.proofs.plan_row.rows.first.Tie as tie

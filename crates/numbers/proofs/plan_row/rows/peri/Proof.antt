@@ -1,4 +1,4 @@
--- `numbers::plan_row::rows::peri` meets its contract.
+-- `numbers::plan_row::rows::peri` meets its contract: the variant picks the case, and `peri_aux` gives the source's code.
 use borrow.Author.Needs.{needs}
 use Rattle.numbers.proofs.plan_row.rows.peri.Statement.{statement}
 use Rattle.numbers.proofs.plan_row.rows.peri.Tie as tie

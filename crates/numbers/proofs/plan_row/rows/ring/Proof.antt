@@ -1,4 +1,4 @@
--- `numbers::plan_row::rows::ring` meets its contract.
+-- `numbers::plan_row::rows::ring` meets its contract: the variant picks the case, and `range_code` gives the range's code.
 use borrow.Author.Needs.{needs}
 use Rattle.numbers.proofs.plan_row.rows.ring.Statement.{statement}
 use Rattle.numbers.proofs.plan_row.rows.ring.Tie as tie

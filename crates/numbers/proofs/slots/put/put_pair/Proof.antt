@@ -1,4 +1,4 @@
--- `numbers::slots::put::put_pair` meets its contract.
+-- `numbers::slots::put::put_pair` meets its contract: `placed-append` joins the two numbers.
 use borrow.Author.Needs.{needs}
 use Rattle.base.proofs.Placing.{placed-append}
 use Rattle.numbers.proofs.slots.put.put_pair.Statement.{statement}

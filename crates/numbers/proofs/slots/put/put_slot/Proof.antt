@@ -1,4 +1,4 @@
--- `numbers::slots::put::put_slot` meets its contract.
+-- `numbers::slots::put::put_slot` meets its contract: `placed-append` joins the flag that `bit` answers and the words.
 use borrow.Author.Needs.{needs}
 use Rattle.base.proofs.Placing.{placed-append}
 use Rattle.numbers.proofs.slots.put.put_slot.Statement.{statement}

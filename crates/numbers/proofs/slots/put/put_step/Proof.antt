@@ -1,4 +1,4 @@
--- `numbers::slots::put::put_step` meets its contract.
+-- `numbers::slots::put::put_step` meets its contract: the variant picks the pair that `put_pair` places.
 use borrow.Author.Needs.{needs}
 use Rattle.numbers.proofs.slots.put.put_step.Statement.{statement}
 use Rattle.numbers.proofs.slots.put.put_step.Tie as tie

@@ -1,4 +1,5 @@
--- `numbers::slots::put::put_steps` meets its contract. Measure: the steps left.
+-- `numbers::slots::put::put_steps` meets its contract: the invariant `StepParts` says that the first i steps are placed, and
+-- `step-next` appends the one that `put_step` places. Measure: the steps left.
 use mathlib.Core.Path.{refl}
 use Prim.Native.Nat.{_-_}
 use native.Mathlib.Omega.{arith}
