@@ -20,7 +20,7 @@ abbrev pub locals : List Handed → List Local → List Local
 locals [] ls = ls
 locals (X ∷ Xs) ls = local (X .ty (named 1)) valueLocal ∷ locals Xs ls
 
--- the number of the k-th local after them, counted from the first of them
+-- the index of the k-th local after them, counted from the first of them
 abbrev pub over : List Handed → ℕ → ℕ
 over [] k = k
 over (X ∷ Xs) k = suc (over Xs k)

@@ -7,7 +7,7 @@ use lib.{ListN.length, ListN.take, ListN.getD, Seq.length-sets, Seq.take-suc, Se
 use Rattle.base.specs.Placed.{Placed}
 use Rattle.base.proofs.Placing.{placed-append}
 
--- i of count parts are put; text i is the text of the first i
+-- i of count parts are placed, where text i is the text of the first i
 pub record Parts (text : ℕ → List ℕ) (count : ℕ) (before : List ℕ) (at i end : ℕ) (after : List ℕ) : Type 0 where
   pub inside : i ≤ count
   pub placed : Placed before at (text i) end after

@@ -16,7 +16,7 @@ module _ {M : Type 1} (𝓤 : URA M) (H : Heap 𝓤) (𝓜 : Model 𝓤 H) (𝓖
   abbrev W : Given 𝓤 H (𝓖 .A)
   W = givenOf 𝓤 H 𝓜 𝓖
 
-  -- over the tables of the function's environment γ, where `Known` is what is known of its callees
+  -- over the tables of the function's environment γ, where `Known` holds the facts about its callees
   pub proved : (T : Ended) (hs : Stays (T .signature .params) (T .kept)) (c : Clauses 𝓤 T)
       → AllGo 𝓤 H (𝓖 .A) W (T .signature .lifetimes) (T .signature .params) (T .kept) hs
       → (γ : Env) (k : Name) (f : Fn) → Closed 𝓤 H (tables 𝓤 H 𝓜 𝓡 γ .C) (tables 𝓤 H 𝓜 𝓡 γ .Λ) k f

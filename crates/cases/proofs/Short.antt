@@ -11,7 +11,7 @@ use Rattle.replies.specs.Reply.{badCase, refusedText, spaced, rowText}
 use Rattle.numbers.specs.Answers.{refusals, malformed}
 use Rattle.words.specs.Said.{numberText, hexBehind, callText}
 
--- a number of 64 bits
+-- a 64-bit number has at most 20 digits
 decimal-short : (n : ℕ) → n < 18446744073709551616 → length (decimalOf n) ≤ 20
 decimal-short n h = length-decimal 19 n (omega arith) .1
 

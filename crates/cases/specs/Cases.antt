@@ -93,7 +93,7 @@ rows = wordsIn plainRows ++ wordsIn callRows
 abbrev pub caseText : ℕ → State → List ℕ
 caseText k s = pick (ltb k 17) (textAt plainRows k (s .row)) (textAt callRows (k - 17) s)
 
--- a line of which a word is not what its letter asks for is no case
+-- a line with a word that is not what its letter asks for is no case
 abbrev pub readText : ℕ → Option State → List ℕ
 readText k (some s) = caseText k s
 readText k none = oneText malformed

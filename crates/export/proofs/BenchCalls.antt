@@ -148,7 +148,7 @@ board-numbers ns kept is n few r k =
     ∷ nth ns 112 ∷ tenAt ns (14 * n + 4))
     ∙ (λ i. heldOf (record { kept = r .kept; len = k .len i; stepper = same i }) .numbers)
 
--- whatever a bench and a runner were before a start that is taken, a board is then a single runner of its own
+-- whatever a bench and a runner were before an accepted start, each board is then a single runner of its own
 pub exported-between-starts : (n : ℕ) → n ≤ 7 → (h g : Held) (sheet : List ℕ) → badSize (length sheet) ≡ false
     → (es : List BenchEvent) → ExportedSingle n h g sheet es
 exported-between-starts n few h g sheet ok es =
@@ -170,7 +170,7 @@ exported-between-starts n few h g sheet ok es =
       bytes = alike .kept ∙ sym (ap (λ (x : Held). x .bytes) runner);
     }
 
--- two histories that agree on what concerns a board agree on its answers and on its numbers
+-- two histories with the same calls for a board give the same answers and the same numbers for it
 pub exported-own-calls : (n : ℕ) → n ≤ 7 → (h d : Held) (sheet : List ℕ) → badSize (length sheet) ≡ false
     → (es fs : List BenchEvent) → ownOf n es ≡ ownOf n fs → ExportedSame n h d sheet es fs
 exported-own-calls n few h d sheet ok es fs own =

@@ -136,7 +136,7 @@ slots-history registers (wakes slot ws ∷ h) (eleven, t) =
     )
 slots-history registers (writes i v ∷ h) t = slots-history registers h t
 
--- so a wake restores the words of the last sleep in its slot
+-- a wake restores the words of the last sleep in its slot
 pub exported-wakes : ExportedWakes
 exported-wakes h t slot few ws last eleven words steps slots′ words′ steps′ r handed c =
     let registers : List ℕ = replicate 11 0 in

@@ -24,11 +24,11 @@ Sheets p q =
     → SheetCall q reading c s c′ → s < refusals
     → ((r ≡ s) × SameUpTo r b′ c′) ↔ (settingsIn (planGiven p) reading ≡ settingsIn (planGiven q) reading)
 
--- plans of any numbers, for any chips
+-- sheets of plans given as any numbers, for any chips
 abbrev pub PlanSheets : Type 0
 PlanSheets = (on on′ : ℕ) (ns ms : List ℕ) → Sheets (planOn ns (chipNumbered on)) (planOn ms (chipNumbered on′))
 
--- and presets
+-- sheets of the presets, for any chips
 abbrev pub SystemSheets : Type 0
 SystemSheets =
     (on on′ hz hz′ : ℕ)

@@ -20,7 +20,7 @@ use Rattle.export.specs.Sheet.{SheetCall}
 abbrev pub Refused : ℕ → Type 0
 Refused r = (refusals ≤ r) × (r < 2 ^ 58)
 
--- the numbers after an answer r are those before it, or the answer is 22 and they are those of the timeout
+-- the numbers stay, or the answer r is refusal 22 and they are those after the timeout
 abbrev pub SaveTimeout : ℕ → List ℕ → List ℕ → List ℕ → Type 0
 SaveTimeout r before after timedOut = (after ≡ before) ⊎ ((r ≡ refusals + 22) × (after ≡ timedOut))
 
@@ -29,7 +29,7 @@ abbrev pub timedOutNumbers : List ℕ → List ℕ
 timedOutNumbers ns = set (set ns 2 (oneMore (getD ns 2 0))) 3 1
 
 pub record Untouched : Type 1 where
-  -- `dizbaral_run`, `dizbaral_bench_run` for any board number, also over 7
+  -- `dizbaral_run`, and `dizbaral_bench_run` for any board number, even one over 7
   pub run : (ns kept sheet : List ℕ) (ready : Bool) → length ns ≡ 15 → Refused (runNumber ns kept sheet ready)
       → SaveTimeout (runNumber ns kept sheet ready) ns (runLeaves ns kept sheet ready) (timedOutNumbers ns)
   pub bench-run : (ns kept : List ℕ) (n : ℕ) (sheet : List ℕ) (ready : Bool) → Refused (benchNumber ns kept n sheet ready)

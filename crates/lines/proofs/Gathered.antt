@@ -1,4 +1,5 @@
--- A line that is fed byte by byte is the line: each byte is set after the last, and a byte too many stays one too many.
+-- A line that is fed byte by byte is held as that line: each byte is stored after the last one, and a line of more than 4096
+-- bytes stays marked as too long.
 use mathlib.Core.{Path._≡_, Path.refl, Path.ap, Path._∙_, List.List, List.[], List._∷_}
 use Prim.Native.Nat.{ℕ, suc, _+_, _≤_, _<_}
 use native.Mathlib.{Nat.add-zero, Nat.zero-add, Decide.decLe, Omega.arith}
@@ -17,7 +18,7 @@ feeds-line (b ∷ bs) before n other room =
     rw (ne-eqb b 10 (other .0), lt-ltb n 4096 (omega arith), one) in
     ap (λ (s : Held). feeds s bs) first ∙ feeds-line bs (set before n b) (suc n) (other .1) (omega arith) ∙ rw long
 
--- the bytes set from a buffer's start on are its first
+-- bytes stored at a buffer's start are its first bytes
 first-bytes : (line before : List ℕ) → length line ≤ length before → take (length line) (sets before 0 line) ≡ line
 first-bytes line before room =
     rw (rw zero-add at (sets-eq line before 0 (omega arith))) (take-append-seam line (drop (length line) before))

@@ -41,7 +41,7 @@ abbrev pub onChip : (Chip → ℕ) → Option Chip → ℕ
 onChip f (some chip) = f chip
 onChip f none = malformed
 
--- a voltage: its code, and its brownout level (8 bits)
+-- a voltage: its code above its brownout level (8 bits)
 abbrev pub levelNumber : ℕ → ℕ → ℕ
 levelNumber code brownout = code * 256 + brownout
 

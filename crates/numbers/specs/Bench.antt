@@ -21,7 +21,7 @@ runnerAt ns n =
 abbrev pub stepperAt : List ℕ → ℕ → Stepper
 stepperAt ns n = record { state = stateIn (runnerAt ns n); freqs = tenAt ns (14 * n + 4) }
 
--- count boards from the n-th on
+-- count boards from board n on
 abbrev pub boardsFrom : ℕ → ℕ → List ℕ → List Stepper
 boardsFrom zero n ns = []
 boardsFrom (suc count) n ns = stepperAt ns n ∷ boardsFrom count (suc n) ns

@@ -23,7 +23,7 @@ const ABSENT: u64 = 1 << 32;
 // The answer where the numbers given are of no chip, no plan, no runner or no slots.
 pub const MALFORMED: u64 = 1 << 49;
 
-// A chip by its number, or None.
+// The chip of a number, or None.
 pub enum OptionChip {
     Some(Chip),
     None,

@@ -9,7 +9,7 @@ ghost use Rattle.base.specs.Choice.{pick};
 ghost use Rattle.sleep.specs.Sleep.{changeIs, sleepOf, wakeOf};
 ghost use Rattle.numbers.specs.SleepCall.{areSlots, askedWith, SlotsCall};
 
-// Whether each flag is 0 or 1.
+// Whether each of the four slots' flags is 0 or 1.
 fn are_slots(n: &[u32; 48]) -> bool
     ensures { λ r. ⌜ r ≡ areSlots (now (n .entry)) ⌝ }
 {

@@ -8,7 +8,7 @@ use Rattle.text.specs.{Decimal.decimalOf, Ascii.ascii}
 abbrev pub badCase : List ℕ
 badCase = ascii "bad case"
 
--- a refusal by its number
+-- a refusal with its number
 abbrev pub refusedText : ℕ → List ℕ
 refusedText n = ascii "refused " ++ decimalOf n
 

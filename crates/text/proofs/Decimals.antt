@@ -77,7 +77,7 @@ digits-decimal n = by-digits (λ (m : ℕ) (ds : List ℕ). allDigits ds ≡ tru
     (λ m ds more e. all-last ds (lastDigit m) e (last-is-digit m))
     (suc n) n (omega arith)
 
--- a number of at most k digits is printed with 1 to k
+-- a number below 10 ^ (k + 1) has 1 to k + 1 digits
 pub length-decimal : (k n : ℕ) → n < 10 ^ suc k → (1 ≤ length (decimalOf n)) × (length (decimalOf n) ≤ suc k)
 length-decimal zero n h = let l : n < 10 = omega arith in rw (decimal-small n l) (omega arith, omega arith)
 length-decimal (suc k) n h =
@@ -88,7 +88,7 @@ length-decimal (suc k) n h =
       | no l ↦ rw (decimal-more n (omega arith)) (simp length-append (omega arith))
     ]
 
--- a value only grows with more digits
+-- a value does not decrease with more digits
 pub value-grows : (cs : List ℕ) (n : ℕ) → n ≤ valueAfter n cs
 value-grows [] n = omega arith
 value-grows (c ∷ cs) n = let h = value-grows cs (n * 10 + (c - 48)) in omega arith

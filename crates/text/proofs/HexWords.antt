@@ -10,7 +10,7 @@ use Rattle.base.proofs.Bools.{both-true}
 use Rattle.text.specs.Hex.{isHexWord, pairValues, isReadable, HexReading}
 use Rattle.text.specs.declared.{HexRead.HexRead, HexRead.the-variants.Bytes, HexRead.the-variants.Bad}
 
--- a word that was read
+-- a word that is read: the first k bytes of the buffer are its bytes
 pub record WordRead (w xs : List ℕ) (k : ℕ) (ys : List ℕ) : Type 0 where
   pub readable : isReadable w (length xs) ≡ true
   pub within : k ≤ length ys

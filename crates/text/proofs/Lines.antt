@@ -24,7 +24,7 @@ module _ (s : List ℕ) (b i : ℕ) where
   unfolding indexFrom
   index-end out = rw (drop-of-length-le s out, add-zero)
 
--- the bytes before it
+-- the bytes before the first b are those up to it
 pub take-up : (b : ℕ) (xs : List ℕ) → take (length (upTo b xs)) xs ≡ upTo b xs
 take-up b [] = refl
 take-up b (x ∷ xs) = go (eqb x b) (take-up b xs)

@@ -32,7 +32,7 @@ valueAfter n (c ∷ cs) = valueAfter (n * 10 + (c - 48)) cs
 unfoldable pub valueOf : List ℕ → ℕ
 valueOf cs = valueAfter 0 cs
 
--- 1 to 10 digits of a value up to 4294967295
+-- a number has 1 to 10 digits and a value of at most 4294967295
 unfoldable pub isNumber : List ℕ → Bool
 isNumber cs = inRange 1 10 (length cs) && allDigits cs && leb (valueOf cs) 4294967295
 

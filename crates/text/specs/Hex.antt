@@ -36,7 +36,7 @@ isHex c = isDigit c || inRange 97 102 c || inRange 65 70 c
 abbrev pub isPair : ℕ → ℕ → Bool
 isPair a b = isHex a && isHex b
 
--- digits only, and two for each byte
+-- only hex digits, two for each byte
 abbrev pub arePairs : List ℕ → Bool
 arePairs [] = true
 arePairs (a ∷ []) = false

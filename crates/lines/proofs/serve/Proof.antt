@@ -1,4 +1,4 @@
--- `lines::serve` is safe and ends. Invariant: the buffer of answers keeps its length. Measure: the turns that are left.
+-- `lines::serve` is safe and ends: the invariant says that the buffer of answers keeps its length. Measure: the turns left.
 use mathlib.Core.Path.{_≡_}
 use borrow.Author.Needs.{needs}
 use lib.ListN.{length}

@@ -18,7 +18,7 @@ abbrev μ : Measures 1 ps ℕ
 abbrev here : ℕ → In 1 ps
 here t = and 1 ps (is 1 ps μ t) reads.Pre
 
--- what each callee asks and gives, in the order of the calls
+-- what each callee requires and ensures, in the order of the calls
 abbrev claims : ℕ → lts.Claims
 claims t = (
   last-digit.Asked,

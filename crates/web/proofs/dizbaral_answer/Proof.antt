@@ -1,4 +1,4 @@
--- `web::dizbaral_answer` meets its contract: it is that of `commands::answer`.
+-- `web::dizbaral_answer` meets its contract: `commands::answer` has the same one.
 use borrow.Author.Needs.{needs}
 use Rattle.web.proofs.dizbaral_answer.Statement.{statement}
 use Rattle.web.proofs.dizbaral_answer.Tie as tie

@@ -1,5 +1,5 @@
--- `numbers::answers::found` meets its contract: the variant picks the case, and the dividers' types keep the packed number below
--- 2 ^ 48.
+-- `numbers::answers::found` meets its contract: the variant picks the case, and the dividers' types keep the packed number within
+-- 64 bits.
 use borrow.Author.Needs.{needs}
 use Rattle.numbers.proofs.answers.found.Statement.{statement}
 use Rattle.numbers.proofs.answers.found.Tie as tie

@@ -1,5 +1,4 @@
--- `numbers::answers::length` meets its contract: the variant picks the case of the definition, and a refusal's number is below
--- 256.
+-- `numbers::answers::length` meets its contract: the variant picks the case of the definition.
 use borrow.Author.Needs.{needs}
 use Rattle.numbers.proofs.answers.length.Statement.{statement}
 use Rattle.numbers.proofs.answers.length.Tie as tie

@@ -1,5 +1,4 @@
--- `numbers::answers::number` meets its contract: the variant picks the case of the definition, and a refusal's number is below
--- 256.
+-- `numbers::answers::number` meets its contract: the variant picks the case of the definition.
 use borrow.Author.Needs.{needs}
 use Rattle.numbers.proofs.answers.number.Statement.{statement}
 use Rattle.numbers.proofs.answers.number.Tie as tie

@@ -16,7 +16,7 @@ use Rattle.numbers.specs.Run.{runnerIn, startedNumbers}
 use Rattle.numbers.proofs.board.start.Statement.{statement}
 use Rattle.numbers.proofs.board.start.Tie as tie
 
--- where the start is taken
+-- an accepted start: the sheet's size is good, and the runner is the fresh one with this sheet
 taken : (c : tie.After-enum-told) → let restarted = c .before .before .before in
     let sheet = restarted .before .before .before .args .sheet .now in
     (badSize (length sheet) ≡ false) × (restarted .restarted .result .runner ≡ startedWith sheet)
