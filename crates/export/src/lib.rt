@@ -260,7 +260,7 @@ pub extern "C" fn dizbaral_start(
     numbers::board::start(runner, kept, sheet)
 }
 
-// One call of the runner: done, passed, waiting, or the word of the step handed out. Refusals: 21, 22, 27, 20.
+// One call of the runner: done, passed, waiting, or the word of the step. Refusals: 21, 22, 27, 20; a bad mark is malformed.
 #[no_mangle]
 pub extern "C" fn dizbaral_run(
     runner: &mut [u32; 15],
@@ -274,7 +274,7 @@ pub extern "C" fn dizbaral_run(
     numbers::board::call(runner, kept, sheet, ready)
 }
 
-// Writes the register access of the step at a position: address, mask and value; answers its kind. Refusal: 20.
+// Writes address, mask and value of the access of the step at a position; answers its kind. Refusal: 20; a bad chip is malformed.
 #[no_mangle]
 pub extern "C" fn dizbaral_access(
     chip: u8,

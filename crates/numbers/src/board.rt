@@ -63,8 +63,7 @@ fn access_on(chip: Chip, sheet: &[u8], position: u32, access: &mut [u32; 3]) -> 
     }
 }
 
-// Writes the register access of the step at a position of a sheet and answers its kind. Refusal: 20; an unknown chip is
-// malformed.
+// Writes address, mask and value of the access of the step at a position; answers its kind. Refusal: 20; a bad chip is malformed.
 pub fn access(chip: u8, sheet: &[u8], position: u32, access: &mut [u32; 3]) -> u64
     ensures { λ r. ⌜ AccessCall (chipNumbered chip) (now (sheet .entry)) position (now (access .entry)) r (now (access .exit)) ⌝ }
 {
