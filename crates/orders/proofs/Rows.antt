@@ -1,4 +1,4 @@
--- Past the last preset there is `plan`, and no preset.
+-- From number 6 on the letters are those of `plan`, and there is no preset.
 use mathlib.Core.{Path._≡_, Path.refl, List.List, List.[], List._∷_, Option.Option, Option.none}
 use Prim.Native.Nat.{ℕ, zero, suc, _≤_}
 use native.Mathlib.Omega.{arith}
@@ -25,6 +25,6 @@ pub preset-rest : (k : ℕ) (chip : Chip) (n : List ℕ) → 6 ≤ k → presetO
 unfolding presetOf
 preset-rest k chip n h = preset-past presets k chip n h
 
--- a number that is not j is the next or more
+-- a number that is at least j and not j is at least the next one
 pub next : {j k : ℕ} → j ≤ k → (k ≡ j → ⊥) → suc j ≤ k
 next low other = omega arith

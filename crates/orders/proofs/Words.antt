@@ -1,4 +1,4 @@
--- The words of a line as the code cuts them out.
+-- The slices that the code takes from a line are its words, and their ends are the ends of the definition.
 use mathlib.Core.{Path._≡_, Path.refl, Path._∙_, List.List, List.[]}
 use Prim.Native.Nat.{ℕ, suc, _+_, _-_, _≤_, _<_, max}
 use native.Mathlib.{Nat.zero-add, Numerals.add-one, Omega.arith}

@@ -1,4 +1,4 @@
--- The words of a line, with one space, which is byte 32, between.
+-- The words of a line are separated by one space, which is byte 32.
 use mathlib.Core.List.{List}
 use Prim.Native.Nat.{ℕ, suc, min}
 use lib.ListN.{length, drop}
@@ -8,6 +8,6 @@ use Rattle.text.specs.Words.{upTo, indexFrom}
 unfoldable pub wordAfter : List ℕ → ℕ → List ℕ
 wordAfter line at = upTo 32 (drop (suc at) line)
 
--- where that word ends
+-- the index where that word ends; the line's length where there is no such word
 unfoldable pub endAfter : List ℕ → ℕ → ℕ
 endAfter line at = min (indexFrom line (suc at) 32) (length line)

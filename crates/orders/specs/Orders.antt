@@ -1,4 +1,5 @@
--- The orders, a row for each: its name, its letters, and the plan that it asks for.
+-- An order is the words that ask for a plan (docs/PROGRAMS.md, check). Each preset has a row: its name, the letters of the words
+-- that it takes (words/specs/Words), and the plan that it asks for.
 use mathlib.Core.{Bool.Bool, List.List, List.[], List._∷_, Option.Option, Option.none, Option.some}
 use Prim.Native.{Nat.ℕ, Nat.zero, Nat.suc, String.String}
 use lib.{Dec.eqb, Dec.ltb, ListN.length, ListN.take, ListN.replicate}
@@ -22,7 +23,7 @@ orderIs (Plan p) = some (value p)
 orderIs (Refused n) = some (refusal n)
 orderIs Bad = none
 
--- the plan that a preset asks for, on a chip, from its numbers
+-- the row of a preset; its plan depends on the chip and on the numbers that were read
 pub record Preset : Type 0 where
   pub name : List ℕ
   pub letters : List ℕ
@@ -31,7 +32,7 @@ pub record Preset : Type 0 where
 abbrev pub row : String → String → (Chip → List ℕ → Option (Answer ClockConfig)) → Preset
 row name letters plan = record { name = ascii name; letters = ascii letters; plan = plan }
 
--- HZ REFDIV FBDIV POST1 POST2 CODE, of the RP2040 alone; none for a code that no voltage has
+-- `manual` takes HZ REFDIV FBDIV POST1 POST2 CODE, for the RP2040 only; an unknown voltage code gives none
 abbrev pub manualWith : List ℕ → Answer CoreVoltage → Option (Answer ClockConfig)
 manualWith n (value v) = some (manualPlan (nth n 0) (pllAt n 1) v)
 manualWith n (refusal m) = none
@@ -53,11 +54,11 @@ presets =
     ∷ row "manual" "wbhbbb" manualOn
     ∷ []
 
--- and `plan`, of which the last five numbers are the RP2040's
+-- `plan` takes 43 numbers for the RP235x and 48 for the RP2040, so the last five may be absent
 abbrev pub planLetters : List ℕ
 planLetters = ascii "wwwwwwwwwwwwwwwwwwwwwwwwwwwwwwwwwwwwwwwwwwwooooo"
 
--- the number of the order of that name: behind the presets `plan`, then none
+-- the number of the order with that name: a preset's row, then 6 for `plan`; 7 is no order
 abbrev pub namedIn : List Preset → List ℕ → ℕ
 namedIn [] word = pick (same word (ascii "plan")) 0 1
 namedIn (r ∷ rs) word = pick (same word (r .name)) 0 (suc (namedIn rs word))
@@ -84,7 +85,7 @@ presetIn (r ∷ rs) (suc k) chip n = presetIn rs k chip n
 unfoldable pub presetOf : ℕ → Chip → List ℕ → Option (Answer ClockConfig)
 presetOf k chip n = presetIn presets k chip n
 
--- a plan of as many numbers
+-- the plan of the first `count` numbers; none where there are fewer
 abbrev pub planned : Option ClockConfig → Option (Answer ClockConfig)
 planned (some p) = some (value p)
 planned none = none
@@ -92,11 +93,11 @@ planned none = none
 unfoldable pub planIn : Chip → List ℕ → ℕ → Option (Answer ClockConfig)
 planIn chip n count = pick (ltb (length n) count) none (planned (planNumbered chip (take count n)))
 
--- by its number
+-- the order with number k; 6 is `plan`
 unfoldable pub orderWith : ℕ → Chip → List ℕ → ℕ → Option (Answer ClockConfig)
 orderWith k chip n count = pick (eqb k 6) (planIn chip n count) (presetOf k chip n)
 
--- nothing is read yet
+-- the state before any word is read
 abbrev pub unread : State
 unread = stateOf 0 (replicate 128 0) (replicate 528 0) (replicate 2048 0)
 
@@ -104,18 +105,19 @@ abbrev pub withState : (State → Option (Answer ClockConfig)) → Option State 
 withState f (some s) = f s
 withState f none = none
 
--- an order of a chip: its name, and the words that its letters ask for
+-- an order for a chip: the word after index `at` is its name, and the words after it are those that its letters ask for
 unfoldable pub orderOn : Chip → List ℕ → ℕ → Option (Answer ClockConfig)
 orderOn chip line at =
     let k = presetNamed (wordAfter line at) in
     withState (λ s. orderWith k chip (s .row) (s .count)) (given line (lettersOf k) (endAfter line at) unread)
 
--- another sheet: the plan that it is read back to
+-- an order that is a sheet in hex asks for the plan that the sheet is read back to
 unfoldable pub sheetOrder : List ℕ → ℕ → ℕ → Option (Answer ClockConfig)
 sheetOrder line at reading =
     withState (λ s. some (readOf (take (nth (s .row) 0) (s .sheet)) reading)) (given line (ascii "x") at unread)
 
--- what the words after index at order at a reading; `rp235x` before an order is for that chip
+-- the order in the words after index `at`, at a reading: `rp235x` before a name selects that chip, and a word that names no order
+-- is a sheet
 unfoldable pub orderOf : List ℕ → ℕ → ℕ → Option (Answer ClockConfig)
 orderOf line at reading =
     pick (same (wordAfter line at) (ascii "rp235x")) (orderOn Rp235x line (endAfter line at))

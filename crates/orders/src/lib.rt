@@ -1,4 +1,4 @@
-// An order: the words of a line that ask for a plan.
+// An order is the words of a line that ask for a plan: a preset, the numbers of a plan, or another sheet.
 mod line;
 
 use chip::Chip;
@@ -57,7 +57,7 @@ fn named(word: &[u8]) -> u8
     7
 }
 
-// Reads the words of order `kind` after the one that ends at `at`.
+// Reads the words that order `kind` takes, after the word that ends at `at`.
 fn read(
     kind: u8,
     line: &[u8],
@@ -86,6 +86,7 @@ fn read(
     }
 }
 
+// The answer of a preset as an order.
 fn planned(planned: Planned) -> Order
     ensures { λ r. ⌜ orderIs r ≡ some (plannedIs planned) ⌝ }
 {
@@ -95,7 +96,7 @@ fn planned(planned: Planned) -> Order
     }
 }
 
-// Of the RP2040: crystal, dividers and voltage code; Bad for a code that no voltage has.
+// The plan of the RP2040 from crystal, dividers and voltage code; Bad for an unknown voltage code.
 fn manual(n: &[u32]) -> Order
     ensures { λ r. ⌜ orderIs r ≡ manualOf (now (n .entry)) ⌝ }
 {
@@ -106,8 +107,8 @@ fn manual(n: &[u32]) -> Order
     }
 }
 
-// The preset with this number on a chip, from its numbers: 0 system, 1 system_from, 2 crystal, 3 rosc, 4 default,
-// 5 manual. Refusals 5, 15 and 25; Bad for any other, and for manual on the RP235x.
+// The plan of a preset for a chip, from its numbers: 0 system, 1 system_from, 2 crystal, 3 rosc, 4 default,
+// 5 manual. Refusals 5, 15 and 25; Bad for any other preset, and for manual on the RP235x.
 pub fn preset(kind: u8, chip: Chip, n: &[u32]) -> Order
     ensures { λ r. ⌜ orderIs r ≡ presetOf kind chip (now (n .entry)) ⌝ }
 {
@@ -125,7 +126,7 @@ pub fn preset(kind: u8, chip: Chip, n: &[u32]) -> Order
     }
 }
 
-// The chip's plan of as many numbers.
+// The chip's plan of the first `count` numbers; Bad where there are fewer or they are no plan.
 fn plan_of(chip: Chip, n: &[u32], count: usize) -> Order
     ensures { λ r. ⌜ orderIs r ≡ planIn chip (now (n .entry)) count ⌝ }
 {
@@ -138,7 +139,7 @@ fn plan_of(chip: Chip, n: &[u32], count: usize) -> Order
     }
 }
 
-// What the words of order `kind` ask for.
+// The plan that order `kind` asks for with these numbers.
 fn order_with(kind: u8, chip: Chip, n: &[u32; 128], count: usize) -> Order
     ensures { λ r. ⌜ orderIs r ≡ orderWith kind chip (now (n .entry)) count ⌝ }
 {
@@ -148,7 +149,7 @@ fn order_with(kind: u8, chip: Chip, n: &[u32; 128], count: usize) -> Order
     preset(kind, chip, n)
 }
 
-// The order of a chip whose name follows the word that ends at `at`.
+// The order for a chip whose name follows the word that ends at `at`.
 fn order_on(chip: Chip, line: &[u8], at: usize) -> Order
     ensures { λ r. ⌜ orderIs r ≡ orderOn chip (now (line .entry)) at ⌝ }
 {
@@ -163,14 +164,14 @@ fn order_on(chip: Chip, line: &[u8], at: usize) -> Order
     }
 }
 
-// The plan of a sheet of these first bytes.
+// The plan of the sheet in the first `n[0]` bytes. Refusals 18 and 26.
 fn sheet_plan(n: &[u32; 128], bytes: &[u8; 2048], reading: u8) -> Order
     ensures { λ r. ⌜ orderIs r ≡ some (readOf (take (nth (now (n .entry)) 0) (now (bytes .entry))) reading) ⌝ }
 {
     planned(readback::read_sheet(base::first(bytes, base::wide(n[0]) as usize), reading))
 }
 
-// Another sheet: the plan that it is read back to.
+// The plan that a sheet in hex is read back to. Refusals 18 and 26.
 fn sheet_order(line: &[u8], at: usize, reading: u8) -> Order
     ensures { λ r. ⌜ orderIs r ≡ sheetOrder (now (line .entry)) at reading ⌝ }
 {
@@ -183,8 +184,8 @@ fn sheet_order(line: &[u8], at: usize, reading: u8) -> Order
     }
 }
 
-// The order of the words after the one that ends at `at`: a name and its numbers, behind `rp235x` for that chip; or a
-// sheet in hex. Refusals 5, 15 and 25, of a sheet 18 and 26.
+// The order in the words after the one that ends at `at`: a name and its numbers, with `rp235x` before them for that chip, or a
+// sheet in hex. Refusals 5, 15 and 25, for a sheet 18 and 26; Bad where the words are no order.
 pub fn read_order(line: &[u8], at: usize, reading: u8) -> Order
     ensures { λ r. ⌜ orderIs r ≡ orderOf (now (line .entry)) at reading ⌝ }
 {

@@ -1,4 +1,4 @@
-// The words of a line, with one space between.
+// The words of a line are separated by one space.
 ghost use mathlib.Core.Path.{_≡_};
 ghost use Prim.Native.Nat.{_≤_};
 ghost use lib.ListN.{length};
@@ -25,7 +25,7 @@ pub fn word_after(line: &[u8], at: usize) -> &[u8]
     &line[start..end]
 }
 
-// Where that word ends.
+// The index where that word ends; the line's length where there is no such word.
 pub fn end_after(line: &[u8], at: usize) -> usize
     ensures { λ r. ⌜ (r ≡ endAfter (now (line .entry)) at) × (r ≤ length (now (line .entry))) ⌝ }
 {

@@ -1,4 +1,4 @@
--- The texts of settings and of clocks, one after another.
+-- The texts of k + 1 settings are those of k settings and one more, and so are the lines of the clocks.
 use mathlib.Core.{Path._≡_, Path.refl, List.List, List.[], List._++_}
 use Prim.Native.Nat.{ℕ, _+_}
 use native.Mathlib.Numerals.{add-one}

@@ -27,7 +27,7 @@ use Rattle.verdict.specs.Verdict.{Verdict, sheetRefused, orderRefused, a
 use Rattle.verdict.specs.Verdict.{verdictOf, verdictText, checkText}
 use Rattle.verdict.specs.Told.{AsOrdered, Named, NamesThose}
 
--- no other verdict has that text: the first byte tells
+-- no other verdict has that text, because its first byte differs
 only-as-ordered : (reading : ℕ) (v : Verdict) → verdictText reading v ≡ ascii "as ordered\n" → v ≡ asOrdered
 unfolding refusedLines differsText
 only-as-ordered reading (sheetRefused n) e =
@@ -38,7 +38,7 @@ only-as-ordered reading asOrdered e = refl
 only-as-ordered reading (differs mask p q) e =
     let first : _≡_ {A = ℕ} 100 97 = ap (λ (l : List ℕ). getD l 0 0) e in absurd (omega arith)
 
--- the three ways of a comparison as the code goes them
+-- the three outcomes of a comparison, in the order in which the code tests for them
 module _ (reading : ℕ) (p q : ClockConfig) {t : Settings} {x : Examined} (asked : t ≡ settingsOf q reading)
     (found : x ≡ examinedOf t reading) where
   pub refused-order : (x .number ≡ 0 → ⊥) → verdictText reading (compared reading p q) ≡ refusedLines (ascii "order: ") (x .number)
@@ -80,7 +80,7 @@ module _ (reading : ℕ) (q : ClockConfig) (ok : Accepted q reading) where
   unfolding compared
   accepted-bits p = rw (eq-eqb (refusalIn q reading) 0 ok)
 
-  -- said as ordered: the bytes are the plan's
+  -- if the verdict is `as ordered`, the bytes are the plan's
   is-sheet : (sheet : List ℕ) (a : Answer ClockConfig) → readOf sheet reading ≡ a → delivered reading a (value q) ≡ asOrdered
       → sheetBytes q reading ≡ sheet
   is-sheet sheet (value p) read e =
@@ -89,7 +89,7 @@ module _ (reading : ℕ) (q : ClockConfig) (ok : Accepted q reading) where
       sym (same-bytes p q reading same) ∙ read-gives read .bytes
   is-sheet sheet (refusal n) read e = let z : _≡_ {A = ℕ} 0 1 = cc in absurd (omega arith)
 
-  -- and the plan's bytes are said to be as ordered
+  -- the verdict on the plan's bytes is `as ordered`
   is-said : Typed (settingsOf q reading) → delivered reading (readOf (sheetBytes q reading) reading) (value q) ≡ asOrdered
   is-said typed =
       let p : ClockConfig = planOf (settingsOf q reading) in

@@ -1,4 +1,5 @@
--- What differs: the settings in which two plans differ, delivered and ordered, and the clocks that run at another frequency.
+-- The report of a difference: each setting in which the two plans differ, as delivered and as ordered, and each clock that runs
+-- at another frequency.
 use mathlib.Core.List.{List, [], _∷_, _++_}
 use Prim.Native.Nat.{ℕ, zero, suc}
 use lib.{Dec.eqb, ListN.getD}
@@ -10,7 +11,7 @@ use Rattle.settings.specs.{Settings.settingsOf, Frequencies.frequenciesOf}
 use Rattle.meanings.specs.{Rows.rowText, Form.formed, Differences.partNames, Differences.hasBit}
 use Rattle.wording.specs.Words.{settingLine}
 
--- setting k by its name, and its two lines, where its bit is set
+-- the name of setting k and its two lines, where its bit is set
 unfoldable pub partText : ℕ → ℕ → ℕ → ClockConfig → ClockConfig → List ℕ
 partText mask k reading p q =
     pick (hasBit mask k)
@@ -18,7 +19,7 @@ partText mask k reading p q =
     ++ (ascii "\n  delivered: " ++ (settingLine k p reading ++ (ascii "  ordered: " ++ settingLine k q reading))))
     []
 
--- of the first k settings
+-- the texts of the first k settings
 unfoldable pub partTexts : ℕ → ℕ → ClockConfig → ClockConfig → ℕ → List ℕ
 partTexts mask reading p q zero = []
 partTexts mask reading p q (suc k) = partTexts mask reading p q k ++ partText mask k reading p q
@@ -37,7 +38,7 @@ unfoldable pub clockText : ℕ → ℕ → ℕ → List ℕ
 clockText clock was asked =
     pick (eqb was asked) [] (formed (ascii "clock @: delivered # Hz, ordered # Hz\n") (clock ∷ was ∷ asked ∷ []))
 
--- of the first k clocks
+-- the lines of the first k clocks
 unfoldable pub clockTexts : List ℕ → List ℕ → ℕ → List ℕ
 clockTexts was asked zero = []
 clockTexts was asked (suc k) = clockTexts was asked k ++ clockText k (getD was k 0) (getD asked k 0)

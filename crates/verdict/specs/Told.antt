@@ -1,4 +1,4 @@
--- What a verdict tells: as ordered exactly where the bytes are the ordered plan's sheet, and else each setting that differs.
+-- A verdict is `as ordered` exactly where the bytes are the ordered plan's sheet, and otherwise names each setting that differs.
 use mathlib.Core.{Path._≡_, Bool.not, Logic._↔_, List.List, List.[]}
 use Prim.Native.Nat.{ℕ, _<_}
 use lib.ListN.{take, getD}

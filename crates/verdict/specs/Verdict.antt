@@ -1,4 +1,4 @@
--- Whether a sheet is the ordered plan's, and where not, in what the two differ.
+-- The verdict on a sheet: whether it is the ordered plan's, and if not, in which settings the two plans differ.
 use mathlib.Core.List.{List}
 use Prim.Native.Nat.{ℕ}
 use lib.Dec.{eqb}
@@ -12,7 +12,7 @@ use Rattle.meanings.specs.Differences.{differencesOf}
 use Rattle.wording.specs.Words.{refusedLines}
 use Rattle.verdict.specs.Differs.{differsText}
 
--- refused: the sheet or the order; else as ordered, or with a bit for each setting that differs
+-- the sheet is refused, the order is refused, the two agree, or they differ, with a bit for each setting that differs
 pub data Verdict : Type 0 where
   sheetRefused : ℕ → Verdict
   orderRefused : ℕ → Verdict
@@ -36,7 +36,7 @@ abbrev pub delivered : ℕ → Answer ClockConfig → Answer ClockConfig → Ver
 delivered reading (value p) order = ordered reading p order
 delivered reading (refusal n) order = sheetRefused n
 
--- the sheet is looked at first, then the order
+-- a refusal of the sheet takes precedence over one of the order
 unfoldable pub verdictOf : ℕ → List ℕ → Answer ClockConfig → Verdict
 verdictOf reading sheet order = delivered reading (readOf sheet reading) order
 

@@ -43,6 +43,7 @@ fn put_part(
     base::least(at, out.len())
 }
 
+// The texts of the thirteen settings.
 fn put_parts(
     out: &mut [u8],
     at: usize,
@@ -96,6 +97,7 @@ fn put_clock(out: &mut [u8], at: usize, clock: u64, delivered: u64, ordered: u64
     )
 }
 
+// The lines of the ten clocks.
 fn put_clocks(out: &mut [u8], at: usize, delivered: &[u64; 10], ordered: &[u64; 10]) -> usize
     ensures { λ r. ⌜ Placed (now (out .entry)) at (clockTexts (now (delivered .entry)) (now (ordered .entry)) 10) r (now (out .exit)) ⌝ }
 {
@@ -108,7 +110,7 @@ fn put_clocks(out: &mut [u8], at: usize, delivered: &[u64; 10], ordered: &[u64; 
     end
 }
 
-// The frequencies of a plan at a reading.
+// The ten frequencies of a plan at a reading.
 fn plan_hz(plan: ClockConfig, reading: u8) -> [u64; 10]
     ensures { λ r. ⌜ r ≡ planHz plan reading ⌝ }
 {
@@ -155,6 +157,7 @@ fn put_compared(
     put_differs(out, at, mask, reading, delivered, ordered)
 }
 
+// The sheet's plan compared with the order, or the order's refusal.
 fn put_ordered(
     out: &mut [u8],
     at: usize,
@@ -170,8 +173,8 @@ fn put_ordered(
     }
 }
 
-// Whether a sheet that was written at a reading is the ordered plan's: `as ordered`, `differs` and in what, or the
-// refusal of the sheet, 18 or 26, or of the order.
+// Puts the verdict on a sheet that was written at a reading: `as ordered`, `differs` and the settings that differ, or the refusal
+// of the sheet, 18 or 26, or of the order.
 pub fn check(out: &mut [u8], at: usize, reading: u8, sheet: &[u8], order: Planned) -> usize
     ensures { λ r. ⌜ Placed (now (out .entry)) at (checkText reading (now (sheet .entry)) (plannedIs order)) r (now (out .exit)) ⌝ }
 {

@@ -1,4 +1,4 @@
--- `orders::is_order` meets its contract.
+-- `orders::is_order` meets its contract: the equation of `named` is carried into the comparison with 7.
 use borrow.Author.Needs.{needs}
 use Rattle.orders.specs.Orders.{isOrder}
 use Rattle.orders.proofs.is_order.Statement.{statement}

@@ -1,4 +1,5 @@
--- `orders::manual` meets its contract.
+-- `orders::manual` meets its contract: `core_voltage` decides by the code at index 5: a voltage gives the plan of `manual_pll`, a
+-- refusal gives Bad.
 use mathlib.Core.{Path._∙_, Path.ap, Option.some}
 use borrow.Author.Needs.{needs}
 use Rattle.orders.specs.Orders.{manualOf}

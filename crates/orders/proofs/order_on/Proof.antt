@@ -1,4 +1,5 @@
--- `orders::order_on` meets its contract.
+-- `orders::order_on` meets its contract: name, end and words carry their equations on to `given`, whose answer picks `order_with`
+-- or Bad.
 use borrow.Author.Needs.{needs}
 use Rattle.orders.specs.Orders.{orderOn}
 use Rattle.orders.proofs.order_on.Statement.{statement}

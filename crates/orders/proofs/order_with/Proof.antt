@@ -1,4 +1,4 @@
--- `orders::order_with` meets its contract.
+-- `orders::order_with` meets its contract: 6 is `plan`; every other number goes to `preset`.
 use borrow.{Author.Needs.needs, Author.Tests.eq-eqb, Author.Tests.ne-eqb}
 use Rattle.orders.specs.Orders.{orderWith}
 use Rattle.orders.proofs.order_with.Statement.{statement}

@@ -1,4 +1,5 @@
--- `orders::plan_of` meets its contract.
+-- `orders::plan_of` meets its contract: fewer numbers than the count give Bad; otherwise the answer of `numbers::plan::plan`
+-- decides.
 use native.Mathlib.Omega.{arith}
 use lib.ListN.{length-take}
 use borrow.{Author.Needs.needs, Author.Tests.lt-ltb, Author.Tests.le-ltb}

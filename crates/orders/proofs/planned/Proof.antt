@@ -1,4 +1,4 @@
--- `orders::planned` meets its contract.
+-- `orders::planned` meets its contract: both variants are renamed.
 use borrow.Author.Needs.{needs}
 use Rattle.orders.proofs.planned.Statement.{statement}
 use Rattle.orders.proofs.planned.Tie as tie

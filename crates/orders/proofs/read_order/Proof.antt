@@ -1,4 +1,4 @@
--- `orders::read_order` meets its contract: `rp235x`, then whether the word names an order, decide.
+-- `orders::read_order` meets its contract: the test for `rp235x` decides first, then whether the word names an order.
 use mathlib.Core.Path.{sym, _∙_}
 use borrow.{Author.Needs.needs, Author.Tests.eq-eqb, Author.Tests.ne-eqb}
 use Rattle.orders.specs.Orders.{orderOf}

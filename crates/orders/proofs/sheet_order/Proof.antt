@@ -1,4 +1,4 @@
--- `orders::sheet_order` meets its contract.
+-- `orders::sheet_order` meets its contract: the answer of `words::read` decides: the words read go to `sheet_plan`.
 use borrow.Author.Needs.{needs}
 use Rattle.orders.specs.Orders.{sheetOrder}
 use Rattle.orders.proofs.sheet_order.Statement.{statement}

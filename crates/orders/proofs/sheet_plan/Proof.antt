@@ -1,4 +1,4 @@
--- `orders::sheet_plan` meets its contract.
+-- `orders::sheet_plan` meets its contract: `first` takes the sheet's bytes, and `read_sheet` gives the plan of them.
 use mathlib.Core.{Path._∙_, Path.ap, Option.some}
 use borrow.Author.Needs.{needs}
 use Rattle.orders.proofs.sheet_plan.Statement.{statement}

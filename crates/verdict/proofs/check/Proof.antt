@@ -1,4 +1,5 @@
--- `verdict::check` meets its contract.
+-- `verdict::check` meets its contract: the answer of `read_sheet` decides: the sheet's plan goes to `put_ordered`, a refusal is
+-- the sheet's.
 use borrow.Author.Needs.{needs}
 use Rattle.verdict.specs.Verdict.{verdictOf, checkText}
 use Rattle.verdict.proofs.check.Statement.{statement}

@@ -1,4 +1,4 @@
--- `verdict::plan_hz` meets its contract.
+-- `verdict::plan_hz` meets its contract: the equations of `settings_of`, `frequencies_of` and `hz_of` are composed.
 use borrow.Author.Needs.{needs}
 use Rattle.verdict.specs.Differs.{planHz}
 use Rattle.verdict.proofs.plan_hz.Statement.{statement}

@@ -1,4 +1,4 @@
--- `verdict::put_clock` meets its contract.
+-- `verdict::put_clock` meets its contract: equal frequencies put nothing, different ones the form.
 use mathlib.Core.Path.{refl}
 use native.Mathlib.Omega.{arith}
 use borrow.{Author.Needs.needs, Author.Tests.eq-eqb, Author.Tests.ne-eqb}

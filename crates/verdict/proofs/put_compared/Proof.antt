@@ -1,4 +1,4 @@
--- `verdict::put_compared` meets its contract: refused, no bit and some bit are the three ways of a comparison.
+-- `verdict::put_compared` meets its contract: the three branches are an order that is refused, no bit and some bit.
 use mathlib.Core.Path.{sym, ap, _∙_}
 use borrow.{Author.Needs.needs, Author.Tests.eq-eqb, Author.Tests.ne-eqb}
 use Rattle.verdict.specs.Verdict.{compared}

@@ -1,4 +1,4 @@
--- `verdict::put_differs` meets its contract.
+-- `verdict::put_differs` meets its contract: three texts are put one after another, the last from the frequencies of both plans.
 use borrow.Author.Needs.{needs}
 use Rattle.base.proofs.Placing.{placed-append}
 use Rattle.verdict.specs.Differs.{differsText}

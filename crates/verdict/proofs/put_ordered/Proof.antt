@@ -1,4 +1,4 @@
--- `verdict::put_ordered` meets its contract.
+-- `verdict::put_ordered` meets its contract: an order that is a plan goes to `put_compared`, a refused one has its refusal put.
 use borrow.Author.Needs.{needs}
 use Rattle.verdict.proofs.put_ordered.Statement.{statement}
 use Rattle.verdict.proofs.put_ordered.Tie as tie

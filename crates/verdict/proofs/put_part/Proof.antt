@@ -1,4 +1,5 @@
--- `verdict::put_part` meets its contract.
+-- `verdict::put_part` meets its contract: where the bit is set, five texts are put one after another; where it is not, nothing
+-- is.
 use mathlib.Core.Path.{refl}
 use native.Mathlib.Omega.{arith}
 use borrow.Author.Needs.{needs}

@@ -1,4 +1,5 @@
--- `orders::line::end_after` meets its contract.
+-- `orders::line::end_after` meets its contract: `end-none` has a line that ends at or before `at`, and `end-cut` has the next
+-- space or the line's end.
 use native.Mathlib.Omega.{arith}
 use borrow.Author.Needs.{needs}
 use Rattle.orders.proofs.Words.{end-none, end-cut}

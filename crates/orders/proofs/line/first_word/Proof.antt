@@ -1,4 +1,4 @@
--- `orders::line::first_word` meets its contract.
+-- `orders::line::first_word` meets its contract: the bytes before the first space are the word, by `first-cut`.
 use native.Mathlib.Omega.{arith}
 use lib.ListN.{length-take}
 use borrow.Author.Needs.{needs}

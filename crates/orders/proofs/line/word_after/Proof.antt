@@ -1,4 +1,5 @@
--- `orders::line::word_after` meets its contract.
+-- `orders::line::word_after` meets its contract: `word-none` has a line that ends at or before `at`, and `word-cut` takes the
+-- bytes up to the next space.
 use borrow.Author.Needs.{needs}
 use Rattle.orders.proofs.Words.{word-none, word-cut}
 use Rattle.orders.proofs.line.word_after.Statement.{statement}
