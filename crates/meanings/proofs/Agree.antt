@@ -1,4 +1,4 @@
--- Rows of numbers are equal just where the test says so, no bit is set just where all rows are equal, and each bit says whether its
+-- The test holds exactly for equal rows of numbers, no bit is set exactly where all rows are equal, and each bit says whether its
 -- rows differ.
 use mathlib.Core.{Path._≡_, Path.refl, Path.sym, Path._∙_, Bool.Bool, Bool.true, Bool.false, Bool._&&_, Bool.not}
 use mathlib.Core.List.{List, [], _∷_}
@@ -56,7 +56,7 @@ pub mask-same : (xs : List (List ℕ)) → maskOf xs xs ≡ 0
 mask-same [] = refl
 mask-same (x ∷ xs) = rw (agree-refl x, mask-same xs)
 
--- bit k is set just where the rows k differ
+-- bit k is set exactly where the rows k differ
 pub mask-bit : (xs ys : List (List ℕ)) (k : ℕ) → k < length xs → k < length ys
     → hasBit (maskOf xs ys) k ≡ not (agree (getD xs k []) (getD ys k []))
 mask-bit [] ys k h l = absurd (omega arith)

@@ -1,4 +1,4 @@
--- The settings of a plan are read back from their parts.
+-- The settings of a plan can be decoded from the numbers of their parts, so plans with equal parts have equal settings.
 use mathlib.Core.{Path._≡_, Path.refl, List.List, List.[], List._∷_}
 use Prim.Native.Nat.{ℕ}
 use lib.{Dec.eqb, ListN.getD}

@@ -1,4 +1,4 @@
--- Two plans have the same settings exactly when no setting differs, and so the same sheet; each bit is its part's.
+-- Two plans have the same settings, and so the same sheet, exactly when no bit is set; each bit says whether its part differs.
 use mathlib.Core.{Path._≡_, Path.refl, Path.sym, Path.ap, Path._∙_, Bool.not, Logic._↔_, List.List, List.[], List._++_}
 use Prim.Native.Nat.{ℕ, _+_, _<_}
 use native.Mathlib.{Numerals.add-one, Omega.arith}
@@ -29,7 +29,7 @@ same-sheet p q reading b b′ c c′ r s m n op er oq es =
     let none = none-differs p q reading reading in
     ((λ e. none .1 (sheets .0 e)), λ e. sheets .1 (none .0 e))
 
--- bit k is set just where the numbers of part k are not the same
+-- bit k is set exactly where the numbers of part k are not the same
 pub part-differs : (a b : Settings) (k : ℕ) → k < 13
     → hasBit (differencesOf a b) k ≡ not (agree (getD (partsOf a) k []) (getD (partsOf b) k []))
 unfolding differencesOf

@@ -1,4 +1,4 @@
--- What is put for a refusal: its row of the table, and how long it can be.
+-- The text of a refusal is its row of the code's table, and it has at most 121 bytes.
 use mathlib.Core.Path.{_≡_, refl, sym}
 use Prim.Native.Nat.{ℕ, _≤_}
 use lib.{Dec.leb, ListN.length}

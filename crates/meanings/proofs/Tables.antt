@@ -1,4 +1,4 @@
--- A row of a table is found behind as many newlines as its number says.
+-- Row n of a table is the text after n newlines.
 use mathlib.Core.{Path._≡_, Path.refl, Path.sym, Path.ap, Path._∙_, Bool.Bool, Bool.true, Bool.false, Bool._&&_}
 use mathlib.Core.List.{List, [], _∷_, _++_}
 use Prim.Native.{Nat.ℕ, Nat.zero, Nat.suc, Nat._+_, Nat._-_, Nat._≤_, Nat._<_, Nat.min, String.String}
@@ -10,7 +10,7 @@ use Rattle.base.proofs.Bools.{both-true}
 use Rattle.text.specs.{Ascii.ascii, Words.upTo, Words.indexFrom}
 use Rattle.meanings.specs.Rows.{rowText, linesOf, rowIn}
 
--- no newline is in a text
+-- a text without a newline
 abbrev clean : List ℕ → Bool
 clean [] = true
 clean (c ∷ cs) = pick (eqb c 10) false (clean cs)
@@ -41,7 +41,7 @@ row-in (row ∷ rows) (suc n) t =
     let both = both-true (clean (ascii row)) (allClean rows) t in
     rw (up-to (ascii row) (linesOf rows) (both .0), drop-append-add (ascii row) (10 ∷ linesOf rows) 1) (row-in rows n (both .1))
 
--- a row is passed
+-- after the end of a row, the row that is looked for has a number one less
 pub row-next : (text : List ℕ) (start left : ℕ) {end : ℕ} → 0 < left → end ≡ indexFrom text start 10
     → rowIn (drop (end + 1) text) (left - 1) ≡ rowIn (drop start text) left
 unfolding indexFrom
@@ -51,7 +51,7 @@ row-next text start left {end} some at =
     let one : suc (left - 1) ≡ left = omega arith in
     rw (behind, ← drop-drop (long + 1) start text) (ap (rowIn (drop start text)) one)
 
--- a start past the end may as well be the end
+-- a start past the end leaves the same bytes as the end
 pub row-least : (text : List ℕ) (start : ℕ) → drop (min start (length text)) text ≡ drop start text
 row-least text start = elim (decLe start (length text)) [
   | yes inside ↦ let e : min start (length text) ≡ start = omega arith in rw e

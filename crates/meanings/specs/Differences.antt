@@ -1,4 +1,5 @@
--- In which settings two plans differ: a bit for each part of the settings that count, the first part's the lowest.
+-- The settings in which two plans differ, as a mask with a bit for each part of the settings that count; the first part has the
+-- lowest bit.
 use mathlib.Core.{Path._≡_, Logic._↔_, Bool.Bool, Bool.true, Bool.false, Bool._&&_, List.List, List.[], List._∷_, List._++_}
 use Prim.Native.{Nat.ℕ, Nat.zero, Nat.suc, Nat._+_, Nat._*_, Nat._/_, Nat._%_, Nat._^_, String.String}
 use lib.Dec.{eqb}
@@ -8,7 +9,7 @@ use Rattle.settings.specs.{declared.Settings.Settings, Settings.settingsOf}
 use Rattle.sheet.specs.{Writer.InitCall, Demand3.SameUpTo}
 use Rattle.meanings.specs.{Rows.rowText, Parts.partsOf}
 
--- whether two rows of numbers are the same, where what came before them is
+-- whether two rows of numbers are equal, where t says whether the numbers before them are
 abbrev pub agreeFrom : Bool → List ℕ → List ℕ → Bool
 agreeFrom t [] [] = t
 agreeFrom t [] (y ∷ ys) = false
@@ -38,7 +39,7 @@ NoneDiffers =
     → InitCall q reading c s c′ → lengthIs s ≡ value n
     → ((m ≡ n) × SameUpTo m b′ c′) ↔ (differencesOf (settingsOf p reading) (settingsOf q reading) ≡ 0)
 
--- ---- the names of the parts that differ, one a line
+-- ---- the names of the parts that differ, one per line
 
 unfoldable pub partNames : List String
 partNames =
@@ -63,7 +64,7 @@ hasBit mask k = eqb (mask / 2 ^ k % 2) 1
 unfoldable pub partLine : ℕ → ℕ → List ℕ
 partLine mask k = pick (hasBit mask k) (rowText partNames k ++ (10 ∷ [])) []
 
--- of the first k parts
+-- the lines of the first k parts
 abbrev pub partLines : ℕ → ℕ → List ℕ
 partLines mask zero = []
 partLines mask (suc k) = partLines mask k ++ partLine mask k

@@ -16,7 +16,7 @@ clockRows =
 unfoldable pub clockName : ℕ → List ℕ
 clockName clock = rowText clockRows (min clock 10)
 
--- the 28 low bits as seven digits; a mask of blocks has 25
+-- the 28 low bits as seven hex digits; a mask of blocks has 25 bits
 unfoldable pub maskText : ℕ → List ℕ
 maskText mask =
     hexDigit (mask / 16777216 % 16) ∷ hexOf (mask / 65536 % 256 ∷ mask / 256 % 256 ∷ mask % 256 ∷ [])
@@ -29,7 +29,7 @@ unfoldable pub pieceOf : ℕ → ℕ → List ℕ
 pieceOf c n =
     pick (eqb c 35) (decimalOf n) (pick (eqb c 36) (maskText n) (pick (eqb c 64) (clockName n) (c ∷ [])))
 
--- with the numbers from place i on; 0 where there is none
+-- the text with the numbers from index i on; a missing number is 0
 abbrev pub formedFrom : List ℕ → List ℕ → ℕ → List ℕ
 formedFrom [] ns i = []
 formedFrom (c ∷ cs) ns i = pieceOf c (getD ns i 0) ++ formedFrom cs ns (i + bit (isField c))

@@ -72,11 +72,11 @@ clockParts s =
     refNumbers (s .reference) ∷ sysNumbers s ∷ periNumbers (s .peri) ∷ auxNumbers (s .usb) ∷ auxNumbers (s .adc)
     ∷ rtcNumbers (s .board .rtc) ∷ []
 
--- voltage code and settling step before these
+-- voltage code and settling step, then the clocks
 abbrev pub coreParts : Settings → List (List ℕ)
 coreParts s = (s .board .code ∷ []) ∷ cyclesNumbers (s .settling) ∷ clockParts s
 
--- all thirteen: chip, ring, crystal, system PLL and USB PLL before these
+-- all thirteen: chip, ring, crystal, system PLL and USB PLL, then the others
 abbrev pub partsOf : Settings → List (List ℕ)
 partsOf s =
     (chipCode (s .board .chip) ∷ []) ∷ ringNumbers (s .rosc) ∷ crystalNumbers (s .xosc) ∷ pllNumbers (sysPllOf (s .xosc))

@@ -5,7 +5,7 @@ use lib.Dec.{leb}
 use Rattle.base.specs.Choice.{pick}
 use Rattle.meanings.specs.Rows.{rowText}
 
--- the row of each refusal, from 0, which is none
+-- a row for each refusal; row 0 is for a number that is no refusal
 unfoldable pub refusalRows : List String
 refusalRows =
     "Unknown refusal."

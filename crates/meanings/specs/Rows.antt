@@ -4,11 +4,11 @@ use Prim.Native.{Nat.ℕ, Nat.zero, Nat.suc, Nat._+_, String.String}
 use lib.ListN.{length, drop, getD}
 use Rattle.text.specs.{Ascii.ascii, Words.upTo}
 
--- the text of row n; none where there are fewer rows
+-- the text of row n; empty where there are fewer rows
 unfoldable pub rowText : List String → ℕ → List ℕ
 rowText rows n = getD (map ascii rows) n []
 
--- Inside: the code has a table as one text, with a newline, which is byte 10, behind each row
+-- Inside: the code has a table as one text, with a newline, which is byte 10, after each row
 
 abbrev pub linesOf : List String → List ℕ
 linesOf [] = []

@@ -7,7 +7,7 @@ use Rattle.step.specs.declared.Step.{Step}
 use Rattle.step.specs.Layout.{kinds}
 use Rattle.meanings.specs.{Rows.rowText, Form.formed}
 
--- the form of each kind's text, from kind 0, which no step has: its fields stand in it in their order
+-- the form of each kind's text, with its fields in their order; kind 0 is no step
 unfoldable pub stepForms : List String
 stepForms =
     "no step"

@@ -1,4 +1,4 @@
-// In which settings two plans differ.
+// The settings in which two plans differ, as a mask and by name.
 use crate::rows::put_row;
 use crate::same;
 use settings::Settings;
@@ -10,7 +10,7 @@ ghost use Rattle.meanings.specs.Rows.{rowText};
 ghost use Rattle.meanings.specs.Parts.{clockParts, coreParts};
 ghost use Rattle.meanings.specs.Differences.{maskOf, differencesOf, hasBit, partNames, partLine, differencesText};
 
-// A bit below the others: 1 where a part is not the same.
+// Puts a bit below the others: 1 where a part is not the same.
 fn with_bit(same: bool, rest: u32) -> u32
     requires { ⌜ rest < 2147483648 ⌝ }
     ensures { λ r. ⌜ (r ≡ pick same 0 1 + 2 * rest) × (r ≤ 2 * rest + 1) ⌝ }
@@ -18,7 +18,7 @@ fn with_bit(same: bool, rest: u32) -> u32
     if same { 2 * rest } else { 2 * rest + 1 }
 }
 
-// Reference, system, peripheral, USB, ADC and RTC clock.
+// The bits of reference, system, peripheral, USB, ADC and RTC clock.
 fn clock_bits(a: Settings, b: Settings) -> u32
     ensures { λ r. ⌜ (r ≡ maskOf (clockParts a) (clockParts b)) × (r < 64) ⌝ }
 {
@@ -42,7 +42,7 @@ fn clock_bits(a: Settings, b: Settings) -> u32
     with_bit(same::same_ref(ref_a, ref_b), bits)
 }
 
-// Voltage code and settling step below these.
+// The bits of voltage code and settling step, below those of the clocks.
 fn core_bits(a: Settings, b: Settings) -> u32
     ensures { λ r. ⌜ (r ≡ maskOf (coreParts a) (coreParts b)) × (r < 256) ⌝ }
 {
@@ -88,7 +88,7 @@ fn has_bit(mask: u32, k: u8) -> bool
     (mask >> (k as u32)) % 2 == 1
 }
 
-// The name of part k, in that order; none from 13 on.
+// Puts the name of part k, in the order of `differences`; nothing from 13 on.
 pub fn put_part_name(out: &mut [u8], at: usize, k: u8) -> usize
     ensures { λ r. ⌜ Placed (now (out .entry)) at (rowText partNames k) r (now (out .exit)) ⌝ }
 {
@@ -124,7 +124,7 @@ fn put_part(out: &mut [u8], at: usize, mask: u32, k: u8) -> usize
     base::least(at, out.len())
 }
 
-// The names of the settings that `differences` has found, one a line.
+// Puts the names of the settings whose bits `differences` has set, one per line.
 pub fn put_differences(out: &mut [u8], at: usize, mask: u32) -> usize
     ensures { λ r. ⌜ Placed (now (out .entry)) at (differencesText mask) r (now (out .exit)) ⌝ }
 {

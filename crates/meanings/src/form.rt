@@ -11,7 +11,7 @@ ghost use Rattle.text.specs.Hex.{hexDigit};
 ghost use Rattle.meanings.specs.Rows.{rowIn};
 ghost use Rattle.meanings.specs.Form.{clockName, maskText, isField, pieceOf, formed};
 
-// The row of a clock in the table of their names.
+// The row of a clock in the table of names; from 10 on there is no clock.
 fn clock_row(clock: u64) -> u8
     ensures { λ r. ⌜ r ≡ min clock 10 ⌝ }
 {
@@ -64,14 +64,14 @@ fn takes(c: u8) -> usize
     if is_field(c) { 1 } else { 0 }
 }
 
-// The number at a place, 0 past the end.
+// The number at an index; 0 past the end.
 fn number_at(ns: &[u64], i: usize) -> u64
     ensures { λ r. ⌜ r ≡ getD (now (ns .entry)) i 0 ⌝ }
 {
     if i < ns.len() { ns[i] } else { 0 }
 }
 
-// A byte of a form, with the number that it would take.
+// A byte of a form, or the number that it stands for.
 fn put_piece(out: &mut [u8], at: usize, c: u8, n: u64) -> usize
     ensures { λ r. ⌜ Placed (now (out .entry)) at (pieceOf c n) r (now (out .exit)) ⌝ }
 {
@@ -83,7 +83,7 @@ fn put_piece(out: &mut [u8], at: usize, c: u8, n: u64) -> usize
     }
 }
 
-// The form's bytes, with the next number for each that takes one.
+// Puts a form's bytes, with the next number for each byte that stands for one; a missing number is 0.
 pub fn put_form(out: &mut [u8], at: usize, form: &[u8], ns: &[u64]) -> usize
     ensures { λ r. ⌜ Placed (now (out .entry)) at (formed (now (form .entry)) (now (ns .entry))) r (now (out .exit)) ⌝ }
 {
@@ -99,7 +99,7 @@ pub fn put_form(out: &mut [u8], at: usize, form: &[u8], ns: &[u64]) -> usize
     end
 }
 
-// Row n of a table of forms.
+// Puts row n of a table of forms, with its numbers.
 pub(crate) fn put_row_form(out: &mut [u8], at: usize, rows: &[u8], n: u8, ns: &[u64]) -> usize
     ensures { λ r. ⌜ Placed (now (out .entry)) at (formed (rowIn (now (rows .entry)) n) (now (ns .entry))) r (now (out .exit)) ⌝ }
 {

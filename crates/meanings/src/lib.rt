@@ -1,4 +1,4 @@
-// Words for people: what a refusal means, what a step does, and in which settings two plans differ.
+// Texts for people: the meaning of a refusal, the kind and fields of a step, and the settings in which two plans differ.
 mod compared;
 mod form;
 mod refused;

@@ -3,7 +3,7 @@ use crate::rows::put_row;
 ghost use Rattle.base.specs.Placed.{Placed};
 ghost use Rattle.meanings.specs.Refusals.{refusalText};
 
-// The meaning of a refusal, by its number.
+// Puts the meaning of the refusal with this number; a number past the table is an unknown refusal.
 pub fn put_refusal(out: &mut [u8], at: usize, number: u8) -> usize
     ensures { λ r. ⌜ Placed (now (out .entry)) at (refusalText number) r (now (out .exit)) ⌝ }
 {

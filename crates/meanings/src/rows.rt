@@ -1,4 +1,4 @@
-// Tables of texts: rows in one text, a newline behind each.
+// A table of texts is one text with a newline after each row.
 ghost use mathlib.Core.Path.{_≡_};
 ghost use Prim.Native.Nat.{_≤_};
 ghost use lib.ListN.{length, drop};
@@ -6,7 +6,7 @@ ghost use Rattle.base.specs.Placed.{Placed};
 ghost use Rattle.text.specs.Words.{upTo};
 ghost use Rattle.meanings.specs.Rows.{rowIn};
 
-// Where row n starts; the end where there are fewer rows.
+// The index where row n starts; the table's length where there are fewer rows.
 pub(crate) fn row_start(rows: &[u8], n: u8) -> usize
     ensures { λ r. ⌜ (upTo 10 (drop r (now (rows .entry))) ≡ rowIn (now (rows .entry)) n) × (r ≤ length (now (rows .entry))) ⌝ }
 {
@@ -19,7 +19,7 @@ pub(crate) fn row_start(rows: &[u8], n: u8) -> usize
     base::least(start, rows.len())
 }
 
-// The text of row n; none where there are fewer rows.
+// Puts the text of row n; nothing where there are fewer rows.
 pub fn put_row(out: &mut [u8], at: usize, rows: &[u8], n: u8) -> usize
     ensures { λ r. ⌜ Placed (now (out .entry)) at (rowIn (now (rows .entry)) n) r (now (out .exit)) ⌝ }
 {

@@ -69,7 +69,7 @@ pub(crate) fn same_ring(a: OptionRosc, b: OptionRosc) -> bool
     }
 }
 
-// The PLLs apart: the crystal alone.
+// Compares the crystal without its PLLs.
 pub(crate) fn same_crystal(a: OptionCrystal, b: OptionCrystal) -> bool
     ensures { λ r. ⌜ r ≡ agree (crystalNumbers a) (crystalNumbers b) ⌝ }
 {

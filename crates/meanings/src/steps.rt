@@ -4,7 +4,7 @@ use step::Step;
 ghost use Rattle.base.specs.Placed.{Placed};
 ghost use Rattle.meanings.specs.Steps.{stepText};
 
-// A step's kind by number and name, and its fields by name. The masks are in hex, a store's clock has its name.
+// Puts a step's kind by number and name, and its fields by name. Masks are in hex, and a store's clock has its name.
 pub fn put_step(out: &mut [u8], at: usize, step: Step) -> usize
     ensures { λ r. ⌜ Placed (now (out .entry)) at (stepText step) r (now (out .exit)) ⌝ }
 {

@@ -1,4 +1,4 @@
--- A name is found behind as many commas as its number says.
+-- Name n of a text is the one after n commas.
 use mathlib.Core.{List.List, Path._≡_, Path.sym, Path.ap, Path._∙_}
 use Prim.Native.Nat.{ℕ, _+_, _-_, _≤_, min, max}
 use native.Mathlib.{Decide.decLe, Numerals.add-one, Omega.arith}

@@ -1,4 +1,4 @@
--- A form is put byte by byte.
+-- A form is put byte by byte: the record holds between two bytes, and at the end the whole text is put.
 use mathlib.Core.{Path._≡_, List.List, List.[], List._∷_, List._++_, List.append-nil, List.append-assoc}
 use Prim.Native.Nat.{ℕ, suc, _+_, _≤_, _<_}
 use native.Mathlib.Numerals.{add-one}

@@ -1,4 +1,4 @@
--- A setting's name is the one with its code in the text that the code has.
+-- In the code's text of names, the name of a range or a source has its code as its number.
 use mathlib.Core.Path.{_≡_, refl}
 use Rattle.text.specs.Ascii.{ascii}
 use Rattle.config.specs.declared.RoscRange.{RoscRange}

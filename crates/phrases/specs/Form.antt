@@ -9,7 +9,7 @@ use Rattle.text.specs.Decimal.{decimalOf}
 abbrev pub pieceOf : ℕ → ℕ → List ℕ
 pieceOf c n = pick (eqb c 35) (decimalOf n) (c ∷ [])
 
--- with the numbers from place i on; 0 where there is none
+-- the text with the numbers from index i on; a missing number is 0
 abbrev pub formedFrom : List ℕ → List ℕ → ℕ → List ℕ
 formedFrom [] ns i = []
 formedFrom (c ∷ cs) ns i = pieceOf c (getD ns i 0) ++ formedFrom cs ns (i + pick (eqb c 35) 1 0)

@@ -1,4 +1,4 @@
--- A line for each setting.
+-- A line of words for each setting of docs/FORMAT.md, Settings that count, and for the blocks that the last release leaves out.
 use mathlib.Core.{Bool.Bool, Bool.true, Bool.false, Bool._&&_, Bool.not, List.List, List.[], List._∷_, List._++_}
 use Prim.Native.{Nat.ℕ, Nat._+_, Nat._*_, String.String}
 use lib.Dec.{eqb}
@@ -27,7 +27,7 @@ unfoldable pub crystalLine : OptionCrystal → List ℕ
 crystalLine (OptionCrystal.Some x) = formed (ascii "xosc # Hz, startup # x 256 cycles\n") (x .hz ∷ x .delay ∷ [])
 crystalLine OptionCrystal.None = ascii "xosc absent\n"
 
--- a PLL by its name, with its output
+-- a PLL by its name, with its output in Hz
 unfoldable pub pllLine : List ℕ → ℕ → OptionPll → List ℕ
 pllLine name hz (OptionPll.Some p) =
     name
@@ -35,7 +35,7 @@ pllLine name hz (OptionPll.Some p) =
     (hz ∷ p .refdiv ∷ p .fbdiv ∷ p .«post_div1» ∷ p .«post_div2» ∷ [])
 pllLine name hz OptionPll.None = name ++ ascii " absent\n"
 
--- a code stands for 0.55 V and 0.05 V a code more; the RP2040's 0 is 0.80 V
+-- a voltage code is 0.55 V plus 0.05 V times the code; code 0 of the RP2040 is 0.80 V
 abbrev pub isLow : Chip → ℕ → Bool
 isLow Rp2040 code = eqb code 0
 isLow Rp235x code = false
@@ -64,7 +64,7 @@ unfoldable pub periLine : ℕ → OptionPeri → List ℕ
 periLine hz (OptionPeri.Some src) = namedForm (ascii "peri # Hz from ") hz (periName src) (ascii "\n") []
 periLine hz OptionPeri.None = ascii "peri absent\n"
 
--- USB or ADC by its name
+-- the USB or ADC clock by its name
 unfoldable pub auxLine : List ℕ → ℕ → OptionAux → List ℕ
 auxLine name hz (OptionAux.Some a) =
     name
@@ -78,7 +78,7 @@ rtcLine hz (OptionRtc.Some r) =
     (r .«div_int» ∷ r .«div_frac» ∷ r .phase ∷ [])
 rtcLine hz OptionRtc.None = ascii "rtc absent\n"
 
--- ---- what the last release leaves out
+-- ---- the blocks that the last release leaves out
 
 abbrev pub isRp2040 : Chip → Bool
 isRp2040 Rp2040 = true
@@ -96,12 +96,12 @@ abbrev pub noRtc : OptionRtc → Bool
 noRtc (OptionRtc.Some r) = false
 noRtc OptionRtc.None = true
 
--- a name where a block is left out
+-- the name of a block, where it is left out
 abbrev pub named : Bool → String → List ℕ
 named out name = pick out (ascii name) []
 
--- of the mask's 25 blocks those of absent clocks, and HSTX (docs/RP235X.md): whether the chip is the RP2040, which clocks are absent.
--- None of them is in reset: the second reset write lets every block but the PLLs out
+-- of the mask's 25 blocks those of absent clocks, and HSTX (docs/RP235X.md), from whether the chip is the RP2040 and which clocks
+-- are absent. None of these blocks is in reset, because the second reset write releases every block but the PLLs
 unfoldable pub leftOutLine : Bool → Bool → Bool → Bool → Bool → List ℕ
 leftOutLine old peri usb adc rtc =
     ascii "left out of the last release:"

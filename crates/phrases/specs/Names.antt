@@ -32,7 +32,7 @@ periName PeriClkSrc.PllUsb = ascii "pll_usb"
 periName PeriClkSrc.Rosc = ascii "rosc"
 periName PeriClkSrc.Xosc = ascii "xosc"
 
--- of USB, ADC and RTC
+-- the sources of USB, ADC and RTC clock
 abbrev pub auxName : AuxClkSrc → List ℕ
 auxName AuxClkSrc.PllUsb = ascii "pll_usb"
 auxName AuxClkSrc.PllSys = ascii "pll_sys"
@@ -45,7 +45,7 @@ namedForm first n name last ns = formed first (n ∷ []) ++ (name ++ formed last
 
 -- Inside: the code has the names of a setting in one text, in the order of their codes
 
--- from the name with number n on, of names with a comma, which is byte 44, between
+-- the names from number n on; a comma, which is byte 44, separates two names
 abbrev pub namesFrom : List ℕ → ℕ → List ℕ
 namesFrom names zero = names
 namesFrom names (suc n) = drop (length (upTo 44 (namesFrom names n)) + 1) (namesFrom names n)

@@ -1,4 +1,4 @@
-// The lines of the clocks, and of what the last release leaves out.
+// The lines of the clocks, and of the blocks that the last release leaves out.
 use crate::form::put_where;
 use crate::names::put_named;
 use chip::Chip;
@@ -11,6 +11,7 @@ ghost use mathlib.Core.Path.{_≡_};
 ghost use Rattle.base.specs.Placed.{Placed};
 ghost use Rattle.phrases.specs.Lines.{refLine, sysLine, periLine, auxLine, rtcLine, isRp2040, noPeri, noAux, noRtc, leftOutLine};
 
+// Puts the line of the reference clock: frequency, source and divider.
 pub fn put_ref(out: &mut [u8], at: usize, hz: u32, clock: RefClkConfig) -> usize
     ensures { λ r. ⌜ Placed (now (out .entry)) at (refLine hz clock) r (now (out .exit)) ⌝ }
 {
@@ -27,6 +28,7 @@ pub fn put_ref(out: &mut [u8], at: usize, hz: u32, clock: RefClkConfig) -> usize
     )
 }
 
+// Puts the line of the system clock: frequency, source and divider, whose fraction is over `scale`.
 pub fn put_sys(
     out: &mut [u8],
     at: usize,
@@ -50,6 +52,7 @@ pub fn put_sys(
     )
 }
 
+// Puts the line of the peripheral clock: frequency and source.
 pub fn put_peri(out: &mut [u8], at: usize, hz: u64, peri: OptionPeri) -> usize
     ensures { λ r. ⌜ Placed (now (out .entry)) at (periLine hz peri) r (now (out .exit)) ⌝ }
 {
@@ -68,7 +71,7 @@ pub fn put_peri(out: &mut [u8], at: usize, hz: u64, peri: OptionPeri) -> usize
     }
 }
 
-// USB or ADC by its name.
+// Puts the line of the USB or ADC clock by its name: frequency, source, divider and phase.
 pub fn put_aux(out: &mut [u8], at: usize, name: &[u8], hz: u32, aux: OptionAux) -> usize
     ensures { λ r. ⌜ Placed (now (out .entry)) at (auxLine (now (name .entry)) hz aux) r (now (out .exit)) ⌝ }
 {
@@ -91,6 +94,7 @@ pub fn put_aux(out: &mut [u8], at: usize, name: &[u8], hz: u32, aux: OptionAux) 
     }
 }
 
+// Puts the line of the RTC clock: frequency, source, divider and phase.
 pub fn put_rtc(out: &mut [u8], at: usize, hz: u64, rtc: OptionRtc) -> usize
     ensures { λ r. ⌜ Placed (now (out .entry)) at (rtcLine hz rtc) r (now (out .exit)) ⌝ }
 {
@@ -112,6 +116,7 @@ pub fn put_rtc(out: &mut [u8], at: usize, hz: u64, rtc: OptionRtc) -> usize
     }
 }
 
+// Whether a chip is the RP2040.
 pub fn is_rp2040(chip: Chip) -> bool
     ensures { λ r. ⌜ r ≡ isRp2040 chip ⌝ }
 {
@@ -121,6 +126,7 @@ pub fn is_rp2040(chip: Chip) -> bool
     }
 }
 
+// Whether the peripheral clock is absent.
 pub fn no_peri(peri: OptionPeri) -> bool
     ensures { λ r. ⌜ r ≡ noPeri peri ⌝ }
 {
@@ -130,6 +136,7 @@ pub fn no_peri(peri: OptionPeri) -> bool
     }
 }
 
+// Whether a USB or ADC clock is absent.
 pub fn no_aux(aux: OptionAux) -> bool
     ensures { λ r. ⌜ r ≡ noAux aux ⌝ }
 {
@@ -139,6 +146,7 @@ pub fn no_aux(aux: OptionAux) -> bool
     }
 }
 
+// Whether the RTC clock is absent.
 pub fn no_rtc(rtc: OptionRtc) -> bool
     ensures { λ r. ⌜ r ≡ noRtc rtc ⌝ }
 {
@@ -148,7 +156,7 @@ pub fn no_rtc(rtc: OptionRtc) -> bool
     }
 }
 
-// The blocks that the last release leaves out: those of absent clocks, and HSTX of the RP235x.
+// Puts the blocks that the last release leaves out: those of absent clocks, and HSTX of the RP235x.
 pub fn put_left_out(
     out: &mut [u8],
     at: usize,

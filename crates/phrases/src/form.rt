@@ -8,7 +8,7 @@ ghost use Rattle.base.specs.Choice.{pick};
 ghost use Rattle.base.specs.Placed.{Placed};
 ghost use Rattle.phrases.specs.Form.{pieceOf, formed};
 
-// The number at a place, 0 past the end.
+// The number at an index; 0 past the end.
 fn number_at(ns: &[u64], i: usize) -> u64
     ensures { λ r. ⌜ r ≡ getD (now (ns .entry)) i 0 ⌝ }
 {
@@ -32,7 +32,7 @@ fn put_piece(out: &mut [u8], at: usize, c: u8, n: u64) -> usize
     text::put_byte(out, at, c)
 }
 
-// The form's bytes, with the next number for each `#`.
+// Puts the form's bytes, with the next number for each `#`.
 pub(crate) fn put_form(out: &mut [u8], at: usize, form: &[u8], ns: &[u64]) -> usize
     ensures { λ r. ⌜ Placed (now (out .entry)) at (formed (now (form .entry)) (now (ns .entry))) r (now (out .exit)) ⌝ }
 {
@@ -48,7 +48,7 @@ pub(crate) fn put_form(out: &mut [u8], at: usize, form: &[u8], ns: &[u64]) -> us
     end
 }
 
-// Only where a test holds.
+// Puts a text only where a test holds.
 pub(crate) fn put_where(out: &mut [u8], at: usize, test: bool, s: &[u8]) -> usize
     ensures { λ r. ⌜ Placed (now (out .entry)) at (pick test (now (s .entry)) []) r (now (out .exit)) ⌝ }
 {

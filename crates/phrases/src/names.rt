@@ -1,9 +1,9 @@
-// Texts with a name in them: of a range, or of a source.
+// Texts with the name of a range or of a source in them.
 use crate::form::put_form;
 ghost use Rattle.base.specs.Placed.{Placed};
 ghost use Rattle.phrases.specs.Names.{nameAt, namedForm};
 
-// Of names with commas between, the one with this number.
+// Puts the name with this number, of names that commas separate.
 fn put_name(out: &mut [u8], at: usize, names: &[u8], number: u8) -> usize
     ensures { λ r. ⌜ Placed (now (out .entry)) at (nameAt (now (names .entry)) number) r (now (out .exit)) ⌝ }
 {
@@ -18,7 +18,7 @@ fn put_name(out: &mut [u8], at: usize, names: &[u8], number: u8) -> usize
     text::put_bytes(out, at, &names[from..end])
 }
 
-// A form with a number in it, the name with a code, a form with more numbers.
+// Puts a form with a number in it, the name with a code, and a form with more numbers.
 pub(crate) fn put_named(
     out: &mut [u8],
     at: usize,

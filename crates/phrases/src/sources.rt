@@ -1,4 +1,4 @@
-// The lines of the chip, the oscillators, the PLLs, the voltage and its settling.
+// The lines of the chip, the oscillators, the PLLs, the voltage and its settling step.
 use crate::form::put_form;
 use crate::names::put_named;
 use chip::Chip;
@@ -10,6 +10,7 @@ ghost use mathlib.Core.Path.{_≡_};
 ghost use Rattle.base.specs.Placed.{Placed};
 ghost use Rattle.phrases.specs.Lines.{chipLine, ringLine, crystalLine, pllLine, millivolts, voltageLine, settlingLine};
 
+// Puts the line of the chip.
 pub fn put_chip(out: &mut [u8], at: usize, chip: Chip) -> usize
     ensures { λ r. ⌜ Placed (now (out .entry)) at (chipLine chip) r (now (out .exit)) ⌝ }
 {
@@ -19,6 +20,7 @@ pub fn put_chip(out: &mut [u8], at: usize, chip: Chip) -> usize
     }
 }
 
+// Puts the line of the ring oscillator: frequency, range, strengths and divider.
 pub fn put_ring(out: &mut [u8], at: usize, ring: OptionRosc) -> usize
     ensures { λ r. ⌜ Placed (now (out .entry)) at (ringLine ring) r (now (out .exit)) ⌝ }
 {
@@ -51,6 +53,7 @@ pub fn put_ring(out: &mut [u8], at: usize, ring: OptionRosc) -> usize
     }
 }
 
+// Puts the line of the crystal: frequency and startup delay in units of 256 cycles.
 pub fn put_crystal(out: &mut [u8], at: usize, crystal: OptionCrystal) -> usize
     ensures { λ r. ⌜ Placed (now (out .entry)) at (crystalLine crystal) r (now (out .exit)) ⌝ }
 {
@@ -65,7 +68,7 @@ pub fn put_crystal(out: &mut [u8], at: usize, crystal: OptionCrystal) -> usize
     }
 }
 
-// A PLL by its name.
+// Puts the line of a PLL by its name: output in Hz and dividers.
 pub fn put_pll(out: &mut [u8], at: usize, name: &[u8], hz: u32, pll: OptionPll) -> usize
     ensures { λ r. ⌜ Placed (now (out .entry)) at (pllLine (now (name .entry)) hz pll) r (now (out .exit)) ⌝ }
 {
@@ -87,7 +90,7 @@ pub fn put_pll(out: &mut [u8], at: usize, name: &[u8], hz: u32, pll: OptionPll) 
     }
 }
 
-// What a voltage code stands for.
+// The core voltage of a code, in mV.
 fn millivolts(chip: Chip, code: u8) -> u64
     ensures { λ r. ⌜ r ≡ millivolts chip code ⌝ }
 {
@@ -102,6 +105,7 @@ fn millivolts(chip: Chip, code: u8) -> u64
     }
 }
 
+// Puts the line of the core voltage: mV and code.
 pub fn put_voltage(out: &mut [u8], at: usize, chip: Chip, code: u8) -> usize
     ensures { λ r. ⌜ Placed (now (out .entry)) at (voltageLine chip code) r (now (out .exit)) ⌝ }
 {
@@ -113,6 +117,7 @@ pub fn put_voltage(out: &mut [u8], at: usize, chip: Chip, code: u8) -> usize
     )
 }
 
+// Puts the line of the settling step: its cycles.
 pub fn put_settling(out: &mut [u8], at: usize, settling: OptionCycles) -> usize
     ensures { λ r. ⌜ Placed (now (out .entry)) at (settlingLine settling) r (now (out .exit)) ⌝ }
 {

@@ -1,4 +1,5 @@
--- `meanings::compared::clock_bits` meets its contract.
+-- `meanings::compared::clock_bits` meets its contract: each `same_*` answers for one clock, each `with_bit` puts its bit below
+-- the bits so far, and six bits stay below 64.
 use native.Mathlib.Omega.{arith}
 use borrow.Author.Needs.{needs}
 use Rattle.meanings.proofs.compared.clock_bits.Statement.{statement}

@@ -1,4 +1,5 @@
--- `meanings::compared::core_bits` meets its contract.
+-- `meanings::compared::core_bits` meets its contract: the bits of settling step and voltage code are put below the six of
+-- `clock_bits`, and eight bits stay below 256.
 use native.Mathlib.Omega.{arith}
 use borrow.Author.Needs.{needs}
 use Rattle.meanings.proofs.compared.core_bits.Statement.{statement}

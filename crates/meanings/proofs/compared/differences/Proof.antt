@@ -1,4 +1,5 @@
--- `meanings::compared::differences` meets its contract.
+-- `meanings::compared::differences` meets its contract: the bits of the chip, the ring, the crystal and the two PLLs are put
+-- below the eight of `core_bits`.
 use borrow.Author.Needs.{needs}
 use Rattle.meanings.specs.Differences.{differencesOf}
 use Rattle.meanings.proofs.compared.differences.Statement.{statement}

@@ -1,4 +1,5 @@
--- `meanings::compared::put_part` meets its contract.
+-- `meanings::compared::put_part` meets its contract: where the bit is set, the name and the newline are put one after the other;
+-- where it is not, nothing is.
 use mathlib.Core.Path.{refl}
 use native.Mathlib.Omega.{arith}
 use borrow.Author.Needs.{needs}

@@ -1,4 +1,4 @@
--- `meanings::compared::with_bit` meets its contract.
+-- `meanings::compared::with_bit` meets its contract: arithmetic in both branches of the test.
 use native.Mathlib.Omega.{arith}
 use borrow.Author.Needs.{needs}
 use Rattle.meanings.proofs.compared.with_bit.Statement.{statement}

@@ -1,4 +1,5 @@
--- `meanings::form::put_clock` meets its contract.
+-- `meanings::form::put_clock` meets its contract: `clock-in` finds a clock's name in the code's table at the row that `clock_row`
+-- gives.
 use borrow.Author.Needs.{needs}
 use Rattle.meanings.specs.Form.{clockRows}
 use Rattle.meanings.proofs.{Forms.clock-in, form.put_clock.Statement.statement}

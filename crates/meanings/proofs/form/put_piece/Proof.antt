@@ -1,4 +1,4 @@
--- `meanings::form::put_piece` meets its contract.
+-- `meanings::form::put_piece` meets its contract: the byte picks the arm; a byte that is none of the three fields is put itself.
 use borrow.Author.{Needs.needs, Tests.ne-eqb}
 use Rattle.meanings.specs.Form.{pieceOf}
 use Rattle.meanings.proofs.form.put_piece.Statement.{statement}

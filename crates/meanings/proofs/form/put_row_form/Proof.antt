@@ -1,4 +1,5 @@
--- `meanings::form::put_row_form` meets its contract.
+-- `meanings::form::put_row_form` meets its contract: the bytes from `row_start` to the next newline are the row, by `between`,
+-- and `put_form` puts it.
 use borrow.Author.Needs.{needs}
 use Rattle.text.proofs.Lines.{between}
 use Rattle.meanings.proofs.form.put_row_form.Statement.{statement}

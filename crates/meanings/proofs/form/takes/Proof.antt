@@ -1,4 +1,4 @@
--- `meanings::form::takes` meets its contract.
+-- `meanings::form::takes` meets its contract: `is_field` decides both branches.
 use native.Mathlib.Omega.{arith}
 use borrow.Author.Needs.{needs}
 use Rattle.meanings.proofs.form.takes.Statement.{statement}

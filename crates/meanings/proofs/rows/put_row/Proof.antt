@@ -1,4 +1,4 @@
--- `meanings::rows::put_row` meets its contract.
+-- `meanings::rows::put_row` meets its contract: the bytes from `row_start` to the next newline are the row, by `between`.
 use borrow.Author.Needs.{needs}
 use Rattle.text.proofs.Lines.{between}
 use Rattle.meanings.proofs.rows.put_row.Statement.{statement}

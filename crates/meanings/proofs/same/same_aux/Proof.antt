@@ -1,4 +1,5 @@
--- `meanings::same::same_aux` meets its contract.
+-- `meanings::same::same_aux` meets its contract: both present, `same_aux_on` compares them; a present part has numbers and an
+-- absent one has none.
 use borrow.Author.Needs.{needs}
 use Rattle.meanings.proofs.same.same_aux.Statement.{statement}
 use Rattle.meanings.proofs.same.same_aux.Tie as tie

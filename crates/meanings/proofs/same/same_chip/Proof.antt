@@ -1,4 +1,4 @@
--- `meanings::same::same_chip` meets its contract.
+-- `meanings::same::same_chip` meets its contract: the two chips are compared by the codes that `chip_code` gives.
 use borrow.Author.Needs.{needs}
 use Rattle.meanings.proofs.same.same_chip.Statement.{statement}
 use Rattle.meanings.proofs.same.same_chip.Tie as tie

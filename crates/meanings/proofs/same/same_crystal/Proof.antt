@@ -1,4 +1,5 @@
--- `meanings::same::same_crystal` meets its contract.
+-- `meanings::same::same_crystal` meets its contract: both present, the two fields are compared; a present part has numbers and an
+-- absent one has none.
 use borrow.Author.Needs.{needs}
 use Rattle.meanings.proofs.same.same_crystal.Statement.{statement}
 use Rattle.meanings.proofs.same.same_crystal.Tie as tie

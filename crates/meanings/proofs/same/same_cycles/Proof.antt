@@ -1,4 +1,5 @@
--- `meanings::same::same_cycles` meets its contract.
+-- `meanings::same::same_cycles` meets its contract: both present, the cycles are compared; a present part has numbers and an
+-- absent one has none.
 use borrow.Author.Needs.{needs}
 use Rattle.meanings.proofs.same.same_cycles.Statement.{statement}
 use Rattle.meanings.proofs.same.same_cycles.Tie as tie

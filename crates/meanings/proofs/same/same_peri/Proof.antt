@@ -1,4 +1,5 @@
--- `meanings::same::same_peri` meets its contract.
+-- `meanings::same::same_peri` meets its contract: both present, their sources are compared by the codes that `peri_aux` gives; an
+-- absent part has no numbers.
 use borrow.Author.Needs.{needs}
 use Rattle.meanings.proofs.same.same_peri.Statement.{statement}
 use Rattle.meanings.proofs.same.same_peri.Tie as tie

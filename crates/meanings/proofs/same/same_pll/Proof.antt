@@ -1,4 +1,5 @@
--- `meanings::same::same_pll` meets its contract.
+-- `meanings::same::same_pll` meets its contract: both present, the four dividers are compared; a present part has numbers and an
+-- absent one has none.
 use borrow.Author.Needs.{needs}
 use Rattle.meanings.proofs.same.same_pll.Statement.{statement}
 use Rattle.meanings.proofs.same.same_pll.Tie as tie

@@ -1,4 +1,5 @@
--- `meanings::same::same_ref` meets its contract.
+-- `meanings::same::same_ref` meets its contract: the sources are compared by the codes that `ref_code` gives, the dividers as
+-- they are.
 use borrow.Author.Needs.{needs}
 use Rattle.meanings.proofs.same.same_ref.Statement.{statement}
 use Rattle.meanings.proofs.same.same_ref.Tie as tie

@@ -1,4 +1,5 @@
--- `meanings::same::same_ring_on` meets its contract.
+-- `meanings::same::same_ring_on` meets its contract: the ranges are compared by the codes that `range_code` gives, the other
+-- fields as they are.
 use borrow.Author.Needs.{needs}
 use Rattle.meanings.proofs.same.same_ring_on.Statement.{statement}
 use Rattle.meanings.proofs.same.same_ring_on.Tie as tie

@@ -1,4 +1,5 @@
--- `meanings::same::same_sys` meets its contract.
+-- `meanings::same::same_sys` meets its contract: the sources are compared by the codes that `sys_code` gives, the two parts of
+-- the divider as they are.
 use borrow.Author.Needs.{needs}
 use Rattle.meanings.proofs.same.same_sys.Statement.{statement}
 use Rattle.meanings.proofs.same.same_sys.Tie as tie

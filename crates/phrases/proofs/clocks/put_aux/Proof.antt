@@ -1,4 +1,5 @@
--- `phrases::clocks::put_aux` meets its contract.
+-- `phrases::clocks::put_aux` meets its contract: the name is put first; where the clock is present, `aux-named` finds its source
+-- in the code's text at its code.
 use Rattle.base.proofs.Placing.{placed-append}
 use Rattle.phrases.specs.Lines.{auxLine}
 use Rattle.phrases.proofs.{Named.aux-named, clocks.put_aux.Statement.statement}

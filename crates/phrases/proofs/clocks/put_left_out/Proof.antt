@@ -1,4 +1,5 @@
--- `phrases::clocks::put_left_out` meets its contract.
+-- `phrases::clocks::put_left_out` meets its contract: the eight texts are put one after another, each block's name only where its
+-- test holds.
 use mathlib.Core.Path.{ap, _∙_}
 use Rattle.base.proofs.Placing.{placed-append}
 use Rattle.phrases.specs.Lines.{leftOutLine}

@@ -1,4 +1,5 @@
--- `phrases::clocks::put_peri` meets its contract.
+-- `phrases::clocks::put_peri` meets its contract: where the clock is present, `peri-named` finds the name of its source in the
+-- code's text at its code.
 use Rattle.phrases.specs.Lines.{periLine}
 use Rattle.phrases.proofs.{Named.peri-named, clocks.put_peri.Statement.statement}
 use borrow.Author.Needs.{needs}

@@ -1,4 +1,4 @@
--- `phrases::clocks::put_ref` meets its contract.
+-- `phrases::clocks::put_ref` meets its contract: `ref-named` finds the name of the source in the code's text at its code.
 use Rattle.phrases.specs.Lines.{refLine}
 use Rattle.phrases.proofs.{Named.ref-named, clocks.put_ref.Statement.statement}
 use borrow.Author.Needs.{needs}

@@ -1,4 +1,5 @@
--- `phrases::clocks::put_rtc` meets its contract.
+-- `phrases::clocks::put_rtc` meets its contract: where the clock is present, `aux-named` finds the name of its source in the
+-- code's text at its code.
 use Rattle.phrases.specs.Lines.{rtcLine}
 use Rattle.phrases.proofs.{Named.aux-named, clocks.put_rtc.Statement.statement}
 use borrow.Author.Needs.{needs}

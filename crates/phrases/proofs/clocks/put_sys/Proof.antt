@@ -1,4 +1,4 @@
--- `phrases::clocks::put_sys` meets its contract.
+-- `phrases::clocks::put_sys` meets its contract: `sys-named` finds the name of the source in the code's text at its code.
 use Rattle.phrases.specs.Lines.{sysLine}
 use Rattle.phrases.proofs.{Named.sys-named, clocks.put_sys.Statement.statement}
 use borrow.Author.Needs.{needs}

@@ -1,4 +1,4 @@
--- `phrases::form::put_piece` meets its contract.
+-- `phrases::form::put_piece` meets its contract: the test for `#` decides between the number and the byte itself.
 use borrow.{Author.Tests.eq-eqb, Author.Tests.ne-eqb, Author.Needs.needs}
 use Rattle.phrases.proofs.form.put_piece.Statement.{statement}
 use Rattle.phrases.proofs.form.put_piece.Tie as tie

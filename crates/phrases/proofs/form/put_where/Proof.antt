@@ -1,4 +1,5 @@
--- `phrases::form::put_where` meets its contract.
+-- `phrases::form::put_where` meets its contract: the test decides; where it fails, nothing is put, and the index is at most the
+-- buffer's length.
 use mathlib.Core.Path.{refl}
 use native.Mathlib.Omega.{arith}
 use borrow.Author.Needs.{needs}

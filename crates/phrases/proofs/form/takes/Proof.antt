@@ -1,4 +1,4 @@
--- `phrases::form::takes` meets its contract.
+-- `phrases::form::takes` meets its contract: the test for `#` decides both branches.
 use native.Mathlib.Omega.{arith}
 use borrow.Author.Tests.{eq-eqb, ne-eqb}
 use Rattle.phrases.proofs.form.takes.Statement.{statement}

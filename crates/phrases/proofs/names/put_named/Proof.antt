@@ -1,4 +1,4 @@
--- `phrases::names::put_named` meets its contract.
+-- `phrases::names::put_named` meets its contract: the three texts are put one after another: form, name, form.
 use borrow.Author.Needs.{needs}
 use Rattle.base.proofs.Placing.{placed-append}
 use Rattle.phrases.proofs.names.put_named.Statement.{statement}

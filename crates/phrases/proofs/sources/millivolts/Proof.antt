@@ -1,4 +1,5 @@
--- `phrases::sources::millivolts` meets its contract.
+-- `phrases::sources::millivolts` meets its contract: code 0 of the RP2040 has a value of its own; every other code, and every
+-- code of the RP235x, has the formula.
 use borrow.{Author.Tests.eq-eqb, Author.Tests.ne-eqb, Author.Needs.needs}
 use Rattle.phrases.specs.Lines.{millivolts}
 use Rattle.phrases.proofs.sources.millivolts.Statement.{statement}

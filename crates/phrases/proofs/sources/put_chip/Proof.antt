@@ -1,4 +1,4 @@
--- `phrases::sources::put_chip` meets its contract.
+-- `phrases::sources::put_chip` meets its contract: the chip picks the text.
 use Rattle.phrases.specs.Lines.{chipLine}
 use borrow.Author.Needs.{needs}
 use Rattle.phrases.proofs.sources.put_chip.Statement.{statement}

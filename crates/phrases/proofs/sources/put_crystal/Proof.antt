@@ -1,4 +1,5 @@
--- `phrases::sources::put_crystal` meets its contract.
+-- `phrases::sources::put_crystal` meets its contract: a crystal that is present has the form of `put_form`, an absent one a fixed
+-- text.
 use Rattle.phrases.specs.Lines.{crystalLine}
 use borrow.Author.Needs.{needs}
 use Rattle.phrases.proofs.sources.put_crystal.Statement.{statement}

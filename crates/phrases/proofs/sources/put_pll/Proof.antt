@@ -1,4 +1,4 @@
--- `phrases::sources::put_pll` meets its contract.
+-- `phrases::sources::put_pll` meets its contract: the name is put first, and the PLL's form or ` absent` after it.
 use Rattle.base.proofs.Placing.{placed-append}
 use Rattle.phrases.specs.Lines.{pllLine}
 use borrow.Author.Needs.{needs}

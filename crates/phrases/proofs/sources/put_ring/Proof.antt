@@ -1,4 +1,5 @@
--- `phrases::sources::put_ring` meets its contract.
+-- `phrases::sources::put_ring` meets its contract: where the ring is present, `range-named` finds the name of its range in the
+-- code's text at its code.
 use Rattle.phrases.specs.Lines.{ringLine}
 use Rattle.phrases.proofs.{Named.range-named, sources.put_ring.Statement.statement}
 use borrow.Author.Needs.{needs}

@@ -1,4 +1,5 @@
--- `phrases::sources::put_settling` meets its contract.
+-- `phrases::sources::put_settling` meets its contract: a settling step that is present has the form of `put_form`, an absent one
+-- a fixed text.
 use Rattle.phrases.specs.Lines.{settlingLine}
 use borrow.Author.Needs.{needs}
 use Rattle.phrases.proofs.sources.put_settling.Statement.{statement}

@@ -1,4 +1,4 @@
--- `phrases::sources::put_voltage` meets its contract.
+-- `phrases::sources::put_voltage` meets its contract: `put_form` puts the line, with the voltage that `millivolts` gives.
 use Rattle.phrases.specs.Lines.{voltageLine}
 use borrow.Author.Needs.{needs}
 use Rattle.phrases.proofs.sources.put_voltage.Statement.{statement}
