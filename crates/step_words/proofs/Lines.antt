@@ -1,4 +1,4 @@
--- A sheet is listed line by line.
+-- A sheet is listed line by line: the record holds between two lines, and at the end the whole listing is put.
 use mathlib.Core.{Path._≡_, Path.refl, Path.ap, Path._∙_, Bool.Bool, Bool.true, Bool.false}
 use mathlib.Core.List.{List, [], _∷_, _++_, append-nil, append-assoc}
 use Prim.Native.Nat.{ℕ, suc, _+_, _-_, _≤_, _<_, min}

@@ -1,5 +1,4 @@
--- A register's name is the row of the code's text at the place of its address in the code's list, and each access of each kind
--- of either chip has one.
+-- A register's name is the row of the code's text at the index of its address in the code's list, and has at most 25 bytes.
 use mathlib.Core.{Path._≡_, Path.refl, Path.sym, Path._∙_, Bool.Bool, Bool.true, Bool.false}
 use mathlib.Core.List.{List, [], _∷_, map}
 use Prim.Native.{Nat.ℕ, Nat.suc, Nat._+_, Nat._≤_, Nat._<_, String.String}
@@ -13,7 +12,7 @@ use Rattle.meanings.specs.Rows.{rowText, linesOf, rowIn}
 use Rattle.meanings.proofs.Tables.{row-in, allWithin, row-most}
 use Rattle.step_words.specs.Names.{Row, nameRows, nameIn, nameOf, placeIn}
 
--- ---- the place of an address
+-- ---- the index of an address
 
 module _ (s : List ℕ) (a i : ℕ) where
   pub place-hit : i < length s → getD s i 0 ≡ a → placeIn (drop i s) a + i ≡ i

@@ -84,8 +84,8 @@ nameIn (r ∷ rs) a = pick (eqb (r .address) a) (ascii (r .name)) (nameIn rs a)
 unfoldable pub nameOf : Chip → ℕ → List ℕ
 nameOf c a = nameIn (nameRows c) a
 
--- Inside: the code has the addresses and the names apart. The place of an address in a list, the list's length where it is not
--- in it
+-- Inside: the code has the addresses and the names in two tables. The index of an address in a list; the list's length where the
+-- list does not have it
 abbrev pub placeIn : List ℕ → ℕ → ℕ
 placeIn [] a = 0
 placeIn (b ∷ bs) a = pick (eqb b a) 0 (suc (placeIn bs a))

@@ -37,7 +37,7 @@ unfoldable pub lineText : Chip → ℕ → List ℕ → Found → List ℕ
 lineText c position bytes f =
     decimalOf position ++ ascii " " ++ hexOf bytes ++ ascii " " ++ meaningText c f ++ (10 ∷ [])
 
--- what is found at a position, and the line of it
+-- what is found at a position, and its line
 unfoldable pub foundAt : Chip → List ℕ → ℕ → Found
 foundAt c sheet i = foundIn c (readAt sheet (8 * i))
 
@@ -49,7 +49,7 @@ abbrev pub linesFrom : Chip → List ℕ → ℕ → ℕ → List ℕ
 linesFrom c sheet i zero = []
 linesFrom c sheet i (suc n) = lineAt c sheet i ++ pick (isStep (foundAt c sheet i)) (linesFrom c sheet (suc i) n) []
 
--- a position for each 8 bytes; the last may have less
+-- a position for each 8 bytes; the last may have fewer
 unfoldable pub linesOf : List ℕ → ℕ
 linesOf sheet = (length sheet + 7) / 8
 

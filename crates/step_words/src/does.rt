@@ -6,7 +6,7 @@ ghost use mathlib.Core.List.{_++_};
 ghost use Rattle.base.specs.Placed.{Placed};
 ghost use Rattle.step_words.specs.Does.{wordText, registerText, doesText};
 
-// A text, and a register's number of 32 bits after it.
+// Puts a text and a 32-bit number as eight hex digits after it.
 fn put_word(out: &mut [u8], at: usize, before: &[u8], n: u32) -> usize
     ensures { λ r. ⌜ Placed (now (out .entry)) at (now (before .entry) ++ wordText n) r (now (out .exit)) ⌝ }
 {
@@ -20,7 +20,7 @@ fn put_word(out: &mut [u8], at: usize, before: &[u8], n: u32) -> usize
     text::put_hex(out, end, &bytes)
 }
 
-// A verb, and the register by its name and address after it.
+// Puts a verb, and the name and address of a register after it.
 fn put_register(out: &mut [u8], at: usize, verb: &[u8], chip: Chip, address: u32) -> usize
     ensures { λ r. ⌜ Placed (now (out .entry)) at (now (verb .entry) ++ registerText chip address) r (now (out .exit)) ⌝ }
 {
@@ -29,7 +29,7 @@ fn put_register(out: &mut [u8], at: usize, verb: &[u8], chip: Chip, address: u32
     put_word(out, end, b" 0x", address)
 }
 
-// What an access does.
+// Puts what an access does to its register.
 pub(crate) fn put_does(out: &mut [u8], at: usize, chip: Chip, access: Access) -> usize
     ensures { λ r. ⌜ Placed (now (out .entry)) at (doesText chip access) r (now (out .exit)) ⌝ }
 {

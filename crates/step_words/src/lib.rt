@@ -49,7 +49,7 @@ fn found_at(chip: Chip, sheet: &[u8], from: usize) -> Found
     }
 }
 
-// Kind, fields and what the step does.
+// Puts kind, fields and what the step does; `no step` where there is none.
 fn put_meaning(out: &mut [u8], at: usize, chip: Chip, found: Found) -> usize
     ensures { λ r. ⌜ Placed (now (out .entry)) at (meaningText chip found) r (now (out .exit)) ⌝ }
 {
@@ -65,7 +65,7 @@ fn put_meaning(out: &mut [u8], at: usize, chip: Chip, found: Found) -> usize
     }
 }
 
-// The line of a position.
+// Puts the line of a position.
 fn put_line(
     out: &mut [u8],
     at: usize,
@@ -84,14 +84,14 @@ fn put_line(
     text::put_byte(out, end, b'\n')
 }
 
-// How many positions a sheet has: the last may have less than 8 bytes.
+// The number of positions of a sheet; the last may have fewer than 8 bytes.
 fn lines_of(sheet: &[u8]) -> usize
     ensures { λ r. ⌜ r ≡ linesOf (now (sheet .entry)) ⌝ }
 {
     sheet.len() / 8 + (sheet.len() % 8 + 7) / 8
 }
 
-// The position after a step; the end where there is none.
+// The position after a step; the end where there is no step.
 fn next_of(found: Found, position: usize, lines: usize) -> usize
     requires { ⌜ position < lines ⌝ }
     ensures { λ r. ⌜ (r ≡ pick (isStep found) (position + 1) lines) × (position < r) × (r ≤ lines) ⌝ }
@@ -102,8 +102,8 @@ fn next_of(found: Found, position: usize, lines: usize) -> usize
     }
 }
 
-// Lists the steps of a sheet. A sheet whose bytes stop being steps of its chip is listed up to there, and the last line has the
-// bytes that are left, at most 8.
+// Puts a line for each step of a sheet. A sheet whose bytes stop being steps of its chip is listed up to there, and the last line
+// has the bytes that are left, at most 8.
 pub fn put_steps(out: &mut [u8], at: usize, sheet: &[u8]) -> usize
     ensures { λ r. ⌜ Placed (now (out .entry)) at (stepsText (now (sheet .entry))) r (now (out .exit)) ⌝ }
 {

@@ -7,7 +7,7 @@ ghost use Rattle.base.specs.Placed.{Placed};
 ghost use Rattle.chip.specs.declared.Chip.the-variants.{Rp2040, Rp235x};
 ghost use Rattle.step_words.specs.Names.{placeIn, nameOf};
 
-// The place of an address in a table; the table's length where it is not in it.
+// The index of an address in a table; the table's length where the table does not have it.
 fn place_of(addresses: &[u32], address: u32) -> u8
     requires { ⌜ length (now addresses) ≤ 255 ⌝ }
     ensures { λ r. ⌜ r ≡ placeIn (now (addresses .entry)) address ⌝ }
@@ -137,7 +137,7 @@ fn put_name_235(out: &mut [u8], at: usize, address: u32) -> usize
     )
 }
 
-// The datasheet's name of the register at an address of the chip; none where no step touches it.
+// Puts the datasheet's name of the register at an address of the chip; nothing where no step touches it.
 pub(crate) fn put_name(out: &mut [u8], at: usize, chip: Chip, address: u32) -> usize
     ensures { λ r. ⌜ Placed (now (out .entry)) at (nameOf chip address) r (now (out .exit)) ⌝ }
 {

@@ -1,4 +1,5 @@
--- The lines one after another, and the last arm of a match on a number.
+-- The lines of k + 1 settings are those of k settings and one more, and from 13 on a setting has no line. `next` and `last-of`
+-- count up to the last arm of a match on a number.
 use mathlib.Core.{Path._≡_, Path.refl, List.List, List.[], List._++_}
 use Prim.Native.Nat.{ℕ, suc, _+_, _≤_, _<_}
 use native.Mathlib.{Numerals.add-one, Omega.arith}
@@ -22,14 +23,14 @@ pub lines-next : (p : ClockConfig) (reading k : ℕ)
 unfolding settingLines
 lines-next p reading k = rw (add-one k)
 
--- a number that is not j is the next or more
+-- a number that is at least j and not j is at least the next one
 pub next : {j k : ℕ} → j ≤ k → (k ≡ j → ⊥) → suc j ≤ k
 next low other = omega arith
 
 pub last-of : {j k : ℕ} → j ≤ k → k < suc j → k ≡ j
 last-of low high = omega arith
 
--- past the last setting there is none
+-- there is no line past the last setting
 pub line-past : (k : ℕ) (p : ClockConfig) (s : Settings) (f : Frequencies) → 13 ≤ k → lineOf k p s f ≡ []
 unfolding lineOf
 line-past k p s f out = List·getD-eq-default (linesOf p s f) [] out

@@ -41,12 +41,12 @@ lineOf k p s f = getD (linesOf p s f) k []
 unfoldable pub settingLine : ℕ → ClockConfig → ℕ → List ℕ
 settingLine k p reading = lineOf k p (settingsOf p reading) (frequenciesOf (settingsOf p reading))
 
--- of the first k settings
+-- the lines of the first k settings
 unfoldable pub settingLines : ClockConfig → ℕ → ℕ → List ℕ
 settingLines p reading zero = []
 settingLines p reading (suc k) = settingLines p reading k ++ settingLine k p reading
 
--- what the last release leaves out
+-- the blocks that the last release leaves out
 unfoldable pub leftOutText : Settings → List ℕ
 leftOutText s =
     leftOutLine (isRp2040 (s .board .chip)) (noPeri (s .peri)) (noAux (s .usb)) (noAux (s .adc)) (noRtc (s .board .rtc))
@@ -58,7 +58,7 @@ planLine p = ascii "plan" ++ (spaced (planRow p) ++ ascii "\n")
 unfoldable pub wordsOf : ClockConfig → ℕ → List ℕ
 wordsOf p reading = settingLines p reading 13 ++ (leftOutText (settingsOf p reading) ++ planLine p)
 
--- a refusal's number, and its meaning behind the name of what is refused
+-- a refusal's number on one line, and on the next its meaning after the name of what is refused
 unfoldable pub refusedLines : List ℕ → ℕ → List ℕ
 refusedLines what n = ascii "refused " ++ (decimalOf n ++ (ascii "\n" ++ (what ++ (refusalText n ++ ascii "\n"))))
 
@@ -66,6 +66,6 @@ abbrev pub answerText : ℕ → Answer ClockConfig → List ℕ
 answerText reading (value p) = wordsOf p reading
 answerText reading (refusal n) = refusedLines [] n
 
--- a sheet at a regulator reading
+-- the answer for a sheet at a regulator reading
 unfoldable pub explainText : ℕ → List ℕ → List ℕ
 explainText reading sheet = answerText reading (readOf sheet reading)

@@ -11,7 +11,7 @@ ghost use Rattle.numbers.specs.Row.{planRow};
 ghost use Rattle.wording.specs.Words.{lineOf, settingLine, settingLines, leftOutText, planLine, wordsOf};
 ghost use Rattle.wording.specs.Words.{refusedLines, explainText};
 
-// The line of setting k of a plan at a reading, in the order of docs/FORMAT.md, Settings that count; none from 13 on.
+// Puts the line of setting k of a plan at a reading, in the order of docs/FORMAT.md, Settings that count; nothing from 13 on.
 pub fn put_setting(out: &mut [u8], at: usize, k: u8, plan: ClockConfig, reading: u8) -> usize
     ensures { λ r. ⌜ Placed (now (out .entry)) at (settingLine k plan reading) r (now (out .exit)) ⌝ }
 {
@@ -23,7 +23,7 @@ pub fn put_setting(out: &mut [u8], at: usize, k: u8, plan: ClockConfig, reading:
     put_clock(out, at, k, plan, s, f)
 }
 
-// Chip, ring, crystal, PLLs, voltage and settling step: 0 to 6.
+// The lines 0 to 6: chip, ring, crystal, PLLs, voltage and settling step.
 fn put_source(
     out: &mut [u8],
     at: usize,
@@ -69,7 +69,7 @@ fn put_source(
     }
 }
 
-// Reference, system, peripheral, USB, ADC and RTC clock: 7 to 12.
+// The lines 7 to 12: reference, system, peripheral, USB, ADC and RTC clock.
 fn put_clock(
     out: &mut [u8],
     at: usize,
@@ -122,7 +122,7 @@ fn put_settings(out: &mut [u8], at: usize, plan: ClockConfig, reading: u8) -> us
     end
 }
 
-// What the last release leaves out.
+// The blocks that the last release leaves out.
 fn put_left_out(out: &mut [u8], at: usize, s: Settings) -> usize
     ensures { λ r. ⌜ Placed (now (out .entry)) at (leftOutText s) r (now (out .exit)) ⌝ }
 {
@@ -140,7 +140,7 @@ fn put_left_out(out: &mut [u8], at: usize, s: Settings) -> usize
     phrases::clocks::put_left_out(out, at, old, no_peri, no_usb, no_adc, no_rtc)
 }
 
-// The plan's numbers, each behind a space.
+// The plan's numbers, each after a space.
 fn put_numbers(out: &mut [u8], at: usize, plan: ClockConfig) -> usize
     ensures { λ r. ⌜ Placed (now (out .entry)) at (spaced (planRow plan)) r (now (out .exit)) ⌝ }
 {
@@ -149,7 +149,7 @@ fn put_numbers(out: &mut [u8], at: usize, plan: ClockConfig) -> usize
     replies::put_words(out, at, &row[..n])
 }
 
-// The line of these numbers.
+// The line `plan` with these numbers.
 fn put_plan(out: &mut [u8], at: usize, plan: ClockConfig) -> usize
     ensures { λ r. ⌜ Placed (now (out .entry)) at (planLine plan) r (now (out .exit)) ⌝ }
 {
@@ -167,7 +167,7 @@ fn put_words(out: &mut [u8], at: usize, plan: ClockConfig, reading: u8) -> usize
     put_plan(out, at, plan)
 }
 
-// A refusal's number on a line, and its meaning on the next, behind the name of what is refused.
+// Puts a refusal's number on a line, and on the next its meaning after the name of what is refused.
 pub fn put_refused(out: &mut [u8], at: usize, what: &[u8], number: u8) -> usize
     ensures { λ r. ⌜ Placed (now (out .entry)) at (refusedLines (now (what .entry)) number) r (now (out .exit)) ⌝ }
 {
@@ -179,7 +179,7 @@ pub fn put_refused(out: &mut [u8], at: usize, what: &[u8], number: u8) -> usize
     text::put_byte(out, at, b'\n')
 }
 
-// The sheet that was written at a reading, in words; or 18 or 26 with its meaning.
+// Puts the sheet that was written at a reading in words, or its refusal, 18 or 26, with its meaning.
 pub fn explain(out: &mut [u8], at: usize, reading: u8, sheet: &[u8]) -> usize
     ensures { λ r. ⌜ Placed (now (out .entry)) at (explainText reading (now (sheet .entry))) r (now (out .exit)) ⌝ }
 {

@@ -1,4 +1,5 @@
--- `step_words::next_of` meets its contract.
+-- `step_words::next_of` meets its contract: a step leads to the next position, anything else to the end; both are past the
+-- position and at most the end.
 use native.Mathlib.Omega.{arith}
 use borrow.Author.Needs.{needs}
 use Rattle.step_words.proofs.next_of.Statement.{statement}

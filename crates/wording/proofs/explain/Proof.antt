@@ -1,4 +1,5 @@
--- `wording::explain` meets its contract.
+-- `wording::explain` meets its contract: the answer of `read_sheet` decides: a plan goes to `put_words`, a refusal to
+-- `put_refused`.
 use Rattle.wording.specs.Words.{explainText}
 use borrow.Author.Needs.{needs}
 use Rattle.wording.proofs.explain.Statement.{statement}

@@ -1,4 +1,5 @@
--- `wording::put_left_out` meets its contract.
+-- `wording::put_left_out` meets its contract: the chip and the four tests for an absent clock carry their equations on to the
+-- phrase.
 use Rattle.wording.specs.Words.{leftOutText}
 use borrow.Author.Needs.{needs}
 use Rattle.wording.proofs.put_left_out.Statement.{statement}

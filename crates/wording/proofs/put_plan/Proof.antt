@@ -1,4 +1,4 @@
--- `wording::put_plan` meets its contract.
+-- `wording::put_plan` meets its contract: the word, the numbers and the newline are put one after another.
 use Rattle.base.proofs.Placing.{placed-append}
 use Rattle.wording.specs.Words.{planLine}
 use borrow.Author.Needs.{needs}

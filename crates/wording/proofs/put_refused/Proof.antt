@@ -1,4 +1,4 @@
--- `wording::put_refused` meets its contract.
+-- `wording::put_refused` meets its contract: six texts are put one after another.
 use Rattle.base.proofs.Placing.{placed-append}
 use Rattle.wording.specs.Words.{refusedLines}
 use borrow.Author.Needs.{needs}

@@ -1,4 +1,5 @@
--- `wording::put_setting` meets its contract.
+-- `wording::put_setting` meets its contract: `line-is` turns the settings and frequencies of the plan into its line; `put_source`
+-- has 0 to 6, `put_clock` the rest.
 use borrow.Author.Needs.{needs}
 use Rattle.wording.proofs.{Lines.line-is, put_setting.Statement.statement}
 use Rattle.wording.proofs.put_setting.Tie as tie

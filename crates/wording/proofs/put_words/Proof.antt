@@ -1,4 +1,5 @@
--- `wording::put_words` meets its contract.
+-- `wording::put_words` meets its contract: three texts are put one after another, the second from the settings that `settings_of`
+-- gives.
 use Rattle.base.proofs.Placing.{placed-append}
 use Rattle.wording.specs.Words.{wordsOf}
 use borrow.Author.Needs.{needs}

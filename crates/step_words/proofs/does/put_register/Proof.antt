@@ -1,4 +1,4 @@
--- `step_words::does::put_register` meets its contract.
+-- `step_words::does::put_register` meets its contract: three texts are put one after another: verb, name, address.
 use borrow.Author.Needs.{needs}
 use Rattle.base.proofs.Placing.{placed-append}
 use Rattle.step_words.specs.Does.{registerText}

@@ -1,4 +1,4 @@
--- `step_words::does::put_word` meets its contract.
+-- `step_words::does::put_word` meets its contract: the four bytes of the number, highest first, are put in hex after the text.
 use borrow.Author.Needs.{needs}
 use Rattle.base.proofs.Placing.{placed-append}
 use Rattle.step_words.specs.Does.{wordText}

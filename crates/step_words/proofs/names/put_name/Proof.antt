@@ -1,4 +1,4 @@
--- `step_words::names::put_name` meets its contract.
+-- `step_words::names::put_name` meets its contract: the chip picks the table.
 use borrow.Author.Needs.{needs}
 use Rattle.step_words.proofs.names.put_name.Statement.{statement}
 use Rattle.step_words.proofs.names.put_name.Tie as tie
