@@ -1,4 +1,4 @@
--- What `init` answers of an ordered plan is what is made of the order.
+-- A call of `init` with the ordered plan is a call of `make` with its order; a refused order, or none, changes nothing.
 use mathlib.Core.{Path._≡_, Path.refl, Path.sym, Path.ap, Path._∙_, List.List, Option.none, Option.some}
 use Prim.Native.Nat.{ℕ}
 use Rattle.base.specs.Answer.{value, refusal, lengthIs}

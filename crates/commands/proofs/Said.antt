@@ -1,4 +1,4 @@
--- An answer of at most 4096 bytes is held whole.
+-- The buffer of 4096 bytes holds an answer of at most that length whole.
 use mathlib.Core.{Path._≡_, Path.refl, Path.ap, Path._∙_, List.List}
 use Prim.Native.Nat.{ℕ, _≤_, min}
 use native.Mathlib.{Nat.zero-add, Omega.arith}

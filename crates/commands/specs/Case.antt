@@ -1,4 +1,4 @@
--- A case of docs/CASES.md: its answer and a newline, and where it is a refusal, the meaning on a line of its own.
+-- A case of docs/CASES.md gives its answer and a newline; where the answer is a refusal, its meaning is on a line of its own.
 use mathlib.Core.{Bool.Bool, Bool._||_, List.List, List.[], List._++_}
 use Prim.Native.Nat.{ℕ, min}
 use lib.{ListN.take, ListN.replicate, Seq.sets}
@@ -9,20 +9,20 @@ use Rattle.meanings.specs.Refusals.{refusalText}
 use Rattle.orders.specs.{Line.wordAfter, Orders.isOrder}
 use Rattle.commands.specs.Texts.{usageText}
 
--- the cases of numbers alone
+-- the names of the cases that take numbers only
 unfoldable pub isPlain : List ℕ → Bool
 isPlain w =
     ((((((((((same w (ascii "valid") || same w (ascii "output")) || same w (ascii "search")) || same w (ascii "usb_pll"))
     || same w (ascii "book")) || same w (ascii "margin")) || same w (ascii "voltage")) || same w (ascii "pio"))
     || same w (ascii "gpout")) || same w (ascii "wait")) || same w (ascii "list"))
 
--- those of sheets, runners, benches and slots
+-- the names of the cases of sheets, runners, benches and slots
 unfoldable pub isState : List ℕ → Bool
 isState w =
     (((((((same w (ascii "sheet") || same w (ascii "read")) || same w (ascii "start")) || same w (ascii "run"))
     || same w (ascii "bench_start")) || same w (ascii "bench_run")) || same w (ascii "sleep")) || same w (ascii "wake"))
 
--- and the presets, which have the names of orders
+-- a case has one of these names or, for a preset, the name of an order
 unfoldable pub isCase : List ℕ → Bool
 isCase w = (isPlain w || isState w) || isOrder w
 
@@ -36,14 +36,14 @@ abbrev pub numberMeaning : Answer ℕ → List ℕ
 numberMeaning (value n) = refusalText (min n 255) ++ ascii "\n"
 numberMeaning (refusal m) = []
 
--- of `refused N`, whatever follows
+-- the meaning of `refused N`, whatever follows it; any other answer has none
 unfoldable pub meaningOf : List ℕ → List ℕ
 meaningOf said = pick (same (upTo 32 said) (ascii "refused")) (numberMeaning (numberOf (wordAfter said 7))) []
 
 unfoldable pub saidText : List ℕ → List ℕ → List ℕ
 saidText line said = pick (same said (ascii "bad case")) (noCase (upTo 32 line)) (said ++ (ascii "\n" ++ meaningOf said))
 
--- what a buffer of 4096 bytes holds of an answer: all of it where it has no more
+-- what a buffer of 4096 bytes holds of an answer: all of it, unless it is longer
 unfoldable pub held : List ℕ → List ℕ
 held said = take (past (replicate 4096 0) 0 said) (sets (replicate 4096 0) 0 said)
 

@@ -1,4 +1,4 @@
--- The text door: what is answered to a line.
+-- The text interface: the answer to a line (docs/PROGRAMS.md, Program dizbaral).
 use mathlib.Core.{List.List, Option.Option, Option.none, Option.some}
 use Prim.Native.Nat.{ℕ}
 use lib.{Dec.eqb, ListN.length, ListN.take}
@@ -13,14 +13,14 @@ use Rattle.orders.specs.{Line.endAfter, Orders.unread, Orders.orderOf}
 use Rattle.verdict.specs.Verdict.{checkText}
 use Rattle.commands.specs.{Texts.helpText, Texts.usageText, Case.caseOf}
 
--- the number of a command: 0 help, which an empty word is too, 1 explain, 2 steps, 3 check; 4 where there is none
+-- the number of a command: 0 help, also for an empty word, 1 explain, 2 steps, 3 check; 4 is no command
 unfoldable pub commandNamed : List ℕ → ℕ
 commandNamed word =
     pick (eqb (length word) 0) 0
     (pick (same word (ascii "help")) 0 (pick (same word (ascii "explain")) 1
     (pick (same word (ascii "steps")) 2 (pick (same word (ascii "check")) 3 4))))
 
--- READING SHEET
+-- `explain` takes READING SHEET
 abbrev pub explained : List ℕ → List ℕ → List ℕ
 explained n bytes = explainText (byteAt n 0) (take (nth n 1) bytes)
 
@@ -31,7 +31,7 @@ explainRead none = usageText 1
 unfoldable pub explainOf : List ℕ → ℕ → List ℕ
 explainOf line at = explainRead (given line (ascii "bx") at unread)
 
--- SHEET
+-- `steps` takes SHEET
 abbrev pub listed : List ℕ → List ℕ → List ℕ
 listed n bytes = stepsText (take (nth n 0) bytes)
 
@@ -42,7 +42,7 @@ stepsRead none = usageText 2
 unfoldable pub stepsOf : List ℕ → ℕ → List ℕ
 stepsOf line at = stepsRead (given line (ascii "x") at unread)
 
--- READING SHEET ORDER
+-- `check` takes READING SHEET ORDER
 abbrev pub checked : ℕ → List ℕ → Option (Answer ClockConfig) → List ℕ
 checked reading sheet (some order) = checkText reading sheet order
 checked reading sheet none = usageText 3
@@ -67,6 +67,6 @@ byCommand k line =
     (pick (eqb k 1) (explainOf line at)
     (pick (eqb k 2) (stepsOf line at) (pick (eqb k 3) (checkOf line at) (caseOf line))))
 
--- by its first word; any other line is a case
+-- the first word picks the command; a line whose first word is no command is a case
 unfoldable pub answerOf : List ℕ → List ℕ
 answerOf line = byCommand (commandNamed (upTo 32 line)) line

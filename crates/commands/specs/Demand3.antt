@@ -18,7 +18,8 @@ settingsIn none reading = none
 abbrev pub settingsMade : List ℕ → Option Settings
 settingsMade line = settingsIn (orderMade line) (readingMade line)
 
--- Two calls at one reading, of any two orders, with any two buffers, that answered lengths.
+-- Two calls at one reading, of any two orders, with any two buffers, that answered lengths: the lengths and the bytes up to them
+-- are equal exactly when the settings are.
 abbrev pub MakeSheets : Type 0
 MakeSheets =
     (line line′ b b′ c c′ : List ℕ) (r s : Made) (m n : ℕ)

@@ -1,4 +1,4 @@
--- A sheet made of the words READING ORDER.
+-- `make` writes the sheet of an order at a reading; its words are READING ORDER.
 use mathlib.Core.{Path._≡_, List.List, Option.Option, Option.none, Option.some}
 use Prim.Native.Nat.{ℕ}
 use lib.Dec.{ltb}
@@ -29,7 +29,7 @@ madeBuffer (some (value plan)) reading buffer = initBuffer plan reading buffer
 madeBuffer (some (refusal n)) reading buffer = buffer
 madeBuffer none reading buffer = buffer
 
--- a plan that there is has numbers of their types
+-- the settings of an ordered plan are within their types
 abbrev pub TypedOrder : Option (Answer ClockConfig) → ℕ → Type 0
 TypedOrder (some (value plan)) reading = Typed (settingsOf plan reading)
 TypedOrder (some (refusal n)) reading = Unit {0}
@@ -42,7 +42,7 @@ pub record MadeCall (order : Option (Answer ClockConfig)) (reading : ℕ) (befor
     pub bytes : after ≡ madeBuffer order reading before
     pub typed : TypedOrder order reading
 
--- the order at a reading, which has 8 bits
+-- the order at a reading of up to 255; none for any other reading
 abbrev pub orderIn : Answer ℕ → List ℕ → ℕ → Option (Answer ClockConfig)
 orderIn (value n) line at = pick (ltb 255 n) none (orderOf line at n)
 orderIn (refusal m) line at = none

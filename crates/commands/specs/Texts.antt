@@ -1,4 +1,4 @@
--- The texts that are no answer: help, and what a command takes.
+-- The fixed texts: help, and the usage of each command.
 use mathlib.Core.List.{List, [], _∷_}
 use Prim.Native.{Nat.ℕ, String.String}
 use lib.Dec.{eqb}
@@ -6,7 +6,7 @@ use Rattle.base.specs.Choice.{pick}
 use Rattle.text.specs.Ascii.{ascii}
 use Rattle.meanings.specs.Rows.{linesOf}
 
--- what there is, in one screen
+-- the commands and the forms of an order, on one screen
 abbrev pub helpLines : List String
 helpLines =
     "Clock sheets of the RP2040 and the RP235x."
@@ -38,7 +38,8 @@ helpLines =
 unfoldable pub helpText : List ℕ
 helpText = linesOf helpLines
 
--- words that a command does not take, and what it takes: 1 explain, 2 steps, 3 check, 4 make, any other a case
+-- the answer to words that a command does not take, with those that it takes: 1 explain, 2 steps, 3 check, 4 make, any other a
+-- case
 unfoldable pub usageText : ℕ → List ℕ
 usageText k =
     pick (eqb k 1) (ascii "bad case\nexplain takes READING SHEET: see dizbaral help\n")

@@ -1,4 +1,4 @@
-// A case of docs/CASES.md, with the meaning of its refusal.
+// Answers a case of docs/CASES.md, with the meaning of its refusal.
 use crate::texts::put_usage;
 use base::Number;
 ghost use mathlib.Core.Path.{_≡_};
@@ -6,7 +6,7 @@ ghost use Rattle.base.specs.Placed.{Placed};
 ghost use Rattle.base.specs.Answer.{numberIs};
 ghost use Rattle.commands.specs.Case.{isPlain, isState, isCase, unknownText, numberMeaning, meaningOf, noCase, saidText, caseOf};
 
-// The cases of numbers alone.
+// Whether a word is the name of a case that takes numbers only.
 fn is_plain(word: &[u8]) -> bool
     ensures { λ r. ⌜ r ≡ isPlain (now (word .entry)) ⌝ }
 {
@@ -23,7 +23,7 @@ fn is_plain(word: &[u8]) -> bool
         | text::same_bytes(word, b"list")
 }
 
-// Those of plans, sheets and states.
+// Whether a word is the name of a case of sheets, runners, benches or slots.
 fn is_state(word: &[u8]) -> bool
     ensures { λ r. ⌜ r ≡ isState (now (word .entry)) ⌝ }
 {
@@ -37,13 +37,14 @@ fn is_state(word: &[u8]) -> bool
         | text::same_bytes(word, b"wake")
 }
 
+// Whether a word is the name of a case; the presets have the names of orders.
 fn is_case(word: &[u8]) -> bool
     ensures { λ r. ⌜ r ≡ isCase (now (word .entry)) ⌝ }
 {
     (is_plain(word) | is_state(word)) | orders::is_order(word)
 }
 
-// A first word that is no command's and no case's.
+// The answer to a first word that names no command and no case.
 fn put_unknown(out: &mut [u8], word: &[u8]) -> usize
     ensures { λ r. ⌜ Placed (now (out .entry)) 0 (unknownText (now (word .entry))) r (now (out .exit)) ⌝ }
 {
@@ -52,7 +53,7 @@ fn put_unknown(out: &mut [u8], word: &[u8]) -> usize
     text::put_bytes(out, at, b"\nsee dizbaral help\n")
 }
 
-// The meaning of a refusal, where there is a number.
+// The meaning of a refusal and a newline, where its number was read.
 fn put_number(out: &mut [u8], at: usize, number: Number) -> usize
     ensures { λ r. ⌜ Placed (now (out .entry)) at (numberMeaning (numberIs number)) r (now (out .exit)) ⌝ }
 {
@@ -65,7 +66,7 @@ fn put_number(out: &mut [u8], at: usize, number: Number) -> usize
     }
 }
 
-// The meaning of what was answered, where it begins with `refused` and a number.
+// The meaning of an answer that begins with `refused` and a number.
 fn put_meaning(out: &mut [u8], at: usize, said: &[u8]) -> usize
     ensures { λ r. ⌜ Placed (now (out .entry)) at (meaningOf (now (said .entry))) r (now (out .exit)) ⌝ }
 {
@@ -75,7 +76,7 @@ fn put_meaning(out: &mut [u8], at: usize, said: &[u8]) -> usize
     base::least(at, out.len())
 }
 
-// Where a line is no case: what it takes, or that there is none of its name.
+// The answer to a line that is no case: the usage of a case, or that its first word is unknown.
 fn put_no_case(out: &mut [u8], word: &[u8]) -> usize
     ensures { λ r. ⌜ Placed (now (out .entry)) 0 (noCase (now (word .entry))) r (now (out .exit)) ⌝ }
 {
@@ -85,7 +86,7 @@ fn put_no_case(out: &mut [u8], word: &[u8]) -> usize
     put_unknown(out, word)
 }
 
-// What a case was answered, and a refusal's meaning after it.
+// The answer to a case, and the meaning of a refusal after it.
 fn put_said(line: &[u8], said: &[u8], out: &mut [u8]) -> usize
     ensures { λ r. ⌜ Placed (now (out .entry)) 0 (saidText (now (line .entry)) (now (said .entry))) r (now (out .exit)) ⌝ }
 {
@@ -97,7 +98,7 @@ fn put_said(line: &[u8], said: &[u8], out: &mut [u8]) -> usize
     put_meaning(out, at, said)
 }
 
-// The answer to a case, of which at most 4096 bytes are kept, as program `answers` prints it.
+// Puts the answer to a case as the program `answers` prints it, at most 4096 bytes, and the meaning of a refusal after it.
 pub(crate) fn put_case(line: &[u8], out: &mut [u8]) -> usize
     ensures { λ r. ⌜ Placed (now (out .entry)) 0 (caseOf (now (line .entry))) r (now (out .exit)) ⌝ }
 {

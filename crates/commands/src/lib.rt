@@ -1,4 +1,4 @@
-// The text door: a line in, a text out, each of its lines closed by a newline.
+// The text interface: a line in, a text out. Each line of the text ends in a newline.
 mod case;
 mod made;
 mod texts;
@@ -17,7 +17,7 @@ ghost use Rattle.orders.specs.Orders.{orderIs};
 ghost use Rattle.commands.specs.Commands.{commandNamed, explained, explainOf, listed, stepsOf};
 ghost use Rattle.commands.specs.Commands.{checked, comparedOf, checkOf, answerOf};
 
-// The number of the command with this name: 0 help, which no name is too, 1 explain, 2 steps, 3 check; 4 where there is none.
+// The number of the command with this name: 0 help, also for an empty word, 1 explain, 2 steps, 3 check; 4 is no command.
 fn command(word: &[u8]) -> u8
     ensures { λ r. ⌜ r ≡ commandNamed (now (word .entry)) ⌝ }
 {
@@ -47,7 +47,7 @@ fn put_explained(n: &[u32; 128], bytes: &[u8; 2048], out: &mut [u8]) -> usize
     wording::explain(out, 0, byte_at(n, 0), sheet)
 }
 
-// READING SHEET
+// `explain` takes READING SHEET.
 fn put_explain(line: &[u8], at: usize, out: &mut [u8]) -> usize
     ensures { λ r. ⌜ Placed (now (out .entry)) 0 (explainOf (now (line .entry)) at) r (now (out .exit)) ⌝ }
 {
@@ -68,7 +68,7 @@ fn put_listed(n: &[u32; 128], bytes: &[u8; 2048], out: &mut [u8]) -> usize
     step_words::put_steps(out, 0, sheet)
 }
 
-// SHEET
+// `steps` takes SHEET.
 fn put_list(line: &[u8], at: usize, out: &mut [u8]) -> usize
     ensures { λ r. ⌜ Placed (now (out .entry)) 0 (stepsOf (now (line .entry)) at) r (now (out .exit)) ⌝ }
 {
@@ -81,7 +81,7 @@ fn put_list(line: &[u8], at: usize, out: &mut [u8]) -> usize
     }
 }
 
-// A sheet compared with an order.
+// A sheet compared with an order; the usage of `check` where the words are no order.
 fn put_checked(reading: u8, sheet: &[u8], order: Order, out: &mut [u8]) -> usize
     ensures { λ r. ⌜ Placed (now (out .entry)) 0 (checked reading (now (sheet .entry)) (orderIs order)) r (now (out .exit)) ⌝ }
 {
@@ -92,7 +92,7 @@ fn put_checked(reading: u8, sheet: &[u8], order: Order, out: &mut [u8]) -> usize
     }
 }
 
-// The same from the numbers and the bytes that were read, with the order behind the word that ends at `at`.
+// The same from the numbers and the bytes that were read, with the order after the word that ends at `at`.
 fn put_compared(n: &[u32; 128], bytes: &[u8; 2048], line: &[u8], at: usize, out: &mut [u8]) -> usize
     ensures { λ r. ⌜ Placed (now (out .entry)) 0 (comparedOf (now (n .entry)) (now (bytes .entry)) (now (line .entry)) at) r (now (out .exit)) ⌝ }
 {
@@ -101,7 +101,7 @@ fn put_compared(n: &[u32; 128], bytes: &[u8; 2048], line: &[u8], at: usize, out:
     put_checked(reading, sheet, orders::read_order(line, at, reading), out)
 }
 
-// READING SHEET ORDER
+// `check` takes READING SHEET ORDER.
 fn put_check(line: &[u8], at: usize, out: &mut [u8]) -> usize
     ensures { λ r. ⌜ Placed (now (out .entry)) 0 (checkOf (now (line .entry)) at) r (now (out .exit)) ⌝ }
 {
@@ -115,7 +115,7 @@ fn put_check(line: &[u8], at: usize, out: &mut [u8]) -> usize
     }
 }
 
-// Answers a line: the answer is put at the buffer's start, and the index past it is returned.
+// Puts the answer to a line at the start of the buffer and returns the index past it. Refusals are part of the text.
 pub fn answer(line: &[u8], out: &mut [u8]) -> usize
     ensures { λ r. ⌜ Placed (now (out .entry)) 0 (answerOf (now (line .entry))) r (now (out .exit)) ⌝ }
 {

@@ -1,4 +1,4 @@
-// A sheet made of an order.
+// Writes the sheet of an order.
 use base::Length;
 use base::Number;
 use orders::Order;
@@ -7,14 +7,14 @@ ghost use Rattle.base.specs.Answer.{numberIs};
 ghost use Rattle.orders.specs.Orders.{orderIs};
 ghost use Rattle.commands.specs.Made.{MadeCall, readingIn, orderIn, MakeCall};
 
-// How many bytes were written, a refusal by its number, or Bad where the words are not READING ORDER.
+// The number of bytes written, the number of a refusal, or Bad where the words are not READING ORDER.
 pub enum Made {
     Length(usize),
     Refused(u8),
     Bad,
 }
 
-// The sheet of what is ordered.
+// Writes the sheet of the ordered plan.
 fn write(order: Order, reading: u8, sheet: &mut [u8]) -> Made
     ensures { λ r. ⌜ MadeCall (orderIs order) reading (now (sheet .entry)) r (now (sheet .exit)) ⌝ }
 {
@@ -28,7 +28,7 @@ fn write(order: Order, reading: u8, sheet: &mut [u8]) -> Made
     }
 }
 
-// The same at a reading that was read.
+// Writes the sheet of the order after index `at`; Bad for a reading that is no number or over 255.
 fn write_at(reading: Number, line: &[u8], at: usize, sheet: &mut [u8]) -> Made
     ensures { λ r. ⌜ MadeCall (orderIn (numberIs reading) (now (line .entry)) at) (readingIn (numberIs reading)) (now (sheet .entry)) r (now (sheet .exit)) ⌝ }
 {

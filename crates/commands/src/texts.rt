@@ -1,8 +1,8 @@
-// The texts that are no answer: help, and what a command takes.
+// The fixed texts: help, and the usage of each command.
 ghost use Rattle.base.specs.Placed.{Placed};
 ghost use Rattle.commands.specs.Texts.{helpText, usageText};
 
-// What there is, in one screen.
+// Puts the commands and the forms of an order, on one screen.
 pub(crate) fn put_help(out: &mut [u8]) -> usize
     ensures { λ r. ⌜ Placed (now (out .entry)) 0 helpText r (now (out .exit)) ⌝ }
 {
@@ -36,7 +36,8 @@ pub(crate) fn put_help(out: &mut [u8]) -> usize
     )
 }
 
-// Words that a command does not take, and what it takes: 1 explain, 2 steps, 3 check, 4 make, any other a case.
+// Puts the answer to words that a command does not take, with those that it takes: 1 explain, 2 steps, 3 check, 4 make, any other
+// a case.
 pub fn put_usage(out: &mut [u8], command: u8) -> usize
     ensures { λ r. ⌜ Placed (now (out .entry)) 0 (usageText command) r (now (out .exit)) ⌝ }
 {

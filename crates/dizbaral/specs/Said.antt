@@ -1,4 +1,4 @@
--- What is said of a sheet that was made, and why a file is not read or written.
+-- The messages about a sheet that was made, and about a file that is not read or written.
 use mathlib.Core.List.{List, _++_}
 use Prim.Native.Nat.{ℕ}
 use lib.Dec.{eqb}
@@ -14,7 +14,7 @@ madeText (Length n) = ascii "made " ++ (decimalOf n ++ ascii " bytes\n")
 madeText (Refused n) = refusedLines (ascii "order: ") n
 madeText Bad = usageText 4
 
--- five reasons by their numbers; any other is unknown
+-- five reasons have numbers; any other number has the last text
 unfoldable pub reasonText : ℕ → List ℕ
 reasonText why =
     pick (eqb why 1) (ascii "there is no such file\n")
@@ -26,6 +26,6 @@ reasonText why =
 unfoldable pub troubleLine : List ℕ → ℕ → List ℕ
 troubleLine name why = name ++ (ascii ": " ++ reasonText why)
 
--- the file that is written beside another
+-- the name of the new file that will replace another
 abbrev pub newName : List ℕ → List ℕ
 newName path = path ++ ascii ".new"

@@ -1,14 +1,14 @@
-// Arguments and files, as the system has them.
+// Reads arguments and files, and writes files, by the calls of the operating system.
 use crate::said;
 use libc::STDOUT_FILENO;
 
-// The index past what was joined, or Stopped where a line said why not.
+// The index past what was joined, or Stopped after an error message.
 pub(crate) enum Joined {
     To(usize),
     Stopped,
 }
 
-// Why a file is not read or written, by the system's number; 6 for one that has no words of its own.
+// The reason why a file is not read or written, from the system's error number; 6 for any other error.
 fn reason(error: i32) -> u8 {
     if error == libc::ENOENT {
         return 1;
@@ -29,7 +29,7 @@ fn print_line(out: &[u8; 4200], size: usize) {
     io::write_all(STDOUT_FILENO, base::first(out, size));
 }
 
-// Prints which file, and why not.
+// Prints the name of a file and the reason why it is not read or written.
 fn complain(name: &[u8], why: u8) {
     let mut out = [0u8; 4200];
     let size = said::put_trouble(&mut out, name, why);
@@ -41,7 +41,7 @@ pub(crate) fn too_long() -> Joined {
     Joined::Stopped
 }
 
-// Why an open file gave no bytes: 0 where it has none. A directory opens, and its read says what it is.
+// Why an open file gave no bytes: 0 where it is empty. A directory can be opened, and only the read reports it.
 fn unread(fd: i32) -> u8 {
     let mut more = [0u8; 1];
     if libc::read(fd, &mut more) < 0 {
@@ -54,7 +54,7 @@ fn join_bytes(line: &mut [u8], at: usize, bytes: &[u8; 2049], n: usize) -> Joine
     Joined::To(text::put_hex(line, at, base::first(bytes, n)))
 }
 
-// Puts the bytes of an open file into the line in hex, and closes it.
+// Puts the bytes of an open file into the line in hex, and closes the file.
 fn join_open(line: &mut [u8], at: usize, fd: i32, name: &[u8]) -> Joined {
     let mut bytes = [0u8; 2049];
     let n = io::read_full(fd, &mut bytes);
@@ -80,13 +80,13 @@ fn join_file(line: &mut [u8], at: usize, name: &[u8]) -> Joined {
     join_open(line, at, fd, name)
 }
 
-// A word of the line: an argument, or the bytes of the file that it names.
+// Puts a word into the line: an argument, or for @FILE the bytes of the file.
 fn join_word(line: &mut [u8], at: usize, word: &[u8]) -> Joined {
     if word.len() == 0 {
         return Joined::To(at);
     }
     if word[0] == b'@' {
-        // No file has an empty name, so the sign itself is named.
+        // No file has an empty name, so the message names the sign itself.
         if word.len() == 1 {
             complain(word, 1);
             return Joined::Stopped;
@@ -143,7 +143,7 @@ fn write_open(fd: i32, bytes: &[u8]) -> bool {
     whole & (closed == 0)
 }
 
-// Moves a new file to its place; where it was not written whole, or cannot be moved, it is removed.
+// Renames a new file to its path; removes it where it was not written whole or cannot be renamed.
 fn put_in_place(name: &[u8], path: &[u8], is_whole: bool) -> bool {
     if is_whole {
         if os::rename(name, path) == 0 {
@@ -156,7 +156,7 @@ fn put_in_place(name: &[u8], path: &[u8], is_whole: bool) -> bool {
     false
 }
 
-// Makes the new file and moves it to its place.
+// Creates the new file, writes it and renames it to its path.
 fn write_new(name: &[u8], path: &[u8], bytes: &[u8]) -> bool {
     let fd = os::create(name);
     if fd < 0 {
@@ -171,7 +171,7 @@ fn write_named(name: &[u8; 4200], n: usize, path: &[u8], bytes: &[u8]) -> bool {
     write_new(base::first(name, n), path, bytes)
 }
 
-// Replaces a file by these bytes: they are written beside it, and what was there is kept until they are whole.
+// Replaces a file by these bytes. They are written to a new file first, so the old file is kept until they are whole.
 pub(crate) fn replace(path: &[u8], bytes: &[u8]) -> bool {
     let mut name = [0u8; 4200];
     let n = said::put_new_name(&mut name, path);

@@ -1,5 +1,5 @@
-// One door at the shell: joins its arguments to a line, with the bytes of a file in hex where one is @FILE, and prints the
-// answer to it; `make FILE` writes a sheet to a file instead.
+// The shell command: joins its arguments to a line, in which the bytes of FILE in hex replace @FILE, and prints the answer to it.
+// `make FILE` writes a sheet to a file instead.
 mod files;
 mod said;
 
@@ -7,7 +7,7 @@ use commands::Made;
 use files::Joined;
 use libc::STDOUT_FILENO;
 
-// The longest line: two sheets in hex, and a plan's numbers.
+// The longest line has two sheets in hex, or one and the numbers of a plan.
 const LINE: usize = 16384;
 
 fn print(out: &[u8; 65536], size: usize) {
@@ -30,14 +30,14 @@ fn answer(count: usize) {
     }
 }
 
-// Prints what is said of a sheet that was made.
+// Prints the length of a sheet that was made, its refusal, or the usage of `make`.
 fn say(made: Made) {
     let mut out = io::large_buffer();
     let size = said::put_made(&mut out, made);
     print(&out, size);
 }
 
-// Writes a sheet that was made to its file, and prints how many bytes it has; a refusal or what `make` takes instead.
+// Writes a sheet that was made to its file and prints its length; otherwise prints the refusal or the usage of `make`.
 fn keep(path: &[u8], made: Made, sheet: &[u8]) {
     if let Made::Length(n) = made {
         if !files::replace(path, base::first(sheet, n)) {

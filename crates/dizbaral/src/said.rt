@@ -1,4 +1,4 @@
-// What is said of a sheet that was made, and why a file is not read or written.
+// The messages about a sheet that was made, and about a file that is not read or written.
 use commands::Made;
 ghost use mathlib.Core.Path.{_≡_};
 ghost use lib.ListN.{take};
@@ -13,7 +13,7 @@ pub(crate) fn is_make(word: &[u8; 8], n: usize) -> bool
     text::same_bytes(base::first(word, n), b"make")
 }
 
-// How many bytes a sheet has, its refusal, or what `make` takes.
+// Puts the length of a sheet, its refusal, or the usage of `make`.
 pub(crate) fn put_made(out: &mut [u8], made: Made) -> usize
     ensures { λ r. ⌜ Placed (now (out .entry)) 0 (madeText made) r (now (out .exit)) ⌝ }
 {
@@ -28,7 +28,7 @@ pub(crate) fn put_made(out: &mut [u8], made: Made) -> usize
     }
 }
 
-// Why a file is not read or written; 5 is one that is too long.
+// Puts the reason why a file is not read or written; 5 is a file that is too long.
 fn put_reason(out: &mut [u8], at: usize, why: u8) -> usize
     ensures { λ r. ⌜ Placed (now (out .entry)) at (reasonText why) r (now (out .exit)) ⌝ }
 {
@@ -42,7 +42,7 @@ fn put_reason(out: &mut [u8], at: usize, why: u8) -> usize
     }
 }
 
-// A line that says which file, and why not.
+// Puts a line with the name of a file and the reason.
 pub(crate) fn put_trouble(out: &mut [u8], name: &[u8], why: u8) -> usize
     ensures { λ r. ⌜ Placed (now (out .entry)) 0 (troubleLine (now (name .entry)) why) r (now (out .exit)) ⌝ }
 {
@@ -51,7 +51,7 @@ pub(crate) fn put_trouble(out: &mut [u8], name: &[u8], why: u8) -> usize
     put_reason(out, at, why)
 }
 
-// The name of the file that is written beside another.
+// Puts the name of the new file that will replace another.
 pub(crate) fn put_new_name(out: &mut [u8], path: &[u8]) -> usize
     ensures { λ r. ⌜ Placed (now (out .entry)) 0 (newName (now (path .entry))) r (now (out .exit)) ⌝ }
 {

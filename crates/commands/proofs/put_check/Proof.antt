@@ -1,4 +1,5 @@
--- `commands::put_check` meets its contract.
+-- `commands::put_check` meets its contract: the two word ends bound the words that are read, and their answer decides between
+-- `put_compared` and the usage text.
 use native.Mathlib.Omega.{arith}
 use borrow.Author.Needs.{needs}
 use lib.ListN.{length-take}

@@ -1,4 +1,4 @@
--- `commands::put_checked` meets its contract.
+-- `commands::put_checked` meets its contract: a plan and a refusal go to `verdict::check`, and Bad has the usage text put.
 use borrow.Author.Needs.{needs}
 use Rattle.commands.proofs.put_checked.Statement.{statement}
 use Rattle.commands.proofs.put_checked.Tie as tie

@@ -1,4 +1,5 @@
--- `commands::put_compared` meets its contract.
+-- `commands::put_compared` meets its contract: the sheet's first bytes, the reading and the order carry their equations on to
+-- `put_checked`.
 use borrow.Author.Needs.{needs}
 use Rattle.commands.specs.Commands.{comparedOf}
 use Rattle.commands.proofs.put_compared.Statement.{statement}

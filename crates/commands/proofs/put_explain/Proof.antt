@@ -1,4 +1,4 @@
--- `commands::put_explain` meets its contract.
+-- `commands::put_explain` meets its contract: the answer of `words::read` decides between `put_explained` and the usage text.
 use borrow.Author.Needs.{needs}
 use Rattle.commands.specs.Commands.{explainOf}
 use Rattle.commands.proofs.put_explain.Statement.{statement}

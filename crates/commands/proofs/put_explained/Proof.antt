@@ -1,4 +1,5 @@
--- `commands::put_explained` meets its contract.
+-- `commands::put_explained` meets its contract: the sheet's first bytes and the reading carry their equations on to
+-- `wording::explain`.
 use borrow.Author.Needs.{needs}
 use Rattle.commands.proofs.put_explained.Statement.{statement}
 use Rattle.commands.proofs.put_explained.Tie as tie

@@ -1,4 +1,4 @@
--- `commands::put_list` meets its contract.
+-- `commands::put_list` meets its contract: the answer of `words::read` decides between `put_listed` and the usage text.
 use borrow.Author.Needs.{needs}
 use Rattle.commands.specs.Commands.{stepsOf}
 use Rattle.commands.proofs.put_list.Statement.{statement}

@@ -1,4 +1,4 @@
--- `commands::put_listed` meets its contract.
+-- `commands::put_listed` meets its contract: the sheet's first bytes carry their equation on to `put_steps`.
 use borrow.Author.Needs.{needs}
 use Rattle.commands.proofs.put_listed.Statement.{statement}
 use Rattle.commands.proofs.put_listed.Tie as tie

@@ -1,4 +1,4 @@
--- `commands::case::is_case` meets its contract.
+-- `commands::case::is_case` meets its contract: the equations of the three tests are joined.
 use borrow.Author.Needs.{needs}
 use Rattle.commands.specs.Case.{isCase}
 use Rattle.commands.proofs.case.is_case.Statement.{statement}

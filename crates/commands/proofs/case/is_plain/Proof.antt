@@ -1,4 +1,4 @@
--- `commands::case::is_plain` meets its contract.
+-- `commands::case::is_plain` meets its contract: each `same_bytes` compares with one of the eleven names.
 use borrow.Author.Needs.{needs}
 use Rattle.commands.specs.Case.{isPlain}
 use Rattle.commands.proofs.case.is_plain.Statement.{statement}

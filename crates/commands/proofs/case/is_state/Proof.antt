@@ -1,4 +1,4 @@
--- `commands::case::is_state` meets its contract.
+-- `commands::case::is_state` meets its contract: each `same_bytes` compares with one of the eight names.
 use borrow.Author.Needs.{needs}
 use Rattle.commands.specs.Case.{isState}
 use Rattle.commands.proofs.case.is_state.Statement.{statement}

@@ -1,4 +1,5 @@
--- `commands::case::put_meaning` meets its contract.
+-- `commands::case::put_meaning` meets its contract: the first word decides: after `refused` the next word's meaning is put, after
+-- any other nothing is.
 use mathlib.Core.Path.{refl, sym, _∙_}
 use native.Mathlib.Omega.{arith}
 use borrow.Author.Needs.{needs}

@@ -1,4 +1,4 @@
--- `commands::case::put_no_case` meets its contract.
+-- `commands::case::put_no_case` meets its contract: `is_case` decides between the usage text and the text for an unknown name.
 use mathlib.Core.Path.{sym, _∙_}
 use borrow.Author.Needs.{needs}
 use Rattle.commands.specs.Case.{noCase}

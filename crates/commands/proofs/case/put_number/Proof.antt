@@ -1,4 +1,5 @@
--- `commands::case::put_number` meets its contract.
+-- `commands::case::put_number` meets its contract: a number, at most 255, has its meaning and a newline put; a word that is no
+-- number has nothing put.
 use mathlib.Core.Path.{refl}
 use native.Mathlib.Omega.{arith}
 use borrow.Author.Needs.{needs}

@@ -1,4 +1,5 @@
--- `commands::case::put_said` meets its contract.
+-- `commands::case::put_said` meets its contract: `bad case` decides: it goes to `put_no_case`, and any other answer has a newline
+-- and its meaning put after it.
 use mathlib.Core.Path.{sym, _∙_}
 use borrow.Author.Needs.{needs}
 use Rattle.base.proofs.Placing.{placed-append}

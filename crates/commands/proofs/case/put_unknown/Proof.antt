@@ -1,4 +1,4 @@
--- `commands::case::put_unknown` meets its contract.
+-- `commands::case::put_unknown` meets its contract: three texts are put one after another.
 use borrow.Author.Needs.{needs}
 use Rattle.base.proofs.Placing.{placed-append}
 use Rattle.commands.specs.Case.{unknownText}

@@ -1,4 +1,4 @@
--- `commands::made::make` meets its contract.
+-- `commands::made::make` meets its contract: the first word, its number and its end carry their equations on to `write_at`.
 use borrow.Author.Needs.{needs}
 use Rattle.commands.specs.Made.{orderMade, readingMade}
 use Rattle.commands.proofs.made.make.Statement.{statement}

@@ -1,4 +1,5 @@
--- `commands::made::write` meets its contract: what `init` answers of the ordered plan is what is made of the order.
+-- `commands::made::write` meets its contract: `made-length` and `made-refused` carry on the answer of `init` for the ordered
+-- plan.
 use borrow.Author.Needs.{needs}
 use Rattle.commands.proofs.Making.{made-length, made-refused, order-refused, order-bad}
 use Rattle.commands.proofs.made.write.Statement.{statement}

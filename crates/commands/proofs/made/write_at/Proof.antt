@@ -1,4 +1,5 @@
--- `commands::made::write_at` meets its contract.
+-- `commands::made::write_at` meets its contract: a reading over 255, or one that is no number, gives no order (`order-bad`); any
+-- other goes to `write`.
 use borrow.{Author.Needs.needs, Author.Tests.lt-ltb, Author.Tests.le-ltb}
 use Rattle.commands.proofs.Making.{order-bad}
 use Rattle.commands.proofs.made.write_at.Statement.{statement}

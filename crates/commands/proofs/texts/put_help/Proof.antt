@@ -1,4 +1,4 @@
--- `commands::texts::put_help` meets its contract.
+-- `commands::texts::put_help` meets its contract: the code's bytes are the lines of the definition joined.
 use borrow.Author.Needs.{needs}
 use Rattle.commands.specs.Texts.{helpText}
 use Rattle.commands.proofs.texts.put_help.Statement.{statement}

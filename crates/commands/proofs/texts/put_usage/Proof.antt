@@ -1,4 +1,5 @@
--- `commands::texts::put_usage` meets its contract.
+-- `commands::texts::put_usage` meets its contract: the number picks the text, and a number that is none of 1 to 4 has the text
+-- for a case.
 use borrow.{Author.Needs.needs, Author.Tests.ne-eqb}
 use Rattle.commands.specs.Texts.{usageText}
 use Rattle.commands.proofs.texts.put_usage.Statement.{statement}

@@ -1,4 +1,4 @@
--- `dizbaral::said::is_make` meets its contract.
+-- `dizbaral::said::is_make` meets its contract: `same_bytes` compares the first bytes with the name.
 use borrow.Author.Needs.{needs}
 use Rattle.dizbaral.proofs.said.is_make.Statement.{statement}
 use Rattle.dizbaral.proofs.said.is_make.Tie as tie

@@ -1,4 +1,4 @@
--- `dizbaral::said::put_made` meets its contract.
+-- `dizbaral::said::put_made` meets its contract: the answer picks the text; a length has three texts put one after another.
 use borrow.Author.Needs.{needs}
 use Rattle.base.proofs.Placing.{placed-append}
 use Rattle.dizbaral.proofs.said.put_made.Statement.{statement}

@@ -1,4 +1,4 @@
--- `dizbaral::said::put_new_name` meets its contract.
+-- `dizbaral::said::put_new_name` meets its contract: two texts are put one after another.
 use borrow.Author.Needs.{needs}
 use Rattle.base.proofs.Placing.{placed-append}
 use Rattle.dizbaral.proofs.said.put_new_name.Statement.{statement}

@@ -1,4 +1,5 @@
--- `dizbaral::said::put_reason` meets its contract.
+-- `dizbaral::said::put_reason` meets its contract: the number picks the text, and a number that is none of 1 to 5 has the last
+-- one.
 use borrow.{Author.Needs.needs, Author.Tests.ne-eqb}
 use Rattle.dizbaral.specs.Said.{reasonText}
 use Rattle.dizbaral.proofs.said.put_reason.Statement.{statement}

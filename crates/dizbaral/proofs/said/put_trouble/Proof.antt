@@ -1,4 +1,4 @@
--- `dizbaral::said::put_trouble` meets its contract.
+-- `dizbaral::said::put_trouble` meets its contract: three texts are put one after another: name, colon, reason.
 use borrow.Author.Needs.{needs}
 use Rattle.base.proofs.Placing.{placed-append}
 use Rattle.dizbaral.specs.Said.{troubleLine}
