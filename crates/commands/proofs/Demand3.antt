@@ -1,4 +1,4 @@
--- Demand 3 of `make`, from what it promises alone: a call that answered a length is one of `init`, of which demand 3 holds.
+-- Demand 3 holds for `make`, from its contract alone: a call that answered a length is a call of `init`, for which it holds.
 use mathlib.Core.{Path._≡_, Path.refl, Path.sym, Path.ap, Path._∙_, Logic._↔_, List.List, Option.Option, Option.none, Option.some}
 use Prim.Native.Nat.{ℕ}
 use native.Mathlib.Omega.{arith}

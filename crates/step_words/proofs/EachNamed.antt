@@ -1,5 +1,5 @@
--- Each access of each kind of either chip is of a register that has a name, and no pause is longer than 32 bits: kind by kind,
--- and for a PLL's registers both PLLs.
+-- Each register that a step of either chip uses has a name, and the cycles of each pause fit 32 bits. The proof goes kind by
+-- kind, and for a PLL's register over both PLLs.
 use mathlib.Core.{Path._≡_, Path.refl, Bool.Bool, Bool.true, Bool.false, List.List, List.[], List._∷_}
 use Prim.Native.Nat.{ℕ, zero, suc, _+_, _%_, _^_, _<_}
 use native.Mathlib.{Nat.add-zero, Nat.zero-add, Nat.mod-lt, Omega.arith}

@@ -1,5 +1,5 @@
--- Worked listings: the first step of the preset `crystal`'s sheet, a sheet of the RP235x with the chip mark and a step that only
--- this chip has there, one whose second step is of another chip, one whose second step has too few bytes, and the empty sheet.
+-- Five worked listings: the first step of the sheet of the preset `crystal`; the chip mark and a step that only the RP235x has; a
+-- second step that the chip does not have; a second step with too few bytes; and the empty sheet.
 use mathlib.Core.{Path._≡_, Path.refl, List.List, List.[], List._∷_, List._++_}
 use Prim.Native.{Nat.ℕ, String.String}
 use Rattle.text.specs.{Ascii.ascii, Decimal.decimalOf, Hex.hexOf}

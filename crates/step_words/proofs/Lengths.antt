@@ -1,5 +1,5 @@
--- How long a listing can be. A step's text is bounded kind by kind: a field of w bits is printed with at most w * 3 / 10 + 1
--- digits, which a computed test shows for each width of the table.
+-- The length of a step's text is bounded kind by kind: a field of w bits is printed with at most w * 3 / 10 + 1 digits, which a
+-- computed test shows for each width of the table.
 use mathlib.Core.{Path._≡_, Path.refl, Bool.Bool, Bool.true, Bool.false, Bool._&&_}
 use mathlib.Core.List.{List, [], _∷_, _++_, map}
 use Prim.Native.{Nat.ℕ, Nat.zero, Nat.suc, Nat._+_, Nat._*_, Nat._/_, Nat._%_, Nat._^_, Nat._≤_, Nat._<_, Nat.min, String.String}

@@ -1,4 +1,4 @@
--- How long a line and a listing can be, so that a caller can lend a buffer in which nothing is dropped.
+-- A line and a listing have a greatest length, so a caller can lend a buffer that holds the whole listing.
 use mathlib.Core.{Path._≡_, Path.refl, Bool.Bool, Bool.true, Bool.false, List.List, List.[], List._∷_, List._++_}
 use Prim.Native.Nat.{ℕ, zero, suc, _+_, _*_, _/_, _^_, _≤_, _<_}
 use native.Mathlib.Omega.{arith}
@@ -100,7 +100,7 @@ pub listing-most : (sheet : List ℕ) → length sheet ≤ 8000 → length (step
 unfolding stepsText linesOf
 listing-most sheet few = lines-most (chipIn sheet) sheet 0 (linesOf sheet) (omega arith)
 
--- 528 bytes are a sheet's most, and 2048 a word's
+-- a sheet has at most 528 bytes, and a word in hex at most 2048
 pub listing-fits : (sheet : List ℕ)
     → (length sheet ≤ 528 → length (stepsText sheet) ≤ 10296) × (length sheet ≤ 2048 → length (stepsText sheet) ≤ 39936)
 unfolding linesOf

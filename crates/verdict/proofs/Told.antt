@@ -1,5 +1,5 @@
 -- A sheet is read back to a plan that gives it, and no setting differs exactly where the two plans have the same settings and
--- so the same sheet: `as ordered` is said of the ordered plan's bytes alone.
+-- so the same sheet. So the verdict is `as ordered` for the ordered plan's bytes only.
 use mathlib.Core.{Path._≡_, Path.refl, Path.sym, Path.ap, Path._∙_, Path.subst, Logic._↔_}
 use mathlib.Core.{Bool.Bool, Bool.true, Bool.false, Bool.not, List.List, List.[]}
 use Prim.Native.Nat.{ℕ, _<_}
