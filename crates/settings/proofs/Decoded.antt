@@ -1,4 +1,4 @@
--- The codes of ranges and sources: each is read back, and each fits the bits of its field.
+-- Each code of a range or a source decodes to the range or the source that it was made of, and fits the bits of its field.
 use mathlib.Core.{Path._≡_, Path.refl, Bool.Bool, Bool.true, Bool.false}
 use Prim.Native.Nat.{ℕ, _%_, _≤_, _<_}
 use native.Mathlib.Omega.{arith}
@@ -58,7 +58,7 @@ sys-code sysPllUsb = omega arith
 sys-code sysRosc = omega arith
 sys-code sysXosc = omega arith
 
--- the chip's part of a plan is read back from its numbers
+-- The chip-specific part of a plan is read back from the board's numbers: its voltage code is known.
 pub chip-back : (c : ChipConfig)
     → chipFrom (boardOf c .chip) (boardOf c .code) (boardOf c .whole) (boardOf c .fraction) (boardOf c .rtc) ≡ c
 chip-back (on2040 c) = rw (core-voltage-code Rp2040 (c .«core_voltage»))
@@ -68,7 +68,7 @@ pub board-small : (c : ChipConfig) → (boardOf c .code < 16) × (boardOf c .bro
 board-small (on2040 c) = (code-small Rp2040 (c .«core_voltage»), bod-small Rp2040 (c .«core_voltage»))
 board-small (on235x c) = (code-small Rp235x (c .«core_voltage»), bod-small Rp235x (c .«core_voltage»))
 
--- a divider from 1 to 4 is read back from its two bits
+-- A divider from 1 to 4 is read back from its two bits.
 abbrev pub Small : ℕ → Type 0
 Small d = (1 ≤ d) × (d ≤ 4)
 

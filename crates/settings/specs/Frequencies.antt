@@ -1,4 +1,5 @@
--- The frequency of each clock in Hz, 0 where it is absent: the ten values that a sheet stores.
+-- The frequency of each clock in Hz, 0 where it is absent (docs/FORMAT.md, Frequencies and delays).
+-- These are the ten values that a sheet stores.
 use Prim.Native.Nat.{ℕ, _/_}
 use mathlib.Core.List.{List, [], _∷_, _++_}
 use Rattle.chip.specs.declared.{Chip.Chip, Chip.the-variants.Rp2040, Chip.the-variants.Rp235x}
@@ -12,12 +13,12 @@ use Rattle.settings.specs.declared.{OptionCrystal.OptionCrystal, Setting
 use Rattle.settings.specs.declared.Frequencies.{Frequencies}
 use Rattle.settings.specs.Settings.{ringHz}
 
--- a plan with an invalid PLL is refused: its 0 Hz reaches no sheet
+-- An invalid PLL counts as 0 Hz; this value reaches no sheet, as the plan is refused with 5 or 6.
 unfoldable pub pllHz : ℕ → OptionPll → ℕ
 pllHz hz (OptionPll.Some p) = validHz p hz
 pllHz hz OptionPll.None = 0
 
--- what the clocks are made of
+-- The oscillators and the PLLs, which the crystal feeds: without a crystal all three have 0 Hz.
 unfoldable pub sourcesOf : OptionRosc → OptionCrystal → Sources
 sourcesOf r (OptionCrystal.Some x) =
     record {
@@ -43,7 +44,7 @@ sysSource f reference SysClkSrc.PllUsb = f .«pll_usb»
 sysSource f reference SysClkSrc.Rosc = f .rosc
 sysSource f reference SysClkSrc.Xosc = f .xosc
 
--- the divider is the board's, in the chip's scale
+-- Source × scale / (whole × scale + fraction), with scale 256 on the RP2040 and 65536 on the RP235x.
 unfoldable pub sysHz : Board → Sources → ℕ → SysClkSrc → ℕ
 sysHz b f reference src = dividedHz (factsOf (b .chip) .scale) (sysSource f reference src) (b .whole) (b .fraction)
 
@@ -58,14 +59,14 @@ abbrev pub periHz : Sources → ℕ → OptionPeri → ℕ
 periHz f system (OptionPeri.Some src) = periSource f system src
 periHz f system OptionPeri.None = 0
 
--- the source of USB, ADC and RTC
+-- The frequency of a source of USB, ADC or RTC.
 abbrev pub auxSource : Sources → AuxClkSrc → ℕ
 auxSource f AuxClkSrc.PllUsb = f .«pll_usb»
 auxSource f AuxClkSrc.PllSys = f .«pll_sys»
 auxSource f AuxClkSrc.Rosc = f .rosc
 auxSource f AuxClkSrc.Xosc = f .xosc
 
--- its frequency, 0 where the clock is absent
+-- The source of a clock that may be absent; 0 Hz where it is.
 abbrev pub auxSourceIn : Sources → OptionAux → ℕ
 auxSourceIn f (OptionAux.Some a) = auxSource f (a .src)
 auxSourceIn f OptionAux.None = 0
@@ -82,7 +83,7 @@ abbrev pub rtcHz : Sources → OptionRtc → ℕ
 rtcHz f (OptionRtc.Some r) = dividedHz 256 (auxSource f (r .src)) (r .«div_int») (r .«div_frac»)
 rtcHz f OptionRtc.None = 0
 
--- of settings
+-- The same frequencies for the settings of a plan.
 
 abbrev pub sourcesIn : Settings → Sources
 sourcesIn s = sourcesOf (s .rosc) (s .xosc)
@@ -108,7 +109,7 @@ frequenciesOf s =
       «rtc_source» = rtcSourceIn (sourcesIn s) (s .board .rtc);
     }
 
--- the nine that a sheet of either chip stores, in the order of the clocks
+-- The nine frequencies that a sheet of either chip stores, in the order of the clock numbers.
 abbrev pub nineOf : Frequencies → List ℕ
 nineOf f =
     f .sources .rosc
@@ -122,14 +123,15 @@ nineOf f =
     ∷ f .adc
     ∷ []
 
--- and the RTC's, which an RP235x's sheet leaves as it was
+-- The RTC's frequency, which only a sheet of the RP2040 stores.
 abbrev pub tenthOf : Chip → ℕ → List ℕ
 tenthOf Rp2040 hz = hz ∷ []
 tenthOf Rp235x hz = []
 
+-- All values that a sheet stores, in the order of its stores.
 unfoldable pub storedOf : Settings → List ℕ
 storedOf s = nineOf (frequenciesOf s) ++ tenthOf (s .board .chip) (frequenciesOf s .rtc)
 
--- what a fresh runner holds after the sheet: the RTC of an RP235x has 0 Hz
+-- The ten frequencies that a fresh runner holds after the sheet; the RTC of an RP235x has 0 Hz.
 unfoldable pub tenOf : Settings → List ℕ
 tenOf s = nineOf (frequenciesOf s) ++ (frequenciesOf s .rtc ∷ [])

@@ -1,4 +1,4 @@
--- The plan that has given settings with the smallest delay multiplier and the smallest settling time.
+-- The plan with these settings whose delay multiplier and settling time are the smallest (docs/FORMAT.md, Reading a sheet back).
 use Prim.Native.Nat.{ℕ, _+_, _-_, _*_, _/_, _%_, _^_}
 use Rattle.divider.specs.Delay.{cyclesPerUs}
 use Rattle.config.specs.declared.OptionXosc.{OptionXosc}
@@ -11,11 +11,11 @@ use Rattle.settings.specs.declared.OptionCycles.the-variants.{Some as cy
 use Rattle.settings.specs.declared.Settings.{Settings}
 use Rattle.settings.specs.Settings.{ringHz}
 
--- (256 × delay − 128) over the crystal's kHz, rounded up; 0 for a delay of 0
+-- The smallest multiplier is (256 × delay − 128) over the crystal's kHz, rounded up; it is 0 for a delay of 0.
 unfoldable pub multiplierFor : ℕ → ℕ → ℕ
 multiplierFor hz delay = (256 * delay - 128 + (hz / 1000 - 1)) / (hz / 1000)
 
--- a delay has 14 bits
+-- A startup delay has 14 bits.
 abbrev pub xoscFor : OptionCrystal → OptionXosc
 xoscFor (crystal x) =
     xosc
@@ -27,12 +27,12 @@ xoscFor (crystal x) =
     })
 xoscFor noCrystal = noXosc
 
--- the cycles, which have 32 bits, over those of a microsecond
+-- The settling cycles, which have 32 bits, over the cycles of a microsecond.
 unfoldable pub timeFor : ℕ → OptionCycles → ℕ
 timeFor hz (cycles n) = n % 2 ^ 32 / cyclesPerUs hz
 timeFor hz noCycles = 0
 
--- a plan of its settings, its crystal and its time
+-- The plan with these settings, this crystal and this settling time.
 abbrev pub planWith : Settings → OptionXosc → OptionU32 → ClockConfig
 planWith s x time =
     record {

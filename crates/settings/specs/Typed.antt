@@ -1,10 +1,12 @@
--- Settings whose numbers are of their types, as every settings that a program holds are.
+-- Bounds that the number types give to every settings value of a program: 32 bits for a frequency, the chip's scale for a
+-- fraction.
 use Prim.Native.Nat.{_<_, _^_}
 use Rattle.config.specs.declared.OptionRtc.{OptionRtc}
 use Rattle.config.specs.Board.{FractionFits}
 use Rattle.settings.specs.declared.Settings.{Settings}
 use Rattle.settings.specs.Frequencies.{sourcesIn}
 
+-- The fraction of the RTC divider has 8 bits.
 abbrev pub RtcTyped : OptionRtc → Type 0
 RtcTyped (OptionRtc.Some r) = r .«div_frac» < 2 ^ 8
 RtcTyped OptionRtc.None = Unit {0}

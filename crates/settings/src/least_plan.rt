@@ -1,4 +1,4 @@
-// The plan that has given settings, with the smallest delay multiplier and the smallest settling time.
+// The plan with these settings whose delay multiplier and settling time are the smallest (docs/FORMAT.md, Reading a sheet back).
 use crate::OptionCrystal;
 use crate::OptionCycles;
 use crate::Settings;
@@ -13,7 +13,7 @@ ghost use Rattle.config.specs.declared.OptionU32.the-variants.{Some as given};
 ghost use Rattle.settings.specs.Settings.{ringHz};
 ghost use Rattle.settings.specs.LeastPlan.{multiplierFor, xoscFor, timeFor, planOf};
 
-// (256 × delay − 128) over the crystal's kHz, rounded up. A delay has 14 bits.
+// The smallest multiplier: (256 × delay − 128) over the crystal's kHz, rounded up. A startup delay has 14 bits.
 fn multiplier_for(hz: u32, delay: u64) -> u32
     ensures { λ r. ⌜ r ≡ multiplierFor hz (delay % 2 ^ 14) ⌝ }
 {
@@ -22,7 +22,7 @@ fn multiplier_for(hz: u32, delay: u64) -> u32
     base::quotient((least + base::less(khz, 1)) as u64, khz as u64) as u32
 }
 
-// Cycles have 32 bits. The time is always a given one.
+// The settling time in microseconds, always given, 0 for no settling step. Settling cycles have 32 bits.
 fn time_for(ring: OptionRosc, settling: OptionCycles) -> OptionU32
     ensures { λ r. ⌜ r ≡ given (timeFor (ringHz ring) settling) ⌝ }
 {
@@ -55,6 +55,7 @@ fn xosc_for(crystal: OptionCrystal) -> OptionXosc
     }
 }
 
+// The plan with these settings, the smallest delay multiplier and the smallest settling time.
 pub fn plan_of(s: Settings) -> ClockConfig
     ensures { λ r. ⌜ r ≡ planOf s ⌝ }
 {

@@ -1,4 +1,5 @@
--- `settings::crystal_of` meets its contract.
+-- `settings::crystal_of` meets its contract: with a crystal the delay is the sum of `startup_sum` over 256; without one there is
+-- nothing to calculate.
 use borrow.Author.Needs.{needs}
 use Rattle.settings.proofs.crystal_of.Statement.{statement}
 use Rattle.settings.proofs.crystal_of.Tie as tie

@@ -1,4 +1,5 @@
--- `settings::settings_of` meets its contract.
+-- `settings::settings_of` meets its contract: each field is a callee's equation or a field of the plan; `board` also gives the
+-- bound of the fraction.
 use borrow.Author.Needs.{needs}
 use Rattle.settings.proofs.settings_of.Statement.{statement}
 use Rattle.settings.proofs.settings_of.Tie as tie

@@ -1,4 +1,5 @@
--- `settings::settling_step` meets its contract.
+-- `settings::settling_step` meets its contract: the two tests that returned or failed decide the two choices of `settlingStep`;
+-- `settling_cycles` gives the cycles.
 use borrow.{Author.Tests.eq-eqb, Author.Tests.ne-eqb, Author.Needs.needs}
 use Rattle.settings.specs.Settings.{settlingStep}
 use Rattle.settings.proofs.settling_step.Statement.{statement}

@@ -1,4 +1,5 @@
--- `settings::clocks::aux_clock` meets its contract.
+-- `settings::clocks::aux_clock` meets its contract: the clock's record, once known, is divided by `quotient32` from the source
+-- that `aux_source` gives.
 use borrow.Author.Needs.{needs}
 use Rattle.settings.proofs.clocks.aux_clock.Statement.{statement}
 use Rattle.settings.proofs.clocks.aux_clock.Tie as tie

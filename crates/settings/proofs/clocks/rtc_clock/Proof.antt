@@ -1,4 +1,5 @@
--- `settings::clocks::rtc_clock` meets its contract.
+-- `settings::clocks::rtc_clock` meets its contract: the clock's record, once known, is divided by `divided_hz` from the source
+-- that `aux_source` gives; its fraction is a u8.
 use mathlib.Core.Path.{refl}
 use native.Mathlib.Omega.{arith}
 use borrow.Author.Needs.{needs}

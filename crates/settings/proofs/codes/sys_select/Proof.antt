@@ -1,4 +1,4 @@
--- `settings::codes::sys_select` meets its contract.
+-- `settings::codes::sys_select` meets its contract: the test of the code that `sys_code` gives is the test of the definition.
 use borrow.{Author.Tests.eq-eqb, Author.Tests.ne-eqb, Author.Needs.needs}
 use Rattle.settings.proofs.codes.sys_select.Statement.{statement}
 use Rattle.settings.proofs.codes.sys_select.Tie as tie

@@ -1,4 +1,5 @@
--- `settings::least_plan::multiplier_for` meets its contract.
+-- `settings::least_plan::multiplier_for` meets its contract: the three callees give the definition's terms; the quotient is at
+-- most its dividend, below 2^32, so the cast keeps it.
 use native.Mathlib.{Omega.arith, Nat.div-le-self}
 use Prim.Native.Nat.{_+_, _/_}
 use Rattle.settings.specs.LeastPlan.{multiplierFor}

@@ -1,4 +1,5 @@
--- `settings::least_plan::plan_of` meets its contract.
+-- `settings::least_plan::plan_of` meets its contract: `xosc_for` gives the crystal and `time_for` the time; the other fields are
+-- copied.
 use Rattle.settings.specs.LeastPlan.{planOf}
 use borrow.Author.Needs.{needs}
 use Rattle.settings.proofs.least_plan.plan_of.Statement.{statement}

@@ -1,4 +1,5 @@
--- `settings::least_plan::time_for` meets its contract.
+-- `settings::least_plan::time_for` meets its contract: the cycles of one microsecond are those of a settling of 1 µs, and the
+-- quotient is at most the 32 bit cycles.
 use native.Mathlib.{Omega.arith, Nat.one-mul, Nat.div-le-self}
 use Prim.Native.Nat.{ℕ, _%_}
 use Rattle.divider.specs.Delay.{settlingCycles}

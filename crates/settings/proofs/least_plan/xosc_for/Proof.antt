@@ -1,4 +1,5 @@
--- `settings::least_plan::xosc_for` meets its contract.
+-- `settings::least_plan::xosc_for` meets its contract: with a crystal `multiplier_for` gives the multiplier; the other fields are
+-- copied.
 use borrow.Author.Needs.{needs}
 use Rattle.settings.proofs.least_plan.xosc_for.Statement.{statement}
 use Rattle.settings.proofs.least_plan.xosc_for.Tie as tie
