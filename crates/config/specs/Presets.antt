@@ -1,4 +1,4 @@
--- The presets, each with the values that the Rust has.
+-- The presets, each with the values that the Rust has (docs/FORMAT.md, Presets).
 use Prim.Native.Nat.{ℕ}
 use lib.Dec.{eqb, ltb}
 use Rattle.base.specs.{Choice.pick, Answer.Answer, Answer.value, Answer.refusal}
@@ -13,12 +13,12 @@ use Rattle.config.specs.declared.{PeriClkSrc.PeriClkSrc, AuxClkSrc.AuxCl
 use Rattle.config.specs.declared.{OptionAux.OptionAux, OptionRtc.OptionRtc, OptionU32.OptionU32}
 use Rattle.config.specs.declared.{ChipConfig.ChipConfig, ClockConfig.ClockConfig, Planned.Planned}
 
--- what each case of `Planned` means
+-- The answer that each variant of `Planned` means.
 abbrev pub plannedIs : Planned → Answer ClockConfig
 plannedIs (Planned.Plan p) = value p
 plannedIs (Planned.Refused n) = refusal n
 
--- a ring with all strengths 0
+-- A ring oscillator with all drive strengths 0.
 abbrev pub ringConfig : ℕ → RoscRange → ℕ → OptionRosc
 ringConfig hz range div =
     OptionRosc.Some
@@ -29,23 +29,23 @@ ringConfig hz range div =
       div = div;
     })
 
--- a crystal with the given PLLs and delay multiplier 128
+-- A crystal with these PLLs and the delay multiplier 128.
 abbrev pub feedingBoth : ℕ → PllConfig → PllConfig → OptionXosc
 feedingBoth hz sys usb =
     OptionXosc.Some
     (record { hz = hz; «sys_pll» = OptionPll.Some sys; «usb_pll» = OptionPll.Some usb; «delay_multiplier» = 128 })
 
--- with the USB PLL that makes 48 MHz of 12 MHz
+-- The USB PLL is the one that gives 48 MHz from 12 MHz.
 abbrev pub feeding : ℕ → PllConfig → OptionXosc
 feeding hz sys = feedingBoth hz sys (setting 120 6 5)
 
--- an undivided system clock; the RP2040 at this voltage and with this RTC, the RP235x at 1.10 V
+-- The system clock is undivided. The voltage and the RTC are for the RP2040; the RP235x has 1.10 V and no RTC.
 abbrev pub plain : Chip → CoreVoltage → OptionRtc → ChipConfig
 plain Rp2040 voltage clock =
     ChipConfig.Rp2040 (record { «core_voltage» = voltage; «div_int» = 1; «div_frac» = 0; «rtc_clk» = clock })
 plain Rp235x voltage clock = ChipConfig.Rp235x (record { «core_voltage» = CoreVoltage235.V1_10; «div_int» = 1; «div_frac» = 0 })
 
--- the clocks of every preset with a crystal
+-- Every preset with a crystal has these clocks; the RTC has 48 MHz / 1024.
 abbrev pub fromPlls : Chip → CoreVoltage → OptionRosc → OptionXosc → ClockConfig
 fromPlls chip voltage rosc xosc =
     record {
@@ -60,6 +60,7 @@ fromPlls chip voltage rosc xosc =
       «voltage_stabilization_delay_us» = OptionU32.None;
     }
 
+-- No ring and no crystal: every clock has 0 Hz.
 abbrev pub defaultPlan : Chip → ClockConfig
 defaultPlan chip =
     record {
@@ -74,11 +75,12 @@ defaultPlan chip =
       «voltage_stabilization_delay_us» = OptionU32.None;
     }
 
--- 125 MHz of the RP2040, 150 MHz of the RP235x where the crystal has 12 MHz
+-- With a 12 MHz crystal the system clock has 125 MHz on the RP2040 and 150 MHz on the RP235x.
 abbrev pub crystalPlan : Chip → ℕ → ClockConfig
 crystalPlan chip hz =
     fromPlls chip CoreVoltage.V1_10 (ringConfig 6500000 RoscRange.Medium 16) (feeding hz (setting 125 (factsOf chip .«preset_post») 2))
 
+-- Every clock runs from the ring at 140 MHz; there is no USB clock.
 abbrev pub roscPlan : Chip → ClockConfig
 roscPlan chip =
     record {
@@ -95,30 +97,30 @@ roscPlan chip =
       «voltage_stabilization_delay_us» = OptionU32.None;
     }
 
--- of the RP2040: 1.15 V above 133 MHz
+-- The RP2040 needs 1.15 V above 133 MHz.
 abbrev pub systemVoltage : ℕ → CoreVoltage
 systemVoltage hz = pick (ltb 133000000 hz) CoreVoltage.V1_15 CoreVoltage.V1_10
 
--- the crystal preset with this system PLL and the USB PLL found
+-- The crystal preset with this system PLL and the USB PLL that was found, or the refusal of the USB search.
 abbrev pub withUsb : Chip → ℕ → ℕ → PllConfig → Answer PllConfig → Answer ClockConfig
 withUsb chip from hz sys (value usb) =
     value (fromPlls chip (systemVoltage hz) (ringConfig 6500000 RoscRange.Medium 16) (feedingBoth from sys usb))
 withUsb chip from hz sys (refusal n) = refusal n
 
--- with the system PLL found for the frequency; its refusal comes first
+-- The refusal of the system PLL search comes before that of the USB PLL.
 abbrev pub withFound : Chip → ℕ → ℕ → Answer PllConfig → Answer PllConfig → Answer ClockConfig
 withFound chip from hz (value sys) usb = withUsb chip from hz sys usb
 withFound chip from hz (refusal n) usb = refusal n
 
--- from a crystal: always what the searches find, or 15, or 25
+-- From a crystal: the PLLs that the searches find, or 15, or 25.
 unfoldable pub systemPlanFrom : Chip → ℕ → ℕ → Answer ClockConfig
 systemPlanFrom chip from hz = withFound chip from hz (searchOf from hz) (usbOf from)
 
--- from 12 MHz; the crystal preset's own frequency is that preset
+-- From a 12 MHz crystal; the frequency of the crystal preset gives that preset.
 unfoldable pub systemPlan : Chip → ℕ → Answer ClockConfig
 systemPlan chip hz =
     pick (eqb hz (factsOf chip .«preset_hz»)) (value (crystalPlan chip 12000000)) (systemPlanFrom chip 12000000 hz)
 
--- of the RP2040: no ring, and 5 for a PLL that is not valid
+-- For the RP2040: no ring, and 5 for a PLL that is not valid.
 unfoldable pub manualPlan : ℕ → PllConfig → CoreVoltage → Answer ClockConfig
 manualPlan hz p voltage = pick (validOf p hz) (value (fromPlls Rp2040 voltage OptionRosc.None (feeding hz p))) (refusal 5)

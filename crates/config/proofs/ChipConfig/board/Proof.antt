@@ -1,4 +1,5 @@
--- `config::ChipConfig::board` meets its contract.
+-- `config::ChipConfig::board` meets its contract: each variant of the chip fills `board_with` with the row of `volts`; the
+-- fraction fits, as it is a u8 or a u16.
 use native.Mathlib.Omega.{arith}
 use borrow.Author.Needs.{needs}
 use Rattle.config.proofs.ChipConfig.board.Statement.{statement}

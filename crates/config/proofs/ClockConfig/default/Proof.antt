@@ -1,4 +1,4 @@
--- `config::ClockConfig::default` meets its contract.
+-- `config::ClockConfig::default` meets its contract: `plain` gives the chip's part; the other fields are constants.
 use borrow.Author.Needs.{needs}
 use Rattle.config.proofs.ClockConfig.default.Statement.{statement}
 use Rattle.config.proofs.ClockConfig.default.Tie as tie

@@ -1,4 +1,5 @@
--- `config::ClockConfig::system_freq_from` meets its contract.
+-- `config::ClockConfig::system_freq_from` meets its contract: the three cases are a refused system search, a refused USB search,
+-- and both found; each rewrites `withFound` by what the two searches answered.
 use borrow.Author.Needs.{needs}
 use Rattle.config.specs.Presets.{systemPlanFrom}
 use Rattle.config.proofs.ClockConfig.system_freq_from.Statement.{statement}

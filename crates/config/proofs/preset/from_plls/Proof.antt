@@ -1,4 +1,4 @@
--- `config::preset::from_plls` meets its contract.
+-- `config::preset::from_plls` meets its contract: `plain` gives the chip's part; the other fields are constants or arguments.
 use borrow.Author.Needs.{needs}
 use Rattle.config.proofs.preset.from_plls.Statement.{statement}
 use Rattle.config.proofs.preset.from_plls.Tie as tie

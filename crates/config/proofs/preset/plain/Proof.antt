@@ -1,4 +1,4 @@
--- `config::preset::plain` meets its contract.
+-- `config::preset::plain` meets its contract: each variant of the chip picks its row.
 use borrow.Author.Needs.{needs}
 use Rattle.config.proofs.preset.plain.Statement.{statement}
 use Rattle.config.proofs.preset.plain.Tie as tie
