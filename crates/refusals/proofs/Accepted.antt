@@ -1,4 +1,4 @@
--- What acceptance says: none of the tests holds.
+-- For accepted settings each test is false; the bounds that these tests give follow.
 use mathlib.Core.{Path._≡_, Path.refl, Bool.Bool, Bool.true, Bool.false, Bool._||_, List.List, List.[], List._∷_}
 use Prim.Native.Nat.{ℕ, _≤_, _<_}
 use native.Mathlib.Omega.{arith}
@@ -12,12 +12,12 @@ use Rattle.settings.specs.Frequencies.{frequenciesOf}
 use Rattle.refusals.specs.Rules.{strengthOver, dividerBad, referenceBad, wholeBad}
 use Rattle.refusals.specs.Refusals.{testsOf, first, refusalOf}
 
--- every number is from 1 on
+-- Every number of the list is at least 1.
 abbrev Positive : List (ℕ × Bool) → Type 0
 Positive [] = Unit {0}
 Positive ((number, test) ∷ rest) = (1 ≤ number) × Positive rest
 
--- none of the tests holds
+-- Every test of the list is false.
 abbrev NoneOf : List (ℕ × Bool) → Type 0
 NoneOf [] = Unit {0}
 NoneOf ((number, test) ∷ rest) = (test ≡ false) × NoneOf rest
@@ -27,7 +27,7 @@ none-holds [] p e = tt
 none-holds ((number, true) ∷ rest) p e = absurd (omega arith)
 none-holds ((number, false) ∷ rest) p e = (refl, none-holds rest (p .1) e)
 
--- the test of a number
+-- The test of a number, false for a number that is not in the list.
 abbrev pub testOf : ℕ → List (ℕ × Bool) → Bool
 testOf n [] = false
 testOf n ((number, test) ∷ rest) = pick (eqb n number) test (testOf n rest)
@@ -43,7 +43,7 @@ test-false n ((number, test) ∷ rest) h = either (eqb n number) (h .0) (test-fa
 positive : (s : Settings) (reading : ℕ) → Positive (testsOf s (frequenciesOf s) reading)
 positive s reading = omega arith
 
--- the test of each number is false
+-- For accepted settings the test of each number is false.
 pub accepted-by : (s : Settings) (reading : ℕ) → refusalOf s reading ≡ 0
     → (n : ℕ) → testOf n (testsOf s (frequenciesOf s) reading) ≡ false
 unfolding refusalOf
@@ -51,7 +51,7 @@ accepted-by s reading e n =
     test-false n (testsOf s (frequenciesOf s) reading)
     (none-holds (testsOf s (frequenciesOf s) reading) (positive s reading) e)
 
--- no strength is over 7
+-- Every drive strength is at most 7.
 pub record Few (g : DriveStrength) : Type 0 where
   pub low : (g .s0 ≤ 7) × (g .s1 ≤ 7) × (g .s2 ≤ 7) × (g .s3 ≤ 7)
   pub high : (g .s4 ≤ 7) × (g .s5 ≤ 7) × (g .s6 ≤ 7) × (g .s7 ≤ 7)

@@ -1,4 +1,4 @@
--- The default plan is refused with 8 at every reading that its chip may have: its reference is 0 Hz.
+-- The default plan is refused with 8 at every reading that its chip can have, as its reference clock has 0 Hz.
 use mathlib.Core.{Path._≡_, Path.refl, Bool.Bool, Bool.true, Bool.false}
 use Prim.Native.Nat.{ℕ, _≤_}
 use lib.Dec.{eqb}
@@ -18,7 +18,7 @@ unfolding settlingOver
 calmly true = refl
 calmly false = refl
 
--- nothing settles: the voltage stays, or its settling time is 0
+-- There is no settling step: the voltage stays, or its default settling time is 0.
 calm : (chip : Chip) (reading : ℕ) → settlingOver (settingsOf (defaultPlan chip) reading .settling) ≡ false
 unfolding settlingOver settlingStep
 calm Rp2040 reading = calmly (eqb 11 reading)

@@ -1,4 +1,4 @@
--- No sheet of a plan with the PLLs that the searches found is refused with 5 or 6, and its USB clock has 48 MHz.
+-- A plan with the PLLs that the searches find is never refused with 5 or 6, and its USB clock has 48 MHz.
 use mathlib.Core.{Path._≡_, Path.refl, Path.sym, Path.subst, Bool.Bool, Bool.true, Bool.false, Bool._&&_, Bool._||_}
 use mathlib.Core.List.{List, [], _∷_}
 use Prim.Native.Nat.{ℕ, _≤_}
@@ -17,7 +17,7 @@ use Rattle.settings.specs.{Settings.settingsOf, Frequencies.pllHz, Frequencies.
 use Rattle.refusals.specs.Rules.{sysPllInvalid, usbPllInvalid}
 use Rattle.refusals.specs.Refusals.{testsOf, first, refusalOf}
 
--- a test of this number holds
+-- A test with this number holds.
 abbrev holdsAt : ℕ → List (ℕ × Bool) → Bool
 holdsAt n [] = false
 holdsAt n ((number, test) ∷ rest) = (eqb n number && test) || holdsAt n rest
@@ -56,7 +56,7 @@ module _ (chip : Chip) (from hz reading : ℕ) (p : ClockConfig) (planned : syst
       let z : _≡_ {A = ℕ} 0 1 = cc (held, none) in
       omega arith
 
-  -- at any reading
+  -- This holds at any reading.
   pub system-from-never-5 : refusalOf (settingsOf p reading) reading ≡ 5 → ⊥
   unfolding sysPllInvalid
   system-from-never-5 = never 5 (omega arith) (rw (found-valid from hz (made .sys) (made .sys-found)))
@@ -65,7 +65,7 @@ module _ (chip : Chip) (from hz reading : ℕ) (p : ClockConfig) (planned : syst
   unfolding usbPllInvalid
   system-from-never-6 = never 6 (omega arith) (rw usb-valid)
 
-  -- of the ten stored values, those of the USB PLL, USB and ADC are 48 MHz
+  -- The stored frequencies of the USB PLL, the USB and the ADC clock are 48 MHz.
   pub system-from-usb :
       (frequenciesOf (settingsOf p reading) .sources .«pll_usb» ≡ 48000000)
       × (frequenciesOf (settingsOf p reading) .usb ≡ 48000000)

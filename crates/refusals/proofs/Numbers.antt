@@ -1,4 +1,4 @@
--- Which numbers a plan is refused with: 18 where the reading is over the chip's greatest, else one of 0 to 14.
+-- The refusal of settings is 18 exactly where the reading is over the chip's greatest, and 0 to 14 otherwise.
 use mathlib.Core.{Path._≡_, Bool.Bool, Bool.true, Bool.false, List.List, List.[], List._∷_}
 use Prim.Native.Nat.{ℕ, _≤_, _<_}
 use native.Mathlib.{Omega.arith, Decide.decLe}
@@ -17,7 +17,7 @@ pub record Numbered (s : Settings) (reading : ℕ) : Type 0 where
   pub only-over : refusalOf s reading ≡ 18 → top s < reading
   pub others : reading ≤ top s → refusalOf s reading ≤ 14
 
--- every number is up to 14
+-- Every number of the list is at most 14.
 abbrev Low : List (ℕ × Bool) → Type 0
 Low [] = Unit {0}
 Low ((number, test) ∷ rest) = (number ≤ 14) × Low rest

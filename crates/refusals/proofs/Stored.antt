@@ -1,4 +1,4 @@
--- The ten values that an accepted plan's sheet stores have 32 bits.
+-- Every frequency that the sheet of an accepted plan stores fits in 32 bits, and the RTC's in 16.
 use mathlib.Core.{Path._≡_, Bool.false, Bool._||_, List.List, List.[], List._∷_}
 use Prim.Native.Nat.{ℕ, _≤_}
 use native.Mathlib.Omega.{arith}
@@ -17,7 +17,7 @@ use Rattle.refusals.specs.Rules.{wholeBad, rtcBad}
 use Rattle.refusals.specs.Refusals.{refusalOf}
 use Rattle.refusals.proofs.Accepted.{accepted-by, whole-good}
 
--- an accepted RTC has 16 bits
+-- The frequency of an accepted RTC fits in 16 bits.
 rtc-small : (source : ℕ) (f : Sources) (o : OptionRtc) → rtcBad source (rtcHz f o) o ≡ false → rtcHz f o ≤ 65535
 unfolding rtcBad
 rtc-small source f (rtc r) e =

@@ -1,4 +1,4 @@
--- Refusals 2, 3, 4 and 9 of settings, in the words of docs/FORMAT.md (Refusals) for the plan.
+-- The tests of refusals 2, 3, 4 and 9 are equal to the conditions that docs/FORMAT.md, Refusals, states for a plan.
 use mathlib.Core.{Path._≡_, Path.refl, Path.sym, Bool.Bool, Bool.true, Bool.false, Bool._||_, Bool._&&_, Bool.not}
 use Prim.Native.Nat.{ℕ, zero, suc, _+_, _-_, _/_, _≤_, _<_}
 use native.Mathlib.{Omega.arith, Decide.decLe}
@@ -13,7 +13,7 @@ use Rattle.settings.specs.declared.OptionCycles.the-variants.{Some as cycles, N
 use Rattle.settings.specs.Settings.{crystalOf, settlingStep}
 use Rattle.refusals.specs.Rules.{settlingOver, startupOver, wholeBad}
 
--- settling cycles over 32 bits, where the voltage changes
+-- Refusal 3: the settling cycles are over 32 bits where the voltage changes.
 pub settling-worded : (reading code time hz : ℕ)
     → settlingOver (settlingStep reading code time hz) ≡ (not (eqb code reading) && ltb 4294967295 (settlingCycles time hz))
 unfolding settlingOver settlingStep settlingCycles
@@ -27,7 +27,7 @@ settling-worded reading code time hz = go (eqb code reading) (eqb time 0) refl
         sym (le-ltb 4294967295 (settlingCycles time hz) (rw (eqb-true time 0 e) (omega arith)))
     go false false e = refl
 
--- startup sum over 32 bits or delay over 16383
+-- Refusal 4: the startup sum is over 32 bits or the delay over 16383.
 pub startup-worded : (x : XoscConfig)
     → startupOver (crystalOf (xosc x))
     ≡ (ltb 4294967295 (startupSum (x .hz) (x .«delay_multiplier»)) || ltb 16383 (delayOf (x .hz) (x .«delay_multiplier»)))
@@ -50,12 +50,12 @@ over-with d pass h = go (decLe d (65535 - pass))
     go (yes few) = rw (le-ltb (65535 - pass) d few, le-ltb 65535 (d + pass) (omega arith))
     go (no more) = rw (lt-ltb (65535 - pass) d (omega arith), lt-ltb 65535 (d + pass) (omega arith))
 
--- ring divider over 62815, on the RP235x over 22015
+-- Refusal 2: the ring divider is over 62815, on the RP235x over 22015.
 pub ring-worded : (d : ℕ)
     → (ltb 65535 (d + factsOf Rp2040 .pass) ≡ ltb 62815 d) × (ltb 65535 (d + factsOf Rp235x .pass) ≡ ltb 22015 d)
 ring-worded d = (over-with d 0xAA0 (omega arith), over-with d 0xAA00 (omega arith))
 
--- of the RP235x's whole parts, which have 16 bits, 9 is given for 0
+-- Refusal 9: of the RP235x's whole parts, which have 16 bits, only 0 is refused.
 pub whole-worded : (w : ℕ) → w < 65536 → wholeBad (factsOf Rp235x .«top_whole») w ≡ eqb w 0
 unfolding wholeBad
 whole-worded zero h = refl

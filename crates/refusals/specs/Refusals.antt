@@ -1,4 +1,4 @@
--- The refusals of settings at a reading: a test for each number, in their order.
+-- The refusals of settings at a reading: a test for each number, in the order of docs/FORMAT.md, Refusals.
 use mathlib.Core.{Path._≡_, List.List, List.[], List._∷_, Bool.Bool}
 use Prim.Native.Nat.{ℕ}
 use lib.Dec.{ltb, eqb}
@@ -11,7 +11,7 @@ use Rattle.refusals.specs.declared.Examined.{Examined}
 use Rattle.refusals.specs.Rules.{strengthsOver, ringDividerOver, settlingOver, startupOver, sysPllInvalid, usbPllInvalid}
 use Rattle.refusals.specs.Rules.{dividerBad, referenceBad, wholeBad, periBad, auxBad, rtcBad}
 
--- 18: reading over the chip's greatest, 15 or 31; then 1 to 14 rising
+-- 18 is for a reading over the chip's greatest, 15 or 31; then 1 to 14 follow in rising order.
 abbrev pub testsOf : Settings → Frequencies → ℕ → List (ℕ × Bool)
 testsOf s f reading =
     (18, ltb (factsOf (s .board .chip) .«top_reading») reading)
@@ -31,19 +31,19 @@ testsOf s f reading =
     ∷ (14, rtcBad (f .«rtc_source») (f .rtc) (s .board .rtc))
     ∷ []
 
--- the number of the first test that holds; 0: none does
+-- The number of the first test that holds, 0 where none does.
 abbrev pub first : List (ℕ × Bool) → ℕ
 first [] = 0
 first ((number, test) ∷ rest) = pick test number (first rest)
 
--- the refusal of settings at a reading; 0: accepted
+-- The refusal of settings at a reading, 0 where they are accepted.
 unfoldable pub refusalOf : Settings → ℕ → ℕ
 refusalOf s reading = first (testsOf s (frequenciesOf s) reading)
 
--- a plan is accepted for a reading where it gets neither 18 nor any of 1 to 14
+-- A plan is accepted at a reading where it is refused neither with 18 nor with any of 1 to 14.
 abbrev pub Accepted : ClockConfig → ℕ → Type 0
 Accepted p reading = refusalOf (settingsOf p reading) reading ≡ 0
 
--- what `examine` answers
+-- The answer of `examine`.
 abbrev pub examinedOf : Settings → ℕ → Examined
 examinedOf s reading = record { number = refusalOf s reading; frequencies = frequenciesOf s }

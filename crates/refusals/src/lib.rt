@@ -1,4 +1,4 @@
-// The refusals of settings at a reading, in their order.
+// The refusals of settings at a reading, in the order in which they are tested: 18, then 1 to 14 (docs/FORMAT.md, Refusals).
 mod rules;
 
 use config::OptionPll;
@@ -16,7 +16,7 @@ ghost use Rattle.settings.specs.Typed.{Typed};
 ghost use Rattle.refusals.specs.Rules.{pllInvalid, sysPllInvalid, usbPllInvalid};
 ghost use Rattle.refusals.specs.Refusals.{refusalOf, examinedOf};
 
-// A valid PLL gives 15 MHz or more, so one that is there with 0 Hz is invalid.
+// A valid PLL gives 15 MHz or more, so a PLL that is present is invalid exactly where its frequency is 0.
 fn pll_invalid(pll: OptionPll, pll_hz: u32) -> bool
     ensures { λ r. ⌜ ((hz : ℕ) → «pll_hz» ≡ pllHz hz pll → r ≡ pllInvalid hz pll) ⌝ }
 {
@@ -50,7 +50,7 @@ fn plls_invalid(crystal: OptionCrystal, f: Sources) -> PllsBad
     }
 }
 
-// 18, then 1 to 14 rising; 0: none of them.
+// The number of the first refusal that holds, tested in the order 18, then 1 to 14; 0 where none holds.
 fn refusal_of(s: Settings, f: Frequencies, reading: u8) -> u8
     ensures { λ r. ⌜ (f ≡ frequenciesOf s → r ≡ refusalOf s reading) ⌝ }
 {
@@ -79,7 +79,7 @@ fn refusal_of(s: Settings, f: Frequencies, reading: u8) -> u8
     let usb = rules::aux_bad(f.usb_source, usb_clk);
     let adc = rules::aux_bad(f.adc_source, adc_clk);
     let rtc = rules::rtc_bad(f.rtc_source, f.rtc, rtc_clk);
-    // From the last to the first: an earlier one decides.
+    // The tests go from the last to the first, so that an earlier one overrides.
     let n = base::number_when(rtc, 14, 0);
     let n = base::number_when(adc, 13, n);
     let n = base::number_when(usb, 12, n);
@@ -97,13 +97,13 @@ fn refusal_of(s: Settings, f: Frequencies, reading: u8) -> u8
     base::number_when(over, 18, n)
 }
 
-// What is found of settings at a reading: the number of their refusal, 0 where they are accepted, and their frequencies.
+// The number of the refusal of settings at a reading, 0 where they are accepted, and their frequencies.
 pub struct Examined {
     pub number: u8,
     pub frequencies: Frequencies,
 }
 
-// Looks at settings. Their numbers are of their types.
+// Tests settings at a reading: 18 or 1 to 14 in `number`, 0 where they are accepted. The contract carries the types' bounds.
 pub fn examine(s: Settings, reading: u8) -> Examined
     ensures { λ r. ⌜ (r ≡ examinedOf s reading) × (FractionFits (s .board) → Typed s) ⌝ }
 {

@@ -1,4 +1,4 @@
-// The rules of the refusals: a test for each.
+// The rules of the refusals: one test for each number. Absent parts pass.
 use config::DriveStrength;
 use config::OptionAux;
 use config::OptionPeri;
@@ -24,6 +24,7 @@ fn strength_over(g: DriveStrength) -> bool
         | (7 < g.s7)
 }
 
+// Refusal 1: a drive strength of the ring is over 7.
 pub fn strengths_over(ring: OptionRosc) -> bool
     ensures { λ r. ⌜ r ≡ strengthsOver ring ⌝ }
 {
@@ -36,7 +37,7 @@ pub fn strengths_over(ring: OptionRosc) -> bool
     }
 }
 
-// The register has 16 bits.
+// Refusal 2: the ring divider plus the chip's pass value does not fit the 16 bits of ROSC_DIV.
 pub fn ring_divider_over(pass: u16, ring: OptionRosc) -> bool
     ensures { λ r. ⌜ r ≡ ringDividerOver pass ring ⌝ }
 {
@@ -46,6 +47,7 @@ pub fn ring_divider_over(pass: u16, ring: OptionRosc) -> bool
     }
 }
 
+// Refusal 3: the settling cycles do not fit in 32 bits.
 pub fn settling_over(settling: OptionCycles) -> bool
     ensures { λ r. ⌜ r ≡ settlingOver settling ⌝ }
 {
@@ -55,6 +57,7 @@ pub fn settling_over(settling: OptionCycles) -> bool
     }
 }
 
+// Refusal 4: the startup delay does not fit in 14 bits.
 pub fn startup_over(crystal: OptionCrystal) -> bool
     ensures { λ r. ⌜ r ≡ startupOver crystal ⌝ }
 {
@@ -64,24 +67,28 @@ pub fn startup_over(crystal: OptionCrystal) -> bool
     }
 }
 
+// Refusal 7, and part of 12 and 13: a divider is not 1 to 4.
 pub fn divider_bad(div: u8) -> bool
     ensures { λ r. ⌜ r ≡ dividerBad div ⌝ }
 {
     !base::in_range(1, 4, div as u64)
 }
 
+// Refusal 8: the reference clock has 0 Hz, or 512 MHz or more, for which the 9 bits of the tick are too few.
 pub fn reference_bad(hz: u32) -> bool
     ensures { λ r. ⌜ r ≡ referenceBad hz ⌝ }
 {
     (hz == 0) | (512000000 <= hz)
 }
 
+// Refusal 9, and part of 14: the whole part of a divider is not 1 to `top`.
 pub fn whole_bad(top: u32, whole: u32) -> bool
     ensures { λ r. ⌜ r ≡ wholeBad top whole ⌝ }
 {
     !base::in_range(1, top as u64, whole as u64)
 }
 
+// Refusal 11: the peripheral clock is present and has 0 Hz.
 pub fn peri_bad(hz: u64, peri: OptionPeri) -> bool
     ensures { λ r. ⌜ r ≡ periBad hz peri ⌝ }
 {
@@ -91,6 +98,7 @@ pub fn peri_bad(hz: u64, peri: OptionPeri) -> bool
     }
 }
 
+// Refusals 12 and 13: the source has 0 Hz, the divider is not 1 to 4, or the phase is over 3.
 pub fn aux_bad(source: u32, aux: OptionAux) -> bool
     ensures { λ r. ⌜ r ≡ auxBad source aux ⌝ }
 {
@@ -100,6 +108,7 @@ pub fn aux_bad(source: u32, aux: OptionAux) -> bool
     }
 }
 
+// Refusal 14: the source has 0 Hz, the whole part is not 1 to 16777215, the phase is over 3, or the RTC has over 65535 Hz.
 pub fn rtc_bad(source: u32, hz: u64, rtc: OptionRtc) -> bool
     ensures { λ r. ⌜ r ≡ rtcBad source hz rtc ⌝ }
 {

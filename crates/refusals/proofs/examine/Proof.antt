@@ -1,4 +1,5 @@
--- `refusals::examine` meets its contract.
+-- `refusals::examine` meets its contract: the frequencies that `frequencies_of` gives satisfy the condition of `refusal_of`,
+-- which gives the number.
 use borrow.Author.Needs.{needs}
 use Rattle.refusals.proofs.examine.Statement.{statement}
 use Rattle.refusals.proofs.examine.Tie as tie

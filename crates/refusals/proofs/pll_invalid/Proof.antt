@@ -1,4 +1,4 @@
--- `refusals::pll_invalid` meets its contract.
+-- `refusals::pll_invalid` meets its contract: `pll-silent` shows that a PLL that is present has 0 Hz exactly where it is invalid.
 use Rattle.settings.proofs.Plls.{pll-silent}
 use borrow.Author.Needs.{needs}
 use Rattle.refusals.proofs.pll_invalid.Statement.{statement}

@@ -1,4 +1,5 @@
--- `refusals::plls_invalid` meets its contract.
+-- `refusals::plls_invalid` meets its contract: with a crystal `pll_invalid` decides for each PLL by its frequency in the sources;
+-- without one no PLL is invalid.
 use mathlib.Core.Path.{refl, ap}
 use Rattle.settings.specs.declared.Sources.{Sources}
 use Rattle.settings.specs.Frequencies.{sourcesOf}

@@ -1,4 +1,5 @@
--- `refusals::rules::aux_bad` meets its contract.
+-- `refusals::rules::aux_bad` meets its contract: for a present clock `divider_bad` gives the test of the divider, and the other
+-- two are the definition's; an absent one passes.
 use Rattle.refusals.specs.Rules.{auxBad}
 use borrow.Author.Needs.{needs}
 use Rattle.refusals.proofs.rules.aux_bad.Statement.{statement}

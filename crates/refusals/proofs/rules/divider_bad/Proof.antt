@@ -1,4 +1,4 @@
--- `refusals::rules::divider_bad` meets its contract.
+-- `refusals::rules::divider_bad` meets its contract: `in_range` gives the test.
 use Rattle.refusals.specs.Rules.{dividerBad}
 use borrow.Author.Needs.{needs}
 use Rattle.refusals.proofs.rules.divider_bad.Statement.{statement}

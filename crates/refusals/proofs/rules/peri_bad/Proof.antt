@@ -1,4 +1,5 @@
--- `refusals::rules::peri_bad` meets its contract.
+-- `refusals::rules::peri_bad` meets its contract: a present clock is compared with 0 Hz as in the definition; an absent one
+-- passes.
 use Rattle.refusals.specs.Rules.{periBad}
 use borrow.Author.Needs.{needs}
 use Rattle.refusals.proofs.rules.peri_bad.Statement.{statement}

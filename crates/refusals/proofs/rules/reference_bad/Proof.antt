@@ -1,4 +1,4 @@
--- `refusals::rules::reference_bad` meets its contract.
+-- `refusals::rules::reference_bad` meets its contract: the code is the definition.
 use mathlib.Core.Path.{refl}
 use Rattle.refusals.specs.Rules.{referenceBad}
 use Rattle.refusals.proofs.rules.reference_bad.Statement.{statement}

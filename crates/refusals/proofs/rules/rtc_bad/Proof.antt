@@ -1,4 +1,5 @@
--- `refusals::rules::rtc_bad` meets its contract.
+-- `refusals::rules::rtc_bad` meets its contract: for a present RTC `whole_bad` gives the test of the whole part, and the other
+-- three are the definition's; an absent one passes.
 use Rattle.refusals.specs.Rules.{rtcBad}
 use borrow.Author.Needs.{needs}
 use Rattle.refusals.proofs.rules.rtc_bad.Statement.{statement}

@@ -1,4 +1,4 @@
--- `refusals::rules::strengths_over` meets its contract.
+-- `refusals::rules::strengths_over` meets its contract: for a present ring `strength_over` gives the test; an absent one passes.
 use Rattle.refusals.specs.Rules.{strengthsOver}
 use borrow.Author.Needs.{needs}
 use Rattle.refusals.proofs.rules.strengths_over.Statement.{statement}

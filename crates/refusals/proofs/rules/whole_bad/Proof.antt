@@ -1,4 +1,4 @@
--- `refusals::rules::whole_bad` meets its contract.
+-- `refusals::rules::whole_bad` meets its contract: `in_range` gives the test.
 use Rattle.refusals.specs.Rules.{wholeBad}
 use borrow.Author.Needs.{needs}
 use Rattle.refusals.proofs.rules.whole_bad.Statement.{statement}
