@@ -1,4 +1,4 @@
--- A code read back gives its voltage; codes and brownout levels fit 4 bits, and greater numbers are no codes.
+-- The code of a voltage is read back as that voltage. Codes and brownout levels fit in 4 bits, and a number over 15 is no code.
 use mathlib.Core.{Path._≡_, Path.refl, List.List, List.[], List._∷_}
 use Prim.Native.Nat.{ℕ, _<_}
 use native.Mathlib.Omega.{arith}
@@ -48,7 +48,7 @@ code-small chip v = facts chip v .1
 pub bod-small : (chip : Chip) (v : VoltageOf chip) → bodOf chip v < 16
 bod-small chip v = facts chip v .2
 
--- a number of more than 4 bits is no code of either chip
+-- A number of more than 4 bits is a code of neither chip.
 none-with : {A : Type 0} (codeOf : A → ℕ) → ((v : A) → codeOf v < 16) → (vs : List A) (code : ℕ) → 15 < code
     → withCode codeOf code vs ≡ refusal 18
 none-with codeOf small [] code h = refl
@@ -58,7 +58,7 @@ none-with codeOf small (v ∷ vs) code h =
 pub no-code : (chip : Chip) (code : ℕ) → 15 < code → coreVoltageOf chip code ≡ refusal 18
 no-code chip = none-with (codeOf chip) (code-small chip) (voltages chip)
 
--- what is known of a number that is the code of none of these voltages, as a `match` on it says so
+-- The last arm of a `match` on a code gives one inequality for each voltage; they make `withCode` refuse.
 module _ {A : Type 0} (codeOf : A → ℕ) (code : ℕ) where
   abbrev pub NoneOf : Type 0 → List A → Type 0
   NoneOf known [] = known

@@ -1,6 +1,5 @@
--- What differs between the chips in numbers, RP2040 beside RP235x (docs/RP235X.md). `gpout` has, for each Gpout
--- source code from 0 on, the clock that it stands for: 0 ring, 1 crystal, 2 PLL sys, 3 PLL USB, 4 reference, 5 system, 7 USB,
--- 8 ADC, and 10 for none.
+-- The numbers in which the RP2040 and the RP235x differ (docs/RP235X.md). `gpout` lists the clock of each Gpout source code from
+-- 0 on: 0 ring, 1 crystal, 2 PLL sys, 3 PLL USB, 4 reference, 5 system, 7 USB, 8 ADC; 10 means no clock.
 use mathlib.Core.List.{[], _∷_}
 use Prim.Native.Nat.{_+_, _-_, _^_}
 use Rattle.step.specs.Kinds as kind
@@ -36,11 +35,11 @@ factsOf Rp235x =
       scale = 65536;
       «top_whole» = 65535;
       pass = 0xAA00;
-      first = 0x1EF3B7F;  -- 25 bits less 7, 10, 14, 15, 20
+      first = 0x1EF3B7F;  -- all 25 bits except 7, 10, 14, 15, 20
       plls = 0xC000;  -- bits 14, 15
-      last = 0x1FFFFFF - 2 ^ 3;  -- less HSTX
-      peri = 2 ^ 18 + 2 ^ 19;  -- SPI0, SPI1; the UARTs' 26, 27 are not among the 25
-      usb = 0;  -- USBCTRL's 28 is not among the 25
+      last = 0x1FFFFFF - 2 ^ 3;  -- without HSTX, which stays in reset
+      peri = 2 ^ 18 + 2 ^ 19;  -- SPI0, SPI1; the UARTs' bits 26, 27 are outside the 25 bits
+      usb = 0;  -- USBCTRL's bit 28 is outside the 25 bits
       adc = 2 ^ 0;  -- ADC
       rtc = 0;
       «preset_hz» = 150000000;

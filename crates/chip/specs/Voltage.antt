@@ -1,4 +1,5 @@
--- The core voltages of both chips: register codes, brownout levels, default settling times, and what a reading stands for.
+-- The core voltages of both chips with their register codes, brownout levels and default settling times, and the voltage of a
+-- reading (docs/FORMAT.md, Voltages).
 use Prim.Native.Nat.{ℕ}
 use mathlib.Core.List.{List, [], _∷_}
 use lib.Dec.{eqb}
@@ -9,7 +10,7 @@ use Rattle.chip.specs.declared.voltage.CoreVoltage.the-variants as old
 use Rattle.chip.specs.declared.voltage.CoreVoltage235.the-variants as new
 use Rattle.chip.specs.declared.voltage.{VoltageRead.VoltageRead, VoltageRead235.VoltageRead235}
 
--- a chip's voltages
+-- The type of the chip's voltages.
 abbrev pub VoltageOf : Chip → Type 0
 VoltageOf Rp2040 = CoreVoltage
 VoltageOf Rp235x = CoreVoltage235
@@ -17,7 +18,7 @@ VoltageOf Rp235x = CoreVoltage235
 abbrev pub row : ℕ → ℕ → ℕ → Volts
 row a b c = record { 0 = a; 1 = b; 2 = c }
 
--- the voltage code, the brownout level by the Rust's `recommended_bod`, and microseconds where a plan gives no settling time
+-- The voltage code, the brownout level of the Rust's `recommended_bod`, and the settling time in µs where the plan gives none.
 abbrev pub voltsOf : (chip : Chip) → VoltageOf chip → Volts
 voltsOf Rp2040 old.V0_80 = row 0 4 0
 voltsOf Rp2040 old.V0_85 = row 6 5 0
@@ -56,7 +57,7 @@ bodOf chip v = voltsOf chip v .1
 abbrev pub settlingOf : (chip : Chip) → VoltageOf chip → ℕ
 settlingOf chip v = voltsOf chip v .2
 
--- the voltages, each once
+-- The voltages of a chip, each once.
 abbrev pub voltages : (chip : Chip) → List (VoltageOf chip)
 voltages Rp2040 =
     old.V0_80 ∷ old.V0_85 ∷ old.V0_90 ∷ old.V0_95 ∷ old.V1_00 ∷ old.V1_05 ∷ old.V1_10 ∷ old.V1_15
@@ -65,16 +66,16 @@ voltages Rp235x =
     new.V0_55 ∷ new.V0_60 ∷ new.V0_65 ∷ new.V0_70 ∷ new.V0_75 ∷ new.V0_80 ∷ new.V0_85 ∷ new.V0_90
     ∷ new.V0_95 ∷ new.V1_00 ∷ new.V1_05 ∷ new.V1_10 ∷ new.V1_15 ∷ new.V1_20 ∷ new.V1_25 ∷ new.V1_30 ∷ []
 
--- the one of these voltages that has the code; refusal 18: unknown code
+-- The voltage with this code; 18 where no voltage has it.
 abbrev pub withCode : {A : Type 0} → (A → ℕ) → ℕ → List A → Answer A
 withCode codeOf code [] = refusal 18
 withCode codeOf code (v ∷ others) = pick (eqb code (codeOf v)) (value v) (withCode codeOf code others)
 
--- what `core_voltage` answers for a reading: 0 and 6 to 15 are codes of the RP2040, 0 to 15 of the RP235x
+-- The voltage of a reading: 0 and 6 to 15 are codes of the RP2040, 0 to 15 of the RP235x.
 abbrev pub coreVoltageOf : (chip : Chip) → ℕ → Answer (VoltageOf chip)
 coreVoltageOf chip reading = withCode (codeOf chip) reading (voltages chip)
 
--- the code's answers
+-- The answers of the code, and what each of their variants means.
 abbrev pub ReadOf : Chip → Type 0
 ReadOf Rp2040 = VoltageRead
 ReadOf Rp235x = VoltageRead235

@@ -1,4 +1,4 @@
-// The two chips, and the numbers in which they differ.
+// The two chips, and the numbers in which they differ (docs/RP235X.md).
 pub mod voltage;
 
 use step::kind;
@@ -10,28 +10,29 @@ pub enum Chip {
     Rp235x,
 }
 
-// What the sheet, the refusals and the formulas take from the chip.
+// The chip's numbers that the sheet, the refusals and the formulas use.
 pub struct Facts {
     pub top_reading: u8, // the greatest reading of the regulator
-    pub voltage: u8, // kinds of steps: the voltage,
-    pub brownout: u8, // the brownout level
-    pub divider: u8, // and the system divider
-    pub scale: u32, // parts of a divider's fraction
+    pub voltage: u8, // the kind of the voltage step
+    pub brownout: u8, // the kind of the brownout step
+    pub divider: u8, // the kind of the system divider step
+    pub scale: u32, // a divider's fraction counts in 1 / scale
     pub top_whole: u32, // the greatest whole part of a divider
-    pub pass: u16, // of the ring divider
-    pub first: u32, // reset bits: of the first reset,
-    pub plls: u32, // of the PLLs,
-    pub last: u32, // of the last release where every clock is there,
-    pub peri: u32, // and of those the bits of the peripheral clock,
-    pub usb: u32, // the USB clock,
-    pub adc: u32, // the ADC clock
-    pub rtc: u32, // and the RTC
+    pub pass: u16, // added to the ring divider in ROSC_DIV
+    pub first: u32, // RESETS bits of the first reset
+    pub plls: u32, // RESETS bits of the PLLs
+    pub last: u32, // RESETS bits of the last release with all clocks present
+    pub peri: u32, // RESETS bits of the blocks on the peripheral clock
+    pub usb: u32, // RESETS bits of the blocks on the USB clock
+    pub adc: u32, // RESETS bits of the blocks on the ADC clock
+    pub rtc: u32, // RESETS bits of the blocks on the RTC clock
     pub preset_hz: u32, // the system frequency of the crystal preset
-    pub preset_post: u8, // and its first post divider
+    pub preset_post: u8, // the first post divider of the crystal preset
     pub gpout: [u8; 12], // the clock of each Gpout source code, 10 for none
 }
 
 impl Chip {
+    // The numbers of this chip.
     pub fn facts(self) -> Facts
         ensures { λ r. ⌜ r ≡ factsOf self ⌝ }
     {

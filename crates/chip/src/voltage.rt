@@ -1,4 +1,4 @@
-// The core voltage: its register codes, brownout levels and default settling times.
+// The core voltages of both chips: register codes, brownout levels and default settling times (docs/FORMAT.md, Voltages).
 ghost use mathlib.Core.Path.{_≡_};
 ghost use Rattle.chip.specs.declared.Chip.the-variants.{Rp2040, Rp235x};
 ghost use Rattle.chip.specs.Voltage.{voltsOf, codeOf, bodOf, settlingOf, coreVoltageOf, readIs};
@@ -6,7 +6,7 @@ ghost use Rattle.chip.specs.Voltage.{voltsOf, codeOf, bodOf, settlingOf,
 // A voltage's register code, brownout level and default settling time in µs.
 pub struct Volts(pub u8, pub u8, pub u32);
 
-// Of the RP2040.
+// The core voltages of the RP2040.
 pub enum CoreVoltage {
     V0_80,
     V0_85,
@@ -21,13 +21,14 @@ pub enum CoreVoltage {
     V1_30,
 }
 
-// What a reading of the voltage register stands for; a refusal carries its number.
+// The voltage of a reading, or the number of the refusal.
 pub enum VoltageRead {
     Voltage(CoreVoltage),
     Refused(u8),
 }
 
 impl CoreVoltage {
+    // The register code, the brownout level and the default settling time of this voltage.
     pub fn volts(self) -> Volts
         ensures { λ r. ⌜ r ≡ voltsOf Rp2040 self ⌝ }
     {
@@ -53,14 +54,14 @@ impl CoreVoltage {
         self.volts().0
     }
 
-    // The brownout detector's level.
+    // The level for the brownout detector at this voltage.
     pub fn recommended_bod(self) -> u8
         ensures { λ r. ⌜ r ≡ bodOf Rp2040 self ⌝ }
     {
         self.volts().1
     }
 
-    // Microseconds to wait after a change to this voltage, where a plan gives no time.
+    // Microseconds to wait after a change to this voltage where the plan gives no time.
     pub fn default_settling_us(self) -> u32
         ensures { λ r. ⌜ r ≡ settlingOf Rp2040 self ⌝ }
     {
@@ -68,7 +69,7 @@ impl CoreVoltage {
     }
 }
 
-// The voltage whose code was read; 18 where the code is unknown.
+// The RP2040 voltage whose code was read; 18 where the code is unknown.
 pub fn core_voltage(reading: u8) -> VoltageRead
     ensures { λ r. ⌜ readIs Rp2040 r ≡ coreVoltageOf Rp2040 reading ⌝ }
 {
@@ -88,7 +89,7 @@ pub fn core_voltage(reading: u8) -> VoltageRead
     }
 }
 
-// Of the RP235x.
+// The core voltages of the RP235x.
 pub enum CoreVoltage235 {
     V0_55,
     V0_60,
@@ -108,12 +109,14 @@ pub enum CoreVoltage235 {
     V1_30,
 }
 
+// The voltage of a reading, or the number of the refusal.
 pub enum VoltageRead235 {
     Voltage(CoreVoltage235),
     Refused(u8),
 }
 
 impl CoreVoltage235 {
+    // The register code, the brownout level and the default settling time of this voltage.
     pub fn volts(self) -> Volts
         ensures { λ r. ⌜ r ≡ voltsOf Rp235x self ⌝ }
     {
@@ -144,14 +147,14 @@ impl CoreVoltage235 {
         self.volts().0
     }
 
-    // The brownout detector's level.
+    // The level for the brownout detector at this voltage.
     pub fn recommended_bod(self) -> u8
         ensures { λ r. ⌜ r ≡ bodOf Rp235x self ⌝ }
     {
         self.volts().1
     }
 
-    // Microseconds to wait after a change to this voltage, where a plan gives no time.
+    // Microseconds to wait after a change to this voltage where the plan gives no time.
     pub fn default_settling_us(self) -> u32
         ensures { λ r. ⌜ r ≡ settlingOf Rp235x self ⌝ }
     {
@@ -159,6 +162,7 @@ impl CoreVoltage235 {
     }
 }
 
+// The RP235x voltage whose code was read; 18 where the code is unknown.
 pub fn core_voltage_235(reading: u8) -> VoltageRead235
     ensures { λ r. ⌜ readIs Rp235x r ≡ coreVoltageOf Rp235x reading ⌝ }
 {

@@ -1,4 +1,4 @@
--- `chip::Chip::facts` meets its contract.
+-- `chip::Chip::facts` meets its contract: each variant of the chip picks its row.
 use borrow.Author.Needs.{needs}
 use Rattle.chip.proofs.Chip.facts.Statement.{statement}
 use Rattle.chip.proofs.Chip.facts.Tie as tie

@@ -1,4 +1,4 @@
--- `chip::voltage::CoreVoltage235::volts` meets its contract.
+-- `chip::voltage::CoreVoltage235::volts` meets its contract: each variant of the voltage picks its row.
 use borrow.Author.Needs.{needs}
 use Rattle.chip.proofs.voltage.CoreVoltage235.volts.Statement.{statement}
 use Rattle.chip.proofs.voltage.CoreVoltage235.volts.Tie as tie
