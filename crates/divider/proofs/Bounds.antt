@@ -1,9 +1,9 @@
--- How large the formulas' numbers get.
+-- A divided clock has at most the frequency of its source.
 use Prim.Native.Nat.{ℕ, _+_, _*_, _≤_}
 use native.Mathlib.{Nat.le-refl, Nat.mul-le-mul, Nat.div-le-of-le-mul, Omega.arith}
 use Rattle.divider.specs.Clock.{dividedHz}
 
--- with a whole part from 1 on, a divided clock is at most its source
+-- This holds for a whole part of at least 1, as the divider is then at least the scale.
 pub divided-le : (scale source whole fraction : ℕ) → 1 ≤ whole → dividedHz scale source whole fraction ≤ source
 unfolding dividedHz
 divided-le scale source whole fraction h =

@@ -1,4 +1,4 @@
--- The PIO divider by one test: over a target of 0 it is 0, which is out of range.
+-- The range test alone decides the PIO divider: a target of 0 gives the quotient 0, which is out of range.
 use mathlib.Core.{Path._≡_, Path.refl, Bool.Bool, Bool.true, Bool.false}
 use Prim.Native.Nat.{ℕ, _*_, _/_}
 use native.Mathlib.Nat.{div-zero}

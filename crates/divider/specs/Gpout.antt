@@ -1,4 +1,4 @@
--- The frequency of a Gpout, `get_freq`.
+-- The frequency of a Gpout, the Rust's `get_freq` (docs/FORMAT.md, Gpout).
 use Prim.Native.Nat.{ℕ}
 use mathlib.Core.{Bool._&&_, List.List}
 use lib.{Dec.leb, Dec.ltb, Dec.eqb, ListN.getD}
@@ -9,23 +9,22 @@ use Rattle.divider.specs.declared.GpoutDiv.{GpoutDiv}
 use Rattle.divider.specs.declared.GpoutDiv.the-variants.{Rp2040 as On2040, Rp235x as On235x}
 use Rattle.divider.specs.Clock.{dividedHz}
 
--- the clock, by its number in the list of clocks, that a source code stands for; 10, no clock, for other codes
+-- The clock number of a source code; 10, which is no clock, for an unknown code.
 unfoldable pub gpoutClock : Chip → ℕ → ℕ
 gpoutClock chip source = getD (factsOf chip .gpout) source 10
 
--- whole part 0 counts as 65536 (datasheet)
+-- A whole part of 0 counts as 65536, as the datasheets state.
 abbrev pub gpoutWhole : ℕ → ℕ
 gpoutWhole whole = pick (eqb whole 0) 65536 whole
 
--- the formula of a divided clock over the stored frequency of the source code;
--- refusal 23: a source code that stands for no clock, or whole part over the chip's greatest
+-- The divided stored frequency of the source; 23 for an unknown source code or a whole part over the chip's greatest.
 unfoldable pub gpoutOf : Chip → ℕ → ℕ → ℕ → List ℕ → Answer ℕ
 gpoutOf chip source whole fraction freqs =
     pick (leb whole (factsOf chip .«top_whole») && ltb (gpoutClock chip source) 10)
     (value (dividedHz (factsOf chip .scale) (getD freqs (gpoutClock chip source) 0) (gpoutWhole whole) fraction))
     (refusal 23)
 
--- a divider names its chip, whose fraction it has
+-- A divider names its chip, which fixes the width of its fraction.
 abbrev pub gpoutIn : GpoutDiv → ℕ → List ℕ → Answer ℕ
 gpoutIn (On2040 whole fraction) source freqs = gpoutOf Rp2040 source whole fraction freqs
 gpoutIn (On235x whole fraction) source freqs = gpoutOf Rp235x source whole fraction freqs

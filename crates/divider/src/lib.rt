@@ -1,4 +1,4 @@
-// The formulas of the clocks: divided frequencies, delays, the Gpout frequency and the PIO divider.
+// The formulas of docs/FORMAT.md, Frequencies and delays: divided clocks, delays, the Gpout frequency and the PIO divider.
 use base::Number;
 use chip::Chip;
 ghost use mathlib.Core.Path.{_≡_};
@@ -9,19 +9,19 @@ ghost use Rattle.divider.specs.Delay.{startupSum, cyclesPerUs, settlingC
 ghost use Rattle.divider.specs.Gpout.{gpoutClock, gpoutWhole, gpoutOf, gpoutIn};
 ghost use Rattle.divider.specs.Pio.{pioOf};
 
-// The refusal of a Gpout that has no frequency.
+// The refusal of an unknown Gpout source or of a whole part that is too large.
 const NO_GPOUT: u8 = 23;
 
 // Cycles per microsecond where the ring has no frequency: from reset it runs at 12 MHz at most.
 const NO_RING: u64 = 12;
 
-// A Gpout's divider: the RP2040's fraction has 8 bits, the RP235x's 16.
+// The divider of a Gpout: the fraction has 8 bits on the RP2040, 16 on the RP235x.
 pub enum GpoutDiv {
     Rp2040 { whole: u32, fraction: u8 },
     Rp235x { whole: u32, fraction: u16 },
 }
 
-// A source over a divider of a whole part and a fraction in parts of the scale, rounded down; 0 over a divider of 0.
+// The source over whole + fraction / scale, in Hz, rounded down; a divider of 0 gives 0.
 pub fn divided_hz(scale: u32, source: u32, whole: u32, fraction: u16) -> u64
     ensures { λ r. ⌜ r ≡ dividedHz scale source whole fraction ⌝ }
 {
@@ -31,14 +31,14 @@ pub fn divided_hz(scale: u32, source: u32, whole: u32, fraction: u16) -> u64
     )
 }
 
-// The sum whose 256th part is the crystal's startup delay.
+// The crystal's startup delay before its division by 256.
 pub fn startup_sum(hz: u32, multiplier: u32) -> u64
     ensures { λ r. ⌜ r ≡ startupSum hz multiplier ⌝ }
 {
     (hz / 1000) as u64 * multiplier as u64 + 128
 }
 
-// Cycles that last at least a microsecond: the ring's MHz rounded up.
+// Cycles that take at least a microsecond: the ring's MHz rounded up.
 fn cycles_per_us(ring_hz: u32) -> u64
     ensures { λ r. ⌜ (r ≡ cyclesPerUs «ring_hz») × (r ≤ 4295) ⌝ }
 {
@@ -49,14 +49,14 @@ fn cycles_per_us(ring_hz: u32) -> u64
     }
 }
 
-// Cycles that last at least the settling time of the core voltage.
+// Cycles that take at least the settling time of the core voltage.
 pub fn settling_cycles(time_us: u32, ring_hz: u32) -> u64
     ensures { λ r. ⌜ r ≡ settlingCycles «time_us» «ring_hz» ⌝ }
 {
     time_us as u64 * cycles_per_us(ring_hz)
 }
 
-// The clock that a Gpout source code stands for, 10 where there is none.
+// The clock number of a Gpout source code, 10 where the code is unknown.
 fn gpout_clock(chip: Chip, source: u8) -> u8
     ensures { λ r. ⌜ r ≡ gpoutClock chip source ⌝ }
 {
@@ -77,7 +77,7 @@ fn gpout_whole(div_int: u32) -> u32
     if div_int == 0 { 65536 } else { div_int }
 }
 
-// The frequency of a Gpout over its source's. The divider is not 0, so the quotient is at most the source.
+// The frequency of a Gpout from that of its source. The divider is at least 1, so the result is at most the source.
 fn gpout_hz(scale: u32, source: u32, div_int: u32, div_frac: u16) -> u32
     ensures { λ r. ⌜ r ≡ dividedHz scale source (gpoutWhole «div_int») «div_frac» ⌝ }
 {
@@ -100,7 +100,8 @@ fn gpout_freq(chip: Chip, source: u8, div_int: u32, div_frac: u16, freqs: &[u32;
     }
 }
 
-// The frequency of a Gpout with this source code and divider, over the ten stored frequencies.
+// The frequency of a Gpout from its source code, its divider and the ten stored frequencies; 23 for an unknown code or a whole
+// part over the chip's greatest.
 pub fn get_freq(source: u8, divider: GpoutDiv, freqs: &[u32; 10]) -> Number
     ensures { λ r. ⌜ numberIs r ≡ gpoutIn divider source (now (freqs .entry)) ⌝ }
 {
@@ -122,8 +123,8 @@ pub fn get_freq(source: u8, divider: GpoutDiv, freqs: &[u32; 10]) -> Number
     }
 }
 
-// The divider, in 256ths, that makes a PIO state machine run at the target. Over a target of 0 it is 0, out of
-// range.
+// The divider, in 256ths, for a PIO state machine to run at the target; 17 where it is not 256 to 16777215. A target of 0 gives
+// the quotient 0, which is out of range.
 pub fn calculate_pio_clock_divider_value(sys_hz: u32, target_hz: u32) -> Number
     ensures { λ r. ⌜ numberIs r ≡ pioOf «sys_hz» «target_hz» ⌝ }
 {

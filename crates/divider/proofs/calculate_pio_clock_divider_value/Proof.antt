@@ -1,4 +1,5 @@
--- `divider::calculate_pio_clock_divider_value` meets its contract.
+-- `divider::calculate_pio_clock_divider_value` meets its contract: `pio-tested` leaves the range test alone, which `in_range`
+-- decides for the quotient.
 use borrow.Author.Needs.{needs}
 use native.Mathlib.Omega.{arith}
 use mathlib.Core.{Path._≡_, Path.ap, Bool.true}

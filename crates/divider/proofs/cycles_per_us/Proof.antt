@@ -1,4 +1,5 @@
--- `divider::cycles_per_us` meets its contract.
+-- `divider::cycles_per_us` meets its contract: the test of the code is the test of the definition, and a u32 frequency rounded up
+-- to MHz is at most 4295.
 use borrow.{Author.Needs.needs, Author.Tests.eq-eqb, Author.Tests.ne-eqb}
 use native.Mathlib.Omega.{arith}
 use Rattle.divider.specs.Delay.{cyclesPerUs}

@@ -1,4 +1,5 @@
--- `divider::divided_hz` meets its contract.
+-- `divider::divided_hz` meets its contract: `quotient` gives the result; `product-most` bounds both products, so nothing
+-- overflows 64 bits.
 use borrow.Author.Needs.{needs}
 use native.Mathlib.Omega.{arith}
 use Rattle.divider.specs.Clock.{dividedHz}

@@ -1,4 +1,4 @@
--- `divider::get_freq` meets its contract.
+-- `divider::get_freq` meets its contract: each variant of the divider names the chip that `gpout_freq` is called with.
 use borrow.Author.Needs.{needs}
 use Rattle.divider.proofs.get_freq.Statement.{statement}
 use Rattle.divider.proofs.get_freq.Tie as tie

@@ -1,4 +1,5 @@
--- `divider::gpout_clock` meets its contract.
+-- `divider::gpout_clock` meets its contract: a code below 12 is inside the table, where the default does not matter; from 12 on
+-- the default 10 is the answer.
 use mathlib.Core.{Path._≡_, Path.refl, Path.sym, List.List, List.[], List._∷_}
 use Prim.Native.Nat.{ℕ, zero, suc, _<_, _≤_}
 use native.Mathlib.Omega.{arith}

@@ -1,4 +1,5 @@
--- `divider::gpout_hz` meets its contract.
+-- `divider::gpout_hz` meets its contract: `divided_hz` gives the frequency, and by `divided-le` it is at most the source, so the
+-- cast to 32 bits keeps it.
 use borrow.Author.Needs.{needs}
 use native.Mathlib.Omega.{arith}
 use Rattle.divider.proofs.{Bounds.divided-le, gpout_hz.Statement.statement}

@@ -1,4 +1,4 @@
--- `divider::gpout_whole` meets its contract.
+-- `divider::gpout_whole` meets its contract: the test of the code is the test of the definition, and both results are at least 1.
 use native.Mathlib.Omega.{arith}
 use borrow.Author.Tests.{eq-eqb, ne-eqb}
 use Rattle.divider.proofs.gpout_whole.Statement.{statement}

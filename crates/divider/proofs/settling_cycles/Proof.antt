@@ -1,4 +1,4 @@
--- `divider::settling_cycles` meets its contract.
+-- `divider::settling_cycles` meets its contract: `cycles_per_us` gives at most 4295 cycles, so the product fits in 64 bits.
 use borrow.Author.Needs.{needs}
 use native.Mathlib.Omega.{arith}
 use Rattle.divider.specs.Delay.{settlingCycles}

@@ -1,4 +1,5 @@
--- `divider::startup_sum` meets its contract.
+-- `divider::startup_sum` meets its contract: the definition is the code's; `product-most` bounds the product, so neither
+-- operation overflows 64 bits.
 use Prim.Native.Nat.{_/_}
 use borrow.Author.Needs.{needs}
 use native.Mathlib.Omega.{arith}
