@@ -1,4 +1,5 @@
--- Copying words to the start of a buffer: what a turn of the copy leaves, and the two ends of it.
+-- Copying words to the start of a buffer: one iteration adds one word's bytes, and the room decides which result is the specified
+-- one.
 use mathlib.Core.{Bool.true, Bool.false, Path._≡_, Path.refl, Path.ap, Path._∙_}
 use mathlib.Core.List.{List, [], _∷_, _++_, map, map-append, append-nil}
 use Prim.Native.Nat.{ℕ, _+_, _*_, _≤_, _<_}
@@ -9,7 +10,7 @@ use native.Mathlib.{Numerals.add-one, Omega.arith}
 use Rattle.step.specs.{Bytes.bytes8, Bytes.turnedOf, Bytes.bytesOf, Access.roomFor, Access.copied, Inside.splice}
 use Rattle.step.proofs.Sheets.{length-bytes8, length-bytesOf, bytesOf-append}
 
--- the word after the first i
+-- After the first i words, writing word i extends the bytes at the start by its eight.
 pub copied-more : (ws b₀ b : List ℕ) (i : ℕ) → i < length ws
     → b ≡ bytesOf (map turnedOf (take i ws)) ++ drop (8 * i) b₀
     → splice b (8 * i) (bytes8 (turnedOf (getD ws i 0)))

@@ -1,4 +1,4 @@
--- A length that a sheet may have.
+-- A length that a sheet may have is at most 528.
 use mathlib.Core.{Bool.false, Bool.not, Path._≡_}
 use Prim.Native.Nat.{ℕ, _%_, _≤_}
 use borrow.Author.Tests.{ltb-false}

@@ -1,4 +1,4 @@
-// The words of steps as bytes in a buffer.
+// The words of steps as bytes in a buffer: a sheet has the most significant byte of a word first.
 use crate::Unpacked;
 use crate::packing::bits;
 use crate::packing::place;
@@ -12,7 +12,7 @@ ghost use Rattle.step.specs.Bytes.{bytes8, word8, turnedOf};
 ghost use Rattle.step.specs.Access.{roomFor, copied, readAt, wordAt};
 ghost use Rattle.step.specs.Inside.{splice};
 
-// The byte of x right below bit `above`.
+// The byte of x directly below bit `above`.
 fn octet(x: u64, above: u32) -> u8
     requires { ⌜ (8 ≤ above) × (above ≤ 64) ⌝ }
     ensures { λ r. ⌜ r ≡ x / 2 ^ (above - 8) % 2 ^ 8 ⌝ }
@@ -35,8 +35,8 @@ fn put_turned(buf: &mut [u8], at: usize, word: u64)
     buf[at + 7] = octet(word, 64);
 }
 
-// Writes words whose bytes are turned to the start of buf, and answers whether there was room; without it nothing is
-// written. Bytes in the machine's own order compile to one plain copy.
+// Writes byte-swapped words to the start of buf and answers whether there was room; without room it writes nothing. Bytes in the
+// order of the machine compile to one plain copy.
 pub fn copy_turned(words: &[u64], buf: &mut [u8]) -> bool
     ensures { λ r. ⌜ r ≡ roomFor (now (words .entry)) (now (buf .entry)) ⌝ }
     ensures { λ _. ⌜ now (buf .exit) ≡ copied (now (words .entry)) (now (buf .entry)) ⌝ }
@@ -53,14 +53,14 @@ pub fn copy_turned(words: &[u64], buf: &mut [u8]) -> bool
     true
 }
 
-// A byte at 64 bits.
+// A byte widened to 64 bits.
 fn byte_value(x: u8) -> u64
     ensures { λ r. ⌜ r ≡ x ⌝ }
 {
     x as u64
 }
 
-// The byte at i, right below bit `above`, over the bits of rest.
+// The byte at index i, placed directly below bit `above`, over the bits of rest.
 fn byte_over(buf: &[u8], i: usize, above: u32, rest: u64) -> u64
     requires { ⌜ (i < length (now buf)) × (8 ≤ above) × (above ≤ 64) × (rest < 2 ^ (above - 8)) ⌝ }
     ensures { λ r. ⌜ (r ≡ getD (now (buf .entry)) i 0 % 2 ^ 8 * 2 ^ (above - 8) + rest) × (r < 2 ^ above) ⌝ }
@@ -68,7 +68,7 @@ fn byte_over(buf: &[u8], i: usize, above: u32, rest: u64) -> u64
     place(above, 8, byte_value(buf[i]), rest)
 }
 
-// The word whose 8 bytes stand at `at`, the least significant first.
+// The word whose 8 bytes start at `at`, the least significant first.
 fn get_reversed(buf: &[u8], at: usize) -> u64
     requires { ⌜ at + 8 ≤ length (now buf) ⌝ }
     ensures { λ r. ⌜ r ≡ word8 (reverse (take 8 (drop at (now (buf .entry))))) ⌝ }
@@ -83,7 +83,7 @@ fn get_reversed(buf: &[u8], at: usize) -> u64
     byte_over(buf, at + 7, 64, r1)
 }
 
-// The byte of x right below bit `from`, right below bit `above`, over the bits of rest.
+// The byte of x directly below bit `from`, moved directly below bit `above`, over the bits of rest.
 fn moved_over(x: u64, from: u32, above: u32, rest: u64) -> u64
     requires { ⌜ (8 ≤ from) × (from ≤ 64) × (8 ≤ above) × (above ≤ 64) × (rest < 2 ^ (above - 8)) ⌝ }
     ensures { λ r. ⌜ (r ≡ x / 2 ^ (from - 8) % 2 ^ 8 % 2 ^ 8 * 2 ^ (above - 8) + rest) × (r < 2 ^ above) ⌝ }
@@ -91,7 +91,7 @@ fn moved_over(x: u64, from: u32, above: u32, rest: u64) -> u64
     place(above, 8, bits(x, from, 8), rest)
 }
 
-// The word with the same bytes in the other order.
+// The word with its bytes swapped.
 pub fn turned(x: u64) -> u64
     ensures { λ r. ⌜ r ≡ turnedOf x ⌝ }
 {
@@ -105,8 +105,8 @@ pub fn turned(x: u64) -> u64
     moved_over(x, 8, 64, r1)
 }
 
-// The word whose 8 bytes stand at `at`. Bytes in the machine's own order compile to one load, and the turn to one
-// instruction; read in the sheet's order and then taken apart by an arm of `unpack`, they would be eight loads.
+// The word whose 8 bytes start at `at`. Bytes in the order of the machine compile to one load, and the swap to one instruction;
+// bytes read in the order of the sheet compile to eight loads.
 fn get(buf: &[u8], at: usize) -> u64
     requires { ⌜ at + 8 ≤ length (now buf) ⌝ }
     ensures { λ r. ⌜ r ≡ word8 (take 8 (drop at (now (buf .entry)))) ⌝ }
@@ -114,7 +114,7 @@ fn get(buf: &[u8], at: usize) -> u64
     turned(get_reversed(buf, at))
 }
 
-// The step whose 8 bytes stand at `at`.
+// The step whose 8 bytes start at `at`; 20 where fewer than 8 bytes follow or they are not a step.
 pub fn read(buf: &[u8], at: usize) -> Unpacked
     ensures { λ r. ⌜ unpackedIs r ≡ readAt (now (buf .entry)) at ⌝ }
 {
@@ -127,7 +127,7 @@ pub fn read(buf: &[u8], at: usize) -> Unpacked
     unpack(get(buf, at))
 }
 
-// The word whose 8 bytes stand at `at`, 0 where there are not eight.
+// The word whose 8 bytes start at `at`, 0 where fewer than 8 bytes follow.
 pub fn word(buf: &[u8], at: usize) -> u64
     ensures { λ r. ⌜ r ≡ wordAt (now (buf .entry)) at ⌝ }
 {

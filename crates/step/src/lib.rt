@@ -1,4 +1,4 @@
-// The sheet's step format: a step as a 64-bit word by shifts and masks, and the word as 8 bytes.
+// The format of a step: a 64-bit word of a kind and its fields, stored as 8 bytes, the most significant first.
 mod access;
 pub mod kind;
 mod packing;
@@ -11,7 +11,7 @@ pub use packing::pack;
 ghost use mathlib.Core.Path.{_≡_};
 ghost use Rattle.step.specs.Size.{badSize};
 
-// The greatest number of steps of a sheet, and its bytes.
+// The greatest number of steps of a sheet, and of its bytes.
 pub const MAX_STEPS: usize = 66;
 
 pub const MAX_BYTES: usize = 8 * MAX_STEPS;
@@ -26,13 +26,13 @@ pub struct Step {
     pub f4: u64,
 }
 
-// What a word holds: a step, or the refusal's number.
+// The step of a word, or the number of the refusal.
 pub enum Unpacked {
     Step(Step),
     Refused(u8),
 }
 
-// Whether no sheet has this length.
+// Whether no sheet has this length in bytes: it is over 528 or not a multiple of 8.
 pub fn bad_size(n: usize) -> bool
     ensures { λ r. ⌜ r ≡ badSize n ⌝ }
 {

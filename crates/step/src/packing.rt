@@ -1,4 +1,4 @@
-// A step as a word: the widths of each kind's fields, and shifts and masks that place fields in a word and take them out.
+// Packs steps into words and unpacks them, by shifts and masks with the widths of each kind's fields.
 use crate::Step;
 use crate::Unpacked;
 use crate::kind;
@@ -10,10 +10,10 @@ ghost use Rattle.step.specs.Layout.{kinds};
 ghost use Rattle.step.specs.Steps.{stepOf, packOf, unpackedIs, unpackOf, kindIn, storable};
 ghost use Rattle.step.specs.Inside.{Laid};
 
-// The widths of a kind's five fields; 0 for one that it lacks.
+// The widths in bits of a kind's five fields; an absent field has width 0.
 struct Widths(u32, u32, u32, u32, u32);
 
-// The table of widths, as a `match`: a constant array would be stored to the stack at each read.
+// The table of widths is a `match`, since a constant array would be copied to the stack at each read.
 fn layout(kind: u8) -> Widths
     ensures { λ r. ⌜ Laid kind r ⌝ }
 {
@@ -75,7 +75,7 @@ fn low(x: u64, w: u32) -> u64
     x & ((1u64 << w) - 1)
 }
 
-// The w low bits of v, right below bit `above`, over the bits of rest.
+// The w low bits of v, placed directly below bit `above`, over the bits of rest.
 pub(crate) fn place(above: u32, w: u32, v: u64, rest: u64) -> u64
     requires { ⌜ (w < 64) × (w ≤ above) × (above ≤ 64) × (above - w < 64) × (rest < 2 ^ (above - w)) ⌝ }
     ensures { λ r. ⌜ (r ≡ v % 2 ^ w * 2 ^ (above - w) + rest) × (r < 2 ^ above) ⌝ }
@@ -83,7 +83,7 @@ pub(crate) fn place(above: u32, w: u32, v: u64, rest: u64) -> u64
     (low(v, w) << (above - w)) | rest
 }
 
-// The w bits of x right below bit `above`.
+// The w bits of x directly below bit `above`.
 pub(crate) fn bits(x: u64, above: u32, w: u32) -> u64
     requires { ⌜ (w < 64) × (w ≤ above) × (above - w < 64) ⌝ }
     ensures { λ r. ⌜ (r ≡ x / 2 ^ (above - w) % 2 ^ w) × (r < 2 ^ w) ⌝ }
@@ -91,8 +91,8 @@ pub(crate) fn bits(x: u64, above: u32, w: u32) -> u64
     low(x >> (above - w), w)
 }
 
-// The word of the step with this kind and these fields. A field too large for its width is cut to its low bits.
-// It takes numbers and not a Step so that a call with a constant kind compiles to that kind's few shifts.
+// The word of the step with this kind and these fields; a field that is too large is truncated to its low bits. It takes numbers
+// instead of a Step, so that a call with a constant kind compiles to the few shifts of that kind.
 pub fn pack(kind: u8, f0: u64, f1: u64, f2: u64, f3: u64, f4: u64) -> u64
     ensures { λ r. ⌜ r ≡ packOf (stepOf kind f0 f1 f2 f3 f4) ⌝ }
 {
@@ -109,14 +109,14 @@ pub fn pack(kind: u8, f0: u64, f1: u64, f2: u64, f3: u64, f4: u64) -> u64
     place(64, 6, kind as u64, r0)
 }
 
-// Whether a step's first two fields may stand in it: a store has a clock up to 9, and the RTC at most 65535 Hz.
+// Whether a step may have these first two fields: a store has a clock up to 9, and the RTC (9) has at most 65535 Hz.
 fn allowed(kind: u8, clock: u64, hz: u64) -> bool
     ensures { λ r. ⌜ r ≡ storable kind clock hz ⌝ }
 {
     (kind != kind::STORE) | ((clock <= 9) & ((clock != 9) | (hz <= 65535)))
 }
 
-// The step where its word is sound, else the refusal.
+// The step where its word is sound, else refusal 20.
 fn step_if(sound: bool, s: Step) -> Unpacked
     ensures { λ r. ⌜ unpackedIs r ≡ pick sound (value s) (refusal 20) ⌝ }
 {
@@ -127,14 +127,14 @@ fn step_if(sound: bool, s: Step) -> Unpacked
     }
 }
 
-// The kind that stands in a word.
+// The kind of a word, its six highest bits.
 fn kind_in(word: u64) -> u8
     ensures { λ r. ⌜ r ≡ kindIn word ⌝ }
 {
     bits(word, 64, 6) as u8
 }
 
-// The step of a word of this kind, or 20 for a spare bit that is set or a store that is not allowed.
+// The step of a word of this kind; 20 where a spare bit is set or a store is not allowed.
 fn unpack_as(kind: u8, word: u64) -> Unpacked
     requires { ⌜ (kind ≡ kindIn word) × (1 ≤ kind) × (kind ≤ kinds) ⌝ }
     ensures { λ r. ⌜ unpackedIs r ≡ unpackOf word ⌝ }
@@ -164,8 +164,8 @@ fn unpack_as(kind: u8, word: u64) -> Unpacked
     )
 }
 
-// The step of a word, or 20, also for an unknown kind. Each kind has an arm, since a call with a constant kind compiles
-// to that kind's few shifts.
+// The step of a word; 20 for an unknown kind, a set spare bit or a store that is not allowed. Each kind has an arm, since a call
+// with a constant kind compiles to the few shifts of that kind.
 pub(crate) fn unpack(word: u64) -> Unpacked
     ensures { λ r. ⌜ unpackedIs r ≡ unpackOf word ⌝ }
 {

@@ -1,4 +1,4 @@
--- `step::access::byte_over` meets its contract.
+-- `step::access::byte_over` meets its contract: `place` puts the byte above the bits of rest.
 use borrow.Author.Needs.{needs}
 use Rattle.step.proofs.access.byte_over.Statement.{statement}
 use Rattle.step.proofs.access.byte_over.Tie as tie

@@ -1,4 +1,4 @@
--- `step::access::get` meets its contract.
+-- `step::access::get` meets its contract: `get_reversed` gives the word of the reversed bytes, and `word-turned` swaps it back.
 use borrow.Author.Needs.{needs}
 use denote.Ref.{now}
 use Rattle.step.proofs.{Laws.word-turned, Runs.eight, access.get.Statement.statement}

@@ -1,4 +1,5 @@
--- `step::access::get_reversed` meets its contract.
+-- `step::access::get_reversed` meets its contract: `eight` names the eight bytes, and the eight equations of `byte_over`,
+-- inserted one into the other, are their word.
 use borrow.Author.Needs.{needs}
 use denote.Ref.{now}
 use Rattle.step.specs.Bytes.{word8}

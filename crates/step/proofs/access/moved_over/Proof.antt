@@ -1,4 +1,4 @@
--- `step::access::moved_over` meets its contract.
+-- `step::access::moved_over` meets its contract: `bits` takes the byte out and `place` puts it above the bits of rest.
 use borrow.Author.Needs.{needs}
 use Rattle.step.proofs.access.moved_over.Statement.{statement}
 use Rattle.step.proofs.access.moved_over.Tie as tie

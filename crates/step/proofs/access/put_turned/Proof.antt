@@ -1,4 +1,5 @@
--- `step::access::put_turned` meets its contract.
+-- `step::access::put_turned` meets its contract: `turned-bytes` gives the bytes of the byte-swapped word, `octet` each of them,
+-- and `stores` joins the eight stores.
 use borrow.Author.Needs.{needs}
 use Rattle.step.specs.{Bytes.bytes8, Inside.splice}
 use Rattle.step.proofs.{Laws.turned-bytes, Runs.stores, access.put_turned.Statement.statement}

@@ -1,4 +1,5 @@
--- `step::access::read` meets its contract.
+-- `step::access::read` meets its contract: without eight bytes `read-short` gives 20; with them `unpack` decides on the word of
+-- `get`.
 use borrow.Author.Needs.{needs}
 use native.Mathlib.Omega.{arith}
 use denote.Ref.{now}

@@ -1,4 +1,5 @@
--- `step::access::turned` meets its contract.
+-- `step::access::turned` meets its contract: the eight equations of `moved_over`, inserted one into the other, are the word of
+-- the reversed bytes.
 use borrow.Author.Needs.{needs}
 use Rattle.step.specs.Bytes.{bytes8, word8, turnedOf}
 use Rattle.step.proofs.access.turned.Statement.{statement}

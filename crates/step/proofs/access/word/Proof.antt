@@ -1,4 +1,4 @@
--- `step::access::word` meets its contract.
+-- `step::access::word` meets its contract: without eight bytes `word-short` gives 0; with them `get` gives the word.
 use borrow.Author.Needs.{needs}
 use mathlib.Core.Path.{sym, _∙_}
 use native.Mathlib.Omega.{arith}

@@ -1,4 +1,4 @@
--- `step::packing::allowed` meets its contract.
+-- `step::packing::allowed` meets its contract: the code is the definition.
 use mathlib.Core.Path.{refl}
 use Rattle.step.specs.Steps.{storable}
 use Rattle.step.proofs.packing.allowed.Statement.{statement}

@@ -1,4 +1,4 @@
--- `step::packing::bits` meets its contract.
+-- `step::packing::bits` meets its contract: `low` takes the remainder by 2^w, which is below 2^w.
 use borrow.Author.Needs.{needs}
 use Prim.Native.Nat.{_-_, _/_, _^_}
 use native.Mathlib.Nat.{mod-lt}

@@ -1,4 +1,4 @@
--- `step::packing::kind_in` meets its contract.
+-- `step::packing::kind_in` meets its contract: `bits` gives the six highest bits.
 use borrow.Author.Needs.{needs}
 use Rattle.step.specs.Steps.{kindIn}
 use Rattle.step.proofs.packing.kind_in.Statement.{statement}

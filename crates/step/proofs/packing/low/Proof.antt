@@ -1,4 +1,5 @@
--- `step::packing::low` meets its contract.
+-- `step::packing::low` meets its contract: `low-bits` turns the mask into a remainder; 2^w is positive, so the subtraction does
+-- not underflow.
 use borrow.Author.Needs.{needs}
 use native.Mathlib.Omega.{arith}
 use lib.Pow.{pow-pos}

@@ -1,4 +1,5 @@
--- `step::packing::pack` meets its contract.
+-- `step::packing::pack` meets its contract: the layout gives the widths, and the six equations of `place`, inserted one into the
+-- other, are the packed word.
 use borrow.Author.Needs.{needs}
 use native.Mathlib.Omega.{arith}
 use lib.Pow.{pow-pos}

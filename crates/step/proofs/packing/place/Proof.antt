@@ -1,4 +1,5 @@
--- `step::packing::place` meets its contract.
+-- `step::packing::place` meets its contract: the field and rest share no bit, so `place-bits` turns the `|` into a sum, which is
+-- below 2^above by `field-lt`.
 use borrow.Author.Needs.{needs}
 use mathlib.Core.Path.{_≡_}
 use Prim.Native.Nat.{ℕ, _+_, _-_, _*_, _%_, _^_, _<_}

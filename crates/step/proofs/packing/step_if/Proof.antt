@@ -1,4 +1,4 @@
--- `step::packing::step_if` meets its contract.
+-- `step::packing::step_if` meets its contract: the argument decides the choice.
 use borrow.Author.Needs.{needs}
 use Rattle.step.proofs.packing.step_if.Statement.{statement}
 use Rattle.step.proofs.packing.step_if.Tie as tie

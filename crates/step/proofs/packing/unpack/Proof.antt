@@ -1,4 +1,5 @@
--- `step::packing::unpack` meets its contract.
+-- `step::packing::unpack` meets its contract: each arm is `unpack_as` of its kind, and `unpack-unknown` shows that a word of any
+-- other kind is refused.
 use borrow.Author.Needs.{needs}
 use Rattle.step.proofs.{Laws.unpack-unknown, packing.unpack.Statement.statement}
 use Rattle.step.proofs.packing.unpack.Tie as tie

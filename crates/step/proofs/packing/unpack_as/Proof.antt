@@ -1,4 +1,5 @@
--- `step::packing::unpack_as` meets its contract.
+-- `step::packing::unpack_as` meets its contract: the layout gives the widths, `bits` each field and `low` the spare bits; the
+-- kind is known by the precondition.
 use borrow.{Author.Needs.needs, Author.Tests.le-leb}
 use mathlib.Core.{Bool.true, Path._≡_}
 use Prim.Native.Nat.{ℕ, _/_, _%_, _^_}
