@@ -1,4 +1,4 @@
--- What gathering steps gives: their words, from the first of the array on.
+-- Where there is room, the array holds the words of the appended steps in their order from its start on.
 use mathlib.Core.Path.{_≡_, refl, ap₂, _∙_}
 use mathlib.Core.List.{List, [], _∷_, _++_, map, append-nil}
 use Prim.Native.Nat.{ℕ, _+_, _≤_, _<_}
@@ -14,7 +14,7 @@ pub pushes-append : (g : Gathered) (xs ys : List Step) → pushes g (xs ++ ys) �
 pushes-append g [] ys = refl
 pushes-append g (x ∷ xs) ys = pushes-append (pushed g x) xs ys
 
--- the first words of the array are ws
+-- The words in use are ws.
 pub record Holds (g : Gathered) (ws : List ℕ) : Type 0 where
   pub count : g .len ≡ length ws
   pub whole : length (g .words) ≡ maxSteps
@@ -40,7 +40,7 @@ holds-pushes g ws (x ∷ xs) h few =
     (holds-pushes (pushed g x) (ws ++ (wordOf x ∷ [])) xs (holds-push g ws x h (omega arith))
     (simp length-append (omega arith)))
 
--- the words' bytes are turned back as they are copied
+-- Copying swaps the bytes back, so the sheet has the words of the steps.
 pub turned-back : (xs : List Step) → map turnedOf (map wordOf xs) ≡ map packOf xs
 turned-back [] = refl
 turned-back (x ∷ xs) =

@@ -1,4 +1,4 @@
--- The steps of a sheet, part by part in the order of docs/FORMAT.md. Each part ends with what it stores.
+-- The steps of a sheet, part by part (docs/FORMAT.md, Order of a sheet). The numbers in the comments are kinds of steps.
 use Prim.Native.Nat.{ℕ, _+_, _-_, _/_, _%_}
 use mathlib.Core.List.{List, [], _∷_, _++_}
 use lib.Dec.{eqb}
@@ -16,7 +16,7 @@ use Rattle.settings.specs.declared.{Sources.Sources, Frequencies.Frequencies}
 use Rattle.settings.specs.Codes.{rangeCode, refCode, sysSelect, sysAux, periAux, auxCode}
 use Rattle.settings.specs.{Settings.ringHz, Frequencies.frequenciesOf}
 
--- steps of a kind with fewer than five fields
+-- A step of a kind with fewer than five fields.
 abbrev pub step4 : ℕ → ℕ → ℕ → ℕ → ℕ → Step
 step4 k a b c d = stepOf k a b c d 0
 
@@ -32,16 +32,17 @@ step1 k a = stepOf k a 0 0 0 0
 abbrev pub step0 : ℕ → Step
 step0 k = stepOf k 0 0 0 0 0
 
--- a clock's frequency
+-- Stores the frequency of a clock.
 abbrev pub storeStep : ℕ → ℕ → Step
 storeStep clock hz = step2 kind.store clock hz
 
--- 38 first in a sheet of the RP235x
+-- A sheet of the RP235x starts with 38.
 abbrev pub markSteps : Chip → List Step
 markSteps Rp2040 = []
 markSteps Rp235x = step0 kind.chip-mark ∷ []
 
--- 1, 4, 5(0), 6(0), 7(0), 8(0), 1, 2, 3: all that is reset first, then the PLLs
+-- The head is 1, 4, 5(0), 6(0), 7(0), 8(0), 1, 2, 3. The first 1 has the mask of the first reset, the last three that of the
+-- PLLs.
 unfoldable pub headPart : Chip → List Step
 headPart chip =
     step1 kind.reset (factsOf chip .first)
@@ -55,7 +56,7 @@ headPart chip =
     ∷ step1 kind.wait-released (factsOf chip .plls)
     ∷ []
 
--- with a ring 9 to 12: strengths, divider and pass value, range
+-- With a ring there are 9 to 12: strengths, divider plus pass value, range.
 abbrev pub ringSteps : ℕ → OptionRosc → List Step
 ringSteps pass (OptionRosc.Some r) =
     step4 kind.strengths-0-3 (r .«drive_strength» .s0) (r .«drive_strength» .s1)
@@ -67,23 +68,25 @@ ringSteps pass (OptionRosc.Some r) =
     ∷ []
 ringSteps pass OptionRosc.None = []
 
--- store rosc
+-- The ring part ends with the store of `rosc`.
 unfoldable pub ringPart : ℕ → OptionRosc → List Step
 ringPart pass r = ringSteps pass r ++ (storeStep 0 (ringHz r) ∷ [])
 
+-- The settling step is 14.
 abbrev pub settlingSteps : OptionCycles → List Step
 settlingSteps (OptionCycles.Some n) = step1 kind.delay n ∷ []
 settlingSteps OptionCycles.None = []
 
--- if the voltage code differs from the reading 13, then 14 unless the settling time is 0, then 15; on the RP235x
--- 43 and 44 for 13 and 15
+-- Where the voltage code differs from the reading there is 13, then 14 unless the settling time is 0, then 15. The RP235x has 43
+-- and 44 instead of 13 and 15.
 unfoldable pub voltagePart : ℕ → Board → OptionCycles → List Step
 voltagePart reading b settling =
     pick (eqb (b .code) reading) []
     (step1 (factsOf (b .chip) .voltage) (b .code)
     ∷ (settlingSteps settling ++ (step1 (factsOf (b .chip) .brownout) (b .brownout) ∷ [])))
 
--- for a PLL present 19(1111), 14(10), 20, 21, 19(0011), 22, 23, 24, 14(100); which: 0 system, 1 USB
+-- A PLL that is present has 19(W, 1, 1, 1, 1), 14(10), 20, 21, 19(W, 0, 0, 1, 1), 22, 23, 24, 14(100); W is 0 for the system PLL,
+-- 1 for the USB PLL.
 abbrev pub pllSteps : ℕ → OptionPll → List Step
 pllSteps which (OptionPll.Some p) =
     stepOf kind.pll-power which 1 1 1 1
@@ -98,7 +101,7 @@ pllSteps which (OptionPll.Some p) =
     ∷ []
 pllSteps which OptionPll.None = []
 
--- with a crystal 16, 17, 18, then each PLL present
+-- With a crystal there are 16, 17, 18, then the PLLs, the system PLL first.
 unfoldable pub crystalPart : OptionCrystal → List Step
 crystalPart (OptionCrystal.Some x) =
     step1 kind.startup (x .delay)
@@ -107,11 +110,11 @@ crystalPart (OptionCrystal.Some x) =
     ∷ (pllSteps 0 (x .sys) ++ pllSteps 1 (x .usb))
 crystalPart OptionCrystal.None = []
 
--- store xosc, pll_sys, pll_usb
+-- The stores of `xosc`, `pll_sys` and `pll_usb`.
 abbrev pub sourcePart : Sources → List Step
 sourcePart f = storeStep 1 (f .xosc) ∷ storeStep 2 (f .«pll_sys») ∷ storeStep 3 (f .«pll_usb») ∷ []
 
--- 27, or of the RP235x 39 to 42
+-- The tick is 27, on the RP235x 39 to 42.
 abbrev pub tickSteps : Chip → ℕ → List Step
 tickSteps Rp2040 mhz = step1 kind.tick mhz ∷ []
 tickSteps Rp235x mhz =
@@ -121,7 +124,8 @@ tickSteps Rp235x mhz =
     ∷ step0 kind.watchdog-on
     ∷ []
 
--- store ref, 25, 8, 26, the tick; a divider of two bits holds 4 as 0; the tick is the reference's MHz rounded down
+-- The store of `ref`, then 25, 8, 26 and the tick, whose cycles are the reference's MHz rounded down. The divider field has two
+-- bits and holds 4 as 0.
 abbrev pub refPart : Chip → ℕ → RefClkConfig → List Step
 refPart chip hz c =
     storeStep 4 hz
@@ -130,11 +134,11 @@ refPart chip hz c =
     ∷ step1 kind.ref-divider (c .div % 4)
     ∷ tickSteps chip (hz / 1000000)
 
--- unless the source is Ref 28(0,0), 6(0)
+-- Before the aux source changes, 28(0, 0) and 6(0) select the reference clock; they are absent where it is the source.
 unfoldable pub switchSteps : ℕ → List Step
 switchSteps select = pick (eqb select 0) [] (step2 kind.sys-control 0 0 ∷ step1 kind.wait-sys 0 ∷ [])
 
--- store sys; the switch; then 28, 6, 29; on the RP235x 45 for 29
+-- The store of `sys`, the switch, then 28, 6 and 29; the RP235x has 45 instead of 29.
 unfoldable pub sysPart : Board → ℕ → SysClkSrc → List Step
 sysPart b hz src =
     storeStep 5 hz
@@ -144,23 +148,25 @@ sysPart b hz src =
     ∷ step2 (factsOf (b .chip) .divider) (b .whole) (b .fraction)
     ∷ []))
 
+-- A peripheral clock that is present has 30.
 abbrev pub periSteps : OptionPeri → List Step
 periSteps (OptionPeri.Some src) = step1 kind.peri-control (periAux src) ∷ []
 periSteps OptionPeri.None = []
 
--- 30, store
+-- The peripheral part ends with the store of `peri`.
 unfoldable pub periPart : ℕ → OptionPeri → List Step
 periPart hz o = periSteps o ++ (storeStep 6 hz ∷ [])
 
--- a divider of two bits, then phase and source; each clock has its kinds
+-- USB and ADC each have a kind for the divider, a field of two bits, and a kind for phase and source.
 abbrev pub auxSteps : ℕ → ℕ → OptionAux → List Step
 auxSteps divider control (OptionAux.Some a) = step1 divider (a .div % 4) ∷ step2 control (a .phase) (auxCode (a .src)) ∷ []
 auxSteps divider control OptionAux.None = []
 
--- 31, 32, store; 33, 34, store
+-- USB has 31, 32 and its store; ADC has 33, 34 and its store.
 unfoldable pub auxPart : ℕ → ℕ → ℕ → ℕ → OptionAux → List Step
 auxPart divider control clock hz o = auxSteps divider control o ++ (storeStep clock hz ∷ [])
 
+-- An RTC that is present has 35 and 36.
 abbrev pub rtcSteps : OptionRtc → List Step
 rtcSteps (OptionRtc.Some r) =
     step2 kind.rtc-divider (r .«div_int») (r .«div_frac»)
@@ -168,12 +174,12 @@ rtcSteps (OptionRtc.Some r) =
     ∷ []
 rtcSteps OptionRtc.None = []
 
--- 35, 36, store; nothing of the RP235x
+-- The RTC part ends with the store of `rtc`; the RP235x has no RTC part.
 unfoldable pub rtcPart : Chip → ℕ → OptionRtc → List Step
 rtcPart Rp2040 hz o = rtcSteps o ++ (storeStep 9 hz ∷ [])
 rtcPart Rp235x hz o = []
 
--- the bits that the last release leaves out where a clock is absent
+-- The reset bits that the last release leaves out where a clock is absent (docs/FORMAT.md, Masks).
 abbrev pub periBits : ℕ → OptionPeri → ℕ
 periBits bits (OptionPeri.Some src) = 0
 periBits bits OptionPeri.None = bits
@@ -186,17 +192,17 @@ abbrev pub rtcBits : ℕ → OptionRtc → ℕ
 rtcBits bits (OptionRtc.Some r) = 0
 rtcBits bits OptionRtc.None = bits
 
--- what is released last, less the bits of absent clocks
+-- The mask of the last release is the chip's without the bits of absent clocks.
 unfoldable pub releaseMask : Chip → OptionPeri → OptionAux → OptionAux → OptionRtc → ℕ
 releaseMask chip p u a r =
     let k = factsOf chip in
     k .last - (periBits (k .peri) p + auxBits (k .usb) u + auxBits (k .adc) a + rtcBits (k .rtc) r)
 
--- last 2 and 3 with the mask
+-- The sheet ends with 2 and 3 of this mask.
 abbrev pub lastPart : ℕ → List Step
 lastPart mask = step1 kind.release mask ∷ step1 kind.wait-released mask ∷ []
 
--- from the sources on
+-- The parts from the stores of the sources on.
 unfoldable pub clocksPart : Settings → Frequencies → List Step
 clocksPart s f =
     sourcePart (f .sources)
@@ -208,7 +214,7 @@ clocksPart s f =
     ++ (rtcPart (s .board .chip) (f .rtc) (s .board .rtc)
     ++ lastPart (releaseMask (s .board .chip) (s .peri) (s .usb) (s .adc) (s .board .rtc))))))))
 
--- the whole sheet
+-- All steps of the sheet.
 unfoldable pub stepsOf : ℕ → Settings → List Step
 stepsOf reading s =
     markSteps (s .board .chip)
@@ -218,7 +224,7 @@ stepsOf reading s =
     ++ (crystalPart (s .xosc)
     ++ clocksPart s (frequenciesOf s)))))
 
--- the greatest number of steps of a chip's sheet
+-- The greatest number of steps of a sheet for this chip.
 abbrev pub mostSteps : Chip → ℕ
 mostSteps Rp2040 = 65
 mostSteps Rp235x = maxSteps

@@ -1,4 +1,5 @@
--- `sheet_steps::add5` meets its contract.
+-- `sheet_steps::add5` meets its contract: the test for room is the test of the definition, and `turned` of `pack` is the word of
+-- the step.
 use borrow.{Author.Tests.lt-ltb, Author.Tests.le-ltb, Author.Needs.needs}
 use Rattle.sheet_steps.specs.Gather.{pushed}
 use Rattle.sheet_steps.proofs.add5.Statement.{statement}
