@@ -1,4 +1,5 @@
-// The first parts of a sheet: the head, the ring, the voltage, the crystal and its PLLs.
+// The first parts of a sheet: head, ring, voltage, crystal with its PLLs. Each function appends the steps of its part to the
+// words and answers the new number of words in use.
 use chip::Chip;
 use config::Board;
 use config::OptionPll;
@@ -33,7 +34,7 @@ fn put_head(words: &mut Words, at: usize, chip: Chip) -> usize
     add1(words, at, kind::WAIT_RELEASED, k.plls as u64)
 }
 
-// The mark and the head, from the first word on. Of a constant chip they are constant words, so each chip has its arm.
+// Writes the chip mark and the head from the first word on. Each chip has its arm, as a constant chip gives constant words.
 pub fn put_start(words: &mut Words, chip: Chip) -> usize
     ensures { λ r. ⌜ held (now (words .exit)) r ≡ pushes (held (now (words .entry)) 0) (markSteps chip ++ headPart chip) ⌝ }
 {
@@ -46,6 +47,7 @@ pub fn put_start(words: &mut Words, chip: Chip) -> usize
     }
 }
 
+// Appends the ring part; without a ring it is only the store of 0 Hz.
 pub fn put_ring(words: &mut Words, at: usize, pass: u16, ring: OptionRosc) -> usize
     ensures { λ r. ⌜ held (now (words .exit)) r ≡ pushes (held (now (words .entry)) at) (ringPart pass ring) ⌝ }
 {
@@ -74,7 +76,7 @@ fn put_settling(words: &mut Words, at: usize, settling: OptionCycles) -> usize
     }
 }
 
-// The voltage's step. A constant kind compiles to a few shifts, so each chip has its arm.
+// Appends the voltage step. Each chip has its arm, as a constant kind compiles to a few shifts.
 fn put_code(words: &mut Words, at: usize, chip: Chip, code: u64) -> usize
     ensures { λ r. ⌜ held (now (words .exit)) r ≡ pushed (held (now (words .entry)) at) (step1 (factsOf chip .voltage) code) ⌝ }
 {
@@ -93,7 +95,7 @@ fn put_brownout(words: &mut Words, at: usize, chip: Chip, level: u64) -> usize
     }
 }
 
-// Nothing where the voltage is as it was read.
+// Appends the voltage part; it is empty where the voltage code equals the reading.
 pub fn put_voltage(
     words: &mut Words,
     at: usize,
@@ -112,7 +114,7 @@ pub fn put_voltage(
     put_brownout(words, at, chip, b.brownout as u64)
 }
 
-// Which PLL: 0 system, 1 USB.
+// Appends the nine steps of a PLL that is present; `which` is 0 for the system PLL, 1 for the USB PLL.
 fn put_pll(words: &mut Words, at: usize, which: u64, pll: OptionPll) -> usize
     ensures { λ r. ⌜ held (now (words .exit)) r ≡ pushes (held (now (words .entry)) at) (pllSteps which pll) ⌝ }
 {
@@ -134,6 +136,7 @@ fn put_pll(words: &mut Words, at: usize, which: u64, pll: OptionPll) -> usize
     }
 }
 
+// Appends the crystal part: the crystal, the system PLL, the USB PLL. It is empty without a crystal.
 pub fn put_crystal(words: &mut Words, at: usize, crystal: OptionCrystal) -> usize
     ensures { λ r. ⌜ held (now (words .exit)) r ≡ pushes (held (now (words .entry)) at) (crystalPart crystal) ⌝ }
 {

@@ -1,4 +1,4 @@
--- `source_parts::put_brownout` meets its contract.
+-- `source_parts::put_brownout` meets its contract: each chip's arm has the kind that `factsOf` has for it.
 use borrow.Author.Needs.{needs}
 use Rattle.source_parts.proofs.put_brownout.Statement.{statement}
 use Rattle.source_parts.proofs.put_brownout.Tie as tie

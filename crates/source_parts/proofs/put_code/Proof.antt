@@ -1,4 +1,4 @@
--- `source_parts::put_code` meets its contract.
+-- `source_parts::put_code` meets its contract: each chip's arm has the kind that `factsOf` has for it.
 use borrow.Author.Needs.{needs}
 use Rattle.source_parts.proofs.put_code.Statement.{statement}
 use Rattle.source_parts.proofs.put_code.Tie as tie

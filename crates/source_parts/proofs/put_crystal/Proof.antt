@@ -1,4 +1,5 @@
--- `source_parts::put_crystal` meets its contract.
+-- `source_parts::put_crystal` meets its contract: with a crystal the equations of the calls are its steps in turn, and
+-- `pushes-append` joins the PLLs; without one there are none.
 use Rattle.sheet_steps.proofs.Gathering.{pushes-append}
 use Rattle.sheet_steps.specs.Steps.{crystalPart}
 use borrow.Author.Needs.{needs}

@@ -1,4 +1,5 @@
--- `source_parts::put_head` meets its contract.
+-- `source_parts::put_head` meets its contract: the nine equations of the calls are the nine steps in turn, with the masks that
+-- `facts` gives.
 use Rattle.sheet_steps.specs.Steps.{headPart}
 use borrow.Author.Needs.{needs}
 use Rattle.source_parts.proofs.put_head.Statement.{statement}

@@ -1,4 +1,5 @@
--- `source_parts::put_pll` meets its contract.
+-- `source_parts::put_pll` meets its contract: for a PLL that is present the nine equations of the calls are the nine steps in
+-- turn; an absent one has none.
 use borrow.Author.Needs.{needs}
 use Rattle.source_parts.proofs.put_pll.Statement.{statement}
 use Rattle.source_parts.proofs.put_pll.Tie as tie

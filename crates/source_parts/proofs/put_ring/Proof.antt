@@ -1,4 +1,5 @@
--- `source_parts::put_ring` meets its contract.
+-- `source_parts::put_ring` meets its contract: with a ring the five equations of the calls are its steps and the store in turn;
+-- without one only the store is left.
 use Rattle.sheet_steps.specs.Steps.{ringPart}
 use borrow.Author.Needs.{needs}
 use Rattle.source_parts.proofs.put_ring.Statement.{statement}

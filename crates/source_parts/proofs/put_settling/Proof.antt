@@ -1,4 +1,4 @@
--- `source_parts::put_settling` meets its contract.
+-- `source_parts::put_settling` meets its contract: `add1` appends the delay where there is one.
 use borrow.Author.Needs.{needs}
 use Rattle.source_parts.proofs.put_settling.Statement.{statement}
 use Rattle.source_parts.proofs.put_settling.Tie as tie

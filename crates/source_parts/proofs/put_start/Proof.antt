@@ -1,4 +1,4 @@
--- `source_parts::put_start` meets its contract.
+-- `source_parts::put_start` meets its contract: each chip's arm is `put_head` of that chip, on the RP235x after the mark.
 use borrow.Author.Needs.{needs}
 use Rattle.source_parts.proofs.put_start.Statement.{statement}
 use Rattle.source_parts.proofs.put_start.Tie as tie

@@ -1,4 +1,5 @@
--- `source_parts::put_voltage` meets its contract.
+-- `source_parts::put_voltage` meets its contract: the test of the code decides whether the part is empty; else `pushes-append`
+-- joins the three calls.
 use borrow.{Author.Tests.eq-eqb, Author.Tests.ne-eqb, Author.Needs.needs}
 use Rattle.sheet_steps.proofs.Gathering.{pushes-append}
 use Rattle.sheet_steps.specs.Steps.{voltagePart}
