@@ -1,4 +1,5 @@
-// The parts of a sheet from the stores of the sources on: a clock each, and the last release.
+// The parts of a sheet from the stores of the sources on: one part for each clock, then the last release. Each function appends
+// the steps of its part to the words and answers the new number of words in use.
 use chip::Chip;
 use config::Board;
 use config::OptionAux;
@@ -55,7 +56,7 @@ fn put_ref(words: &mut Words, at: usize, chip: Chip, hz: u32, clock: RefClkConfi
     put_tick(words, at, chip, (hz / 1000000) as u64)
 }
 
-// Away from the auxiliary source before it changes, unless the source is the reference clock.
+// Selects the reference clock before the aux source changes; nothing is appended where the reference clock is the source.
 fn put_switch(words: &mut Words, at: usize, select: u64) -> usize
     ensures { λ r. ⌜ held (now (words .exit)) r ≡ pushes (held (now (words .entry)) at) (switchSteps select) ⌝ }
 {
@@ -101,7 +102,7 @@ fn put_peri(words: &mut Words, at: usize, hz: u64, peri: OptionPeri) -> usize
     }
 }
 
-// The USB clock or the ADC clock, by their kinds of steps. A divider of two bits holds 4 as 0.
+// Appends the part of the USB or the ADC clock with its kinds of steps. The divider field has two bits and holds 4 as 0.
 fn put_aux(
     words: &mut Words,
     at: usize,
@@ -125,7 +126,7 @@ fn put_aux(
     }
 }
 
-// Of the RP2040.
+// Appends the RTC part of the RP2040.
 fn put_rtc_2040(words: &mut Words, at: usize, hz: u64, rtc: OptionRtc) -> usize
     ensures { λ r. ⌜ held (now (words .exit)) r ≡ pushes (held (now (words .entry)) at) (rtcPart Rp2040 hz rtc) ⌝ }
 {
@@ -151,7 +152,7 @@ fn put_rtc(words: &mut Words, at: usize, chip: Chip, hz: u64, rtc: OptionRtc) ->
     }
 }
 
-// The bits that the last release leaves out where a clock is absent.
+// The reset bits that the last release leaves out where a clock is absent (docs/FORMAT.md, Masks).
 fn peri_bits(bits: u32, peri: OptionPeri) -> u32
     ensures { λ r. ⌜ r ≡ periBits bits peri ⌝ }
 {
@@ -190,6 +191,7 @@ fn release_mask(chip: Chip, peri: OptionPeri, usb: OptionAux, adc: OptionAux, rt
     base::less(k.last as usize, kept) as u64
 }
 
+// Appends all parts from the stores of the sources on, with the last release.
 pub fn put_clocks(words: &mut Words, at: usize, s: Settings, f: Frequencies) -> usize
     ensures { λ r. ⌜ held (now (words .exit)) r ≡ pushes (held (now (words .entry)) at) (clocksPart s f) ⌝ }
 {

@@ -1,4 +1,5 @@
--- `clock_parts::put_clocks` meets its contract.
+-- `clock_parts::put_clocks` meets its contract: the equations of the calls are the parts in turn, with the mask of
+-- `release_mask`, and `pushes-append` joins them.
 use Rattle.sheet_steps.specs.Steps.{clocksPart}
 use Rattle.sheet_steps.proofs.Gathering.{pushes-append}
 use borrow.Author.Needs.{needs}

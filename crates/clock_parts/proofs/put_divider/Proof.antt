@@ -1,4 +1,4 @@
--- `clock_parts::put_divider` meets its contract.
+-- `clock_parts::put_divider` meets its contract: each chip's arm has the kind that `factsOf` has for it.
 use borrow.Author.Needs.{needs}
 use Rattle.clock_parts.proofs.put_divider.Statement.{statement}
 use Rattle.clock_parts.proofs.put_divider.Tie as tie

@@ -1,4 +1,5 @@
--- `clock_parts::put_peri` meets its contract.
+-- `clock_parts::put_peri` meets its contract: a clock that is present has its control step with the code of `peri_aux` and the
+-- store; an absent one has only the store.
 use Rattle.sheet_steps.specs.Steps.{periPart}
 use borrow.Author.Needs.{needs}
 use Rattle.clock_parts.proofs.put_peri.Statement.{statement}

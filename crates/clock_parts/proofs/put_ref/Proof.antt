@@ -1,4 +1,4 @@
--- `clock_parts::put_ref` meets its contract.
+-- `clock_parts::put_ref` meets its contract: the equations of the calls are the steps in turn, with the code of `ref_code`.
 use borrow.Author.Needs.{needs}
 use Rattle.clock_parts.proofs.put_ref.Statement.{statement}
 use Rattle.clock_parts.proofs.put_ref.Tie as tie

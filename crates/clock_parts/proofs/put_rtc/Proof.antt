@@ -1,4 +1,4 @@
--- `clock_parts::put_rtc` meets its contract.
+-- `clock_parts::put_rtc` meets its contract: the RP2040's arm is `put_rtc_2040`; the RP235x has no RTC part.
 use Rattle.sheet_steps.specs.Steps.{rtcPart}
 use borrow.Author.Needs.{needs}
 use Rattle.clock_parts.proofs.put_rtc.Statement.{statement}

@@ -1,4 +1,4 @@
--- `clock_parts::put_sources` meets its contract.
+-- `clock_parts::put_sources` meets its contract: the three equations of `add2` are the three stores in turn.
 use borrow.Author.Needs.{needs}
 use Rattle.clock_parts.proofs.put_sources.Statement.{statement}
 use Rattle.clock_parts.proofs.put_sources.Tie as tie

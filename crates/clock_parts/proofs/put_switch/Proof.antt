@@ -1,4 +1,4 @@
--- `clock_parts::put_switch` meets its contract.
+-- `clock_parts::put_switch` meets its contract: the test of the code decides whether there are steps; the two calls append them.
 use borrow.{Author.Tests.eq-eqb, Author.Tests.ne-eqb, Author.Needs.needs}
 use Rattle.sheet_steps.specs.Steps.{switchSteps}
 use Rattle.clock_parts.proofs.put_switch.Statement.{statement}

@@ -1,4 +1,5 @@
--- `clock_parts::put_sys` meets its contract.
+-- `clock_parts::put_sys` meets its contract: the equations of the calls are the steps in turn, with the codes of `sys_aux` and
+-- `sys_select`; `pushes-append` joins the switch.
 use Rattle.sheet_steps.specs.Steps.{sysPart}
 use Rattle.sheet_steps.proofs.Gathering.{pushes-append}
 use borrow.Author.Needs.{needs}

@@ -1,4 +1,4 @@
--- `clock_parts::put_tick` meets its contract.
+-- `clock_parts::put_tick` meets its contract: each chip's arm appends the steps that the definition has for it.
 use borrow.Author.Needs.{needs}
 use Rattle.clock_parts.proofs.put_tick.Statement.{statement}
 use Rattle.clock_parts.proofs.put_tick.Tie as tie

@@ -1,4 +1,5 @@
--- `clock_parts::release_mask` meets its contract.
+-- `clock_parts::release_mask` meets its contract: the four bit functions give the terms of the sum that `less` subtracts from the
+-- chip's last mask.
 use Rattle.sheet_steps.specs.Steps.{releaseMask}
 use borrow.Author.Needs.{needs}
 use Rattle.clock_parts.proofs.release_mask.Statement.{statement}
