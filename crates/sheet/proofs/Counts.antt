@@ -1,5 +1,5 @@
--- What a sheet holds at most: for any weight of the kinds no sheet weighs more than one with every part. So it has at most
--- 65 steps.
+-- For any weight of the kinds no sheet weighs more than one with every part. With weight 1 this bounds the number of steps: 65,
+-- on the RP235x 66.
 use Prim.Native.Nat.{ℕ, _+_, _/_, _≤_}
 use mathlib.Core.{Bool.Bool, Bool.true, Bool.false, List.List, List.[], List._∷_, List._++_, Path._≡_, Path.refl}
 use lib.{Dec.eqb, ListN.length}
@@ -30,7 +30,7 @@ use Rattle.sheet_steps.specs.Steps.{step1, step2, markSteps, headPart, ringPart
 use Rattle.sheet_steps.specs.Steps.{crystalPart, tickSteps, switchSteps, sysPart, periPart, auxPart, rtcPart, clocksPart}
 use Rattle.sheet_steps.specs.Steps.{stepsOf, mostSteps}
 
--- the sum of a weight over kinds, and over the kinds of steps
+-- The sum of a weight over kinds, and over the kinds of steps.
 abbrev pub weight : (ℕ → ℕ) → List ℕ → ℕ
 weight w [] = 0
 weight w (k ∷ ks) = w k + weight w ks
@@ -47,7 +47,7 @@ weight-append : (w : ℕ → ℕ) (xs ys : List ℕ) → weight w (xs ++ ys) ≡
 weight-append w [] ys = omega arith
 weight-append w (x ∷ xs) ys = omega (arith, weight-append w xs ys)
 
--- the kinds of each part where nothing is absent (docs/FORMAT.md, Order of a sheet)
+-- The kinds of each part where nothing is absent (docs/FORMAT.md, Order of a sheet).
 abbrev headKinds : List ℕ
 headKinds = 1 ∷ 4 ∷ 5 ∷ 6 ∷ 7 ∷ 8 ∷ 1 ∷ 2 ∷ 3 ∷ []
 
@@ -66,7 +66,7 @@ crystalKinds = 16 ∷ 17 ∷ 18 ∷ (pllKinds ++ pllKinds)
 abbrev sysKinds : Chip → List ℕ
 sysKinds chip = 37 ∷ 28 ∷ 6 ∷ 28 ∷ 6 ∷ factsOf chip .divider ∷ []
 
--- what the chips have apart
+-- The kinds in which the two chips differ.
 abbrev markKinds : Chip → List ℕ
 markKinds Rp2040 = []
 markKinds Rp235x = 38 ∷ []
@@ -195,7 +195,7 @@ unfolding sheetKinds clocksKinds
 chip-count Rp2040 = (refl, omega arith)
 chip-count Rp235x = (refl, omega arith)
 
--- a sheet has at most its chip's steps: 65 of the RP2040
+-- A sheet has at most the steps of its chip: 65 on the RP2040, 66 on the RP235x.
 pub chip-few : (reading : ℕ) (s : Settings) → length (stepsOf reading s) ≤ mostSteps (s .board .chip)
 chip-few reading s =
     omega (arith, steps-most (λ k. 1) reading s, counted (stepsOf reading s), chip-count (s .board .chip) .0)

@@ -1,4 +1,4 @@
--- Demand 3, first of the definitions, then of any two calls of the writer, from what it promises alone: the settings of an
+-- Demand 3 is shown for the definitions, then for any two calls of the writer from its contract alone. The settings of an
 -- accepted plan are read back from its steps, and its steps from its bytes.
 use mathlib.Core.{Path._≡_, Path.sym, Path.ap, Path._∙_, Logic._↔_, List.List, List._++_}
 use Prim.Native.Nat.{ℕ, _≤_, _<_}
@@ -18,7 +18,7 @@ use Rattle.sheet.specs.{Read.settingsFrom, Writer.sheetBytes, Writer.ref
 use Rattle.sheet.specs.Demand3.{SameUpTo, Demand3}
 use Rattle.sheet.proofs.{Sheets.settings-back, Sheets.steps-formed, Ends.accepted, Ends.refused, Ends.too-short}
 
--- of the definitions
+-- Two accepted plans have equal bytes exactly when their settings are equal.
 pub same-sheets : (p q : ClockConfig) (reading : ℕ) → Typed (settingsOf p reading) → Typed (settingsOf q reading)
     → Accepted p reading → Accepted q reading
     → (sheetBytes p reading ≡ sheetBytes q reading) ↔ (settingsOf p reading ≡ settingsOf q reading)
@@ -33,19 +33,19 @@ same-sheets p q reading tp tq ep eq = (
   λ e. ap (λ (s : Settings). encoded (stepsOf reading s)) e,
 )
 
--- so a sheet tells its chip
+-- So the bytes of a sheet determine its chip.
 pub one-chip : (p q : ClockConfig) (reading : ℕ) → Typed (settingsOf p reading) → Typed (settingsOf q reading)
     → refusalIn p reading ≡ 0 → refusalIn q reading ≡ 0
     → sheetBytes p reading ≡ sheetBytes q reading → boardOf (p .chip) .chip ≡ boardOf (q .chip) .chip
 one-chip p q reading tp tq ep eq e =
     ap (λ (s : Settings). s .board .chip) (same-sheets p q reading tp tq ep eq .0 e)
 
--- ---- of the writer
+-- ---- calls of the writer
 
 never : {m n : ℕ} → _≡_ {A = Answer ℕ} (refusal m) (value n) → ⊥
 never {m} {n} e = let z : _≡_ {A = ℕ} 0 1 = cc in omega arith
 
--- a call that answered a length: its plan is accepted, the length is the sheet's, and the buffer starts with the sheet
+-- After a call that answers a length the plan is accepted, the length is the sheet's, and the buffer starts with the sheet.
 pub record Answered (p : ClockConfig) (reading : ℕ) (before : List ℕ) (n : ℕ) (after : List ℕ) : Type 0 where
   pub ok : Accepted p reading
   pub room : length (sheetBytes p reading) ≤ length before
@@ -53,7 +53,7 @@ pub record Answered (p : ClockConfig) (reading : ℕ) (before : List ℕ) (n : �
   pub bytes : after ≡ sheetBytes p reading ++ drop n before
 
 module _ (p : ClockConfig) (reading : ℕ) (b b′ : List ℕ) (r : Length) (o : InitCall p reading b r b′) where
-  -- an accepted plan whose sheet finds room is answered
+  -- A call with an accepted plan and room for its sheet answers the length.
   pub answers : Accepted p reading → length (sheetBytes p reading) ≤ length b
       → lengthIs r ≡ value (length (sheetBytes p reading))
   answers h l = o .answer ∙ sym (accepted p reading b (o .typed) h l .answer)
@@ -63,7 +63,7 @@ module _ (p : ClockConfig) (reading : ℕ) (b b′ : List ℕ) (r : Length) (o :
       elim (ℕ-discrete (refusalIn p reading) 0)
       [ yes h ↦ fits h | no h ↦ absurd (unlike (refused p reading b (o .typed) h)) ]
     where
-      -- no other end of the writer answers a length
+      -- A refusal answers no length.
       unlike : {k : ℕ} {after : List ℕ} → InitCall p reading b (Refused k) after → ⊥
       unlike other = never (other .answer ∙ sym (o .answer) ∙ e)
 
@@ -78,7 +78,7 @@ module _ (p : ClockConfig) (reading : ℕ) (b b′ : List ℕ) (r : Length) (o :
           elim (decLe (length (sheetBytes p reading)) (length b))
           [ yes l ↦ written h l | no l ↦ absurd (unlike (too-short p reading b (o .typed) h (lt-of-not-le l))) ]
 
--- byte i of what such a call left is byte i of the sheet
+-- Byte i of the buffer after such a call is byte i of the sheet.
 byte-at : {p : ClockConfig} {reading : ℕ} {b : List ℕ} {n : ℕ} {b′ : List ℕ} → Answered p reading b n b′
     → (i : ℕ) → i < n → getD b′ i 0 ≡ getD (sheetBytes p reading) i 0
 byte-at {p} {reading} {b} {n} {b′} a i h =

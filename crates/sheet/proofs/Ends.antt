@@ -1,4 +1,4 @@
--- A gathered sheet is ready to be written, and the three ways in which the writer ends.
+-- The collected words of an accepted plan are ready to be copied, and each of the writer's three ends meets its contract.
 use mathlib.Core.{Bool.true, Bool.false, Path._≡_, Path.refl, Path.sym, Path.ap, Path._∙_}
 use mathlib.Core.List.{List, [], _++_, map}
 use Prim.Native.Nat.{ℕ, _*_, _≤_, _<_}
@@ -21,7 +21,7 @@ use Rattle.sheet.proofs.Counts.{steps-few}
 use Rattle.sheet.specs.Writer.{sheetBytes, refusalIn, initAnswer, initBuffer, InitCall}
 use Rattle.sheet_steps.proofs.Gathering.{Holds, holds-pushes, turned-back}
 
--- gathered words whose bytes, turned as they are copied, are these
+-- The words in use, byte-swapped as they are copied, have these bytes.
 pub record Ready (g : Gathered) (bytes : List ℕ) : Type 0 where
   pub few : g .len ≤ maxSteps
   pub room : g .len ≤ length (g .words)
@@ -62,7 +62,7 @@ module _ (g : Gathered) (bytes b : List ℕ) (y : Ready g bytes) where
     rw (e, y .content, y .count, y .size),
   )
 
--- what the writer knows of a plan before it gathers
+-- The facts about a plan before its steps are collected.
 pub record Looked (p : ClockConfig) (reading : ℕ) (s : Settings) (x : Examined) : Type 0 where
   pub settings-are : s ≡ settingsOf p reading
   pub number-is : x .number ≡ refusalIn p reading
@@ -87,7 +87,7 @@ unfolding sheetBytes
 ready p reading l e =
     ready-of _ (steps-few reading (settingsOf p reading)) (rw (l .settings-are) at (e (l .frequencies-are)))
 
--- the greatest number of bytes is enough for every sheet
+-- Every sheet has at most 528 bytes.
 pub sheet-most : (p : ClockConfig) (reading : ℕ) → length (sheetBytes p reading) ≤ maxBytes
 unfolding sheetBytes
 sheet-most p reading =

@@ -1,5 +1,5 @@
--- Accepted plans at reading 11: the crystal presets, whose sheets have 62 and 63 steps, and plans whose sheets have as many
--- steps as their chip's may.
+-- These plans are accepted at reading 11: the crystal presets, whose sheets have 62 and 63 steps, and for each chip a plan whose
+-- sheet has the greatest number of steps.
 use mathlib.Core.{Path._≡_, Path.refl, List.[], List._∷_, List.map}
 use Prim.Native.Nat.{ℕ}
 use lib.ListN.{length, getD}
@@ -22,17 +22,17 @@ use Rattle.refusals.specs.Refusals.{refusalOf, Accepted}
 use Rattle.sheet_steps.specs.Steps.{step0, step1, headPart, ringPart, voltagePart, crystalPart, switchSteps, sysPart}
 use Rattle.sheet_steps.specs.Steps.{periPart, auxPart, rtcPart, releaseMask, clocksPart, stepsOf}
 
--- a plan of numbers of their types that is accepted at a reading and gives a sheet of n steps
+-- A plan within the bounds of its number types is accepted at a reading and gives a sheet of n steps.
 pub record Gives (p : ClockConfig) (reading n : ℕ) : Type 0 where
   pub typed : Typed (settingsOf p reading)
   pub accepted : Accepted p reading
   pub count : length (stepsOf reading (settingsOf p reading)) ≡ n
 
--- the RP2040 makes 133 MHz of 12 MHz at 1.15 V
+-- The RP2040 at 133 MHz from 12 MHz, at 1.15 V.
 unfoldable pub longestPlan : ClockConfig
 longestPlan = fromPlls Rp2040 V1_15 (ringConfig 6500000 Medium 16) (feeding 12000000 (setting 133 6 2))
 
--- the RP235x's crystal preset with a divider of 1 and 32768 / 65536 at 1.15 V
+-- The crystal preset of the RP235x with a system divider of 1 + 32768 / 65536, at 1.15 V.
 unfoldable pub longest235 : ClockConfig
 longest235 =
     let p = crystalPlan Rp235x 12000000 in
@@ -89,12 +89,12 @@ longest-steps = counts .2
 pub longest-steps-235 : Gives longest235 11 maxSteps
 longest-steps-235 = counts .3
 
--- 150 MHz over 1.5 in the datasheet's scale
+-- 150 MHz over 1.5, as the fraction counts in 1 / 65536.
 pub system-235 : sysIn (settingsOf longest235 11) ≡ 100000000
 unfolding longest235 dividedHz pllHz sourcesOf refHz sysHz
 system-235 = refl
 
--- its order of steps, and the masks and dividers in it
+-- The kinds of the steps of the RP235x's crystal preset in their order, and its masks and dividers.
 pub crystal-kinds-235 : map (λ (x : Step). x .kind) (stepsOf 11 (settingsOf (crystalPlan Rp235x 12000000) 11))
     ≡ 38 ∷ 1 ∷ 4 ∷ 5 ∷ 6 ∷ 7 ∷ 8 ∷ 1 ∷ 2 ∷ 3 ∷ 9 ∷ 10 ∷ 11 ∷ 12 ∷ 37 ∷ 16 ∷ 17 ∷ 18
     ∷ 19 ∷ 14 ∷ 20 ∷ 21 ∷ 19 ∷ 22 ∷ 23 ∷ 24 ∷ 14

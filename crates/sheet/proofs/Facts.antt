@@ -1,4 +1,4 @@
--- What the refusals of a plan leave of its numbers.
+-- Bounds for the numbers of a plan that the refusals do not exclude.
 use mathlib.Core.{Path._≡_, Bool.Bool, Bool.false, Bool._||_}
 use Prim.Native.Nat.{ℕ, _≤_, _<_}
 use native.Mathlib.Omega.{arith}
@@ -13,11 +13,11 @@ use Rattle.refusals.specs.Rules.{dividerBad, auxBad}
 use Rattle.refusals.proofs.Accepted.{divider-good}
 use Rattle.settings.proofs.Decoded.{Small, AuxSmall}
 
--- of a row of tests none of which holds, the last does not, nor the row before it
+-- Where none of a row of tests holds, the last one does not hold and no earlier one does.
 pub none-more : (row : Bool) (l x : ℕ) → row || ltb l x ≡ false → (row ≡ false) × (x ≤ l)
 none-more row l x e = let h = both-false row (ltb l x) e in (h .0, ltb-false l x (h .1))
 
--- a divider and a phase that fit
+-- The divider and the phase of a present clock fit their fields.
 abbrev pub AuxFits : OptionAux → Type 0
 AuxFits (aux a) = Small (a .div) × (a .phase < 4)
 AuxFits noAux = Unit {0}
@@ -33,7 +33,7 @@ pub aux-divider : (o : OptionAux) → AuxFits o → AuxSmall o
 aux-divider (aux a) h = h .0
 aux-divider noAux h = tt
 
--- the settling step is none where the voltage stays
+-- There is no settling step where the voltage stays.
 pub settling-none : (reading code time hz : ℕ) → code ≡ reading → settlingStep reading code time hz ≡ noCycles
 unfolding settlingStep
 settling-none reading code time hz e = rw (eq-eqb code reading e)

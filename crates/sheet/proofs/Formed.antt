@@ -1,4 +1,4 @@
--- The steps of an accepted plan are well formed: every field fits its bits.
+-- The steps of an accepted plan are well formed: their kinds are known, and every field fits its bits.
 use mathlib.Core.{Path._≡_, Bool.Bool, Bool.true, Bool.false, Bool._||_, List.List, List.[], List._∷_, List._++_}
 use Prim.Native.Nat.{ℕ, _+_, _/_, _≤_, _<_, _^_}
 use native.Mathlib.Omega.{arith}
@@ -40,7 +40,7 @@ use Rattle.sheet_steps.specs.Steps.{pllSteps, crystalPart, sourcePart, tickStep
 use Rattle.sheet_steps.specs.Steps.{auxPart, rtcPart, releaseMask, lastPart}
 use Rattle.sheet.proofs.Facts.{none-more, AuxFits}
 
--- what is to be shown of each step, as one row of facts
+-- The three facts that make a step well formed.
 abbrev pub Good : Step → Type 0
 Good s = T (known (s .kind)) × Fill (widths (s .kind)) (values s) × T (storable (s .kind) (s .f0) (s .f1))
 
@@ -52,7 +52,7 @@ good-append : (xs ys : List Step) → AllGood xs → AllGood ys → AllGood (xs 
 good-append [] ys g h = h
 good-append (x ∷ xs) ys g h = (g .0, good-append xs ys (g .1) h)
 
--- the same as a type that shows its list, so that parts are joined without naming them
+-- A record keeps the list in the type, so that parts are joined without naming them.
 pub record GoodSteps (xs : List Step) : Type 0 where
   pub each : AllGood xs
 
@@ -67,9 +67,9 @@ all-formed (x ∷ xs) g = (record { is-known = g .0 .0; fill = g .0 .1; stores =
 pub formed : {xs : List Step} → GoodSteps xs → AllFormed xs
 formed {xs} g = all-formed xs (g .each)
 
--- what differs between the chips fits too
+-- The numbers in which the chips differ fit their fields too.
 
--- masks of 25 bits
+-- The masks have 25 bits.
 pub masks : (chip : Chip) → (factsOf chip .first < 2 ^ 25) × (factsOf chip .plls < 2 ^ 25) × (factsOf chip .last < 2 ^ 25)
 masks Rp2040 = omega arith
 masks Rp235x = omega arith
@@ -192,7 +192,7 @@ unfolding periPart known widths width rows storable
 peri-good hz h (peri src) = record { each = omega (arith, peri-code src .1) }
 peri-good hz h noPeri = record { each = omega arith }
 
--- the USB clock, or else the ADC clock
+-- The part of the USB clock where `usb` is true, else of the ADC clock.
 pub aux-good : (usb : Bool) (hz : ℕ) → Hz hz → (o : OptionAux) → AuxFits o
     → GoodSteps
     (auxPart (pick usb kind.usb-divider kind.adc-divider) (pick usb kind.usb-control kind.adc-control) (pick usb 7 8) hz o)

@@ -1,4 +1,4 @@
--- The settings are read back from the steps that they give.
+-- The settings of an accepted plan are read back from their steps, one part after another.
 use mathlib.Core.{Path._≡_, Path.refl, Bool.Bool, Bool.true, Bool.false, List.List, List.[], List._∷_, List._++_}
 use Prim.Native.Nat.{ℕ, _+_, _-_}
 use native.Mathlib.Omega.{arith}
@@ -83,7 +83,7 @@ module _ (reading : ℕ) (b : Board) (x : OptionCrystal) (hz : ℕ) (ys : List S
       go Rp235x (crystal x) = refl
       go Rp235x noCrystal = refl
 
-  -- where the voltage stays there is no settling step
+  -- Where the voltage stays there is no settling step.
   voltage-back : (o : OptionCycles) → (b .code ≡ reading → o ≡ noCycles)
       → readVoltage (factsOf (b .chip) .voltage) reading (voltagePart reading b o ++ rest) ≡ part (found o) rest
   unfolding voltagePart
@@ -116,7 +116,7 @@ tick-past : (chip : Chip) (mhz : ℕ) (ys : List Step) → pastTick chip (tickSt
 tick-past Rp2040 mhz ys = refl
 tick-past Rp235x mhz ys = refl
 
--- what stands behind 6 is no 28 where the source is Ref
+-- The step after 6 is the divider, not 28, where the source is the reference clock.
 no-control : (chip : Chip) → eqb (factsOf chip .divider) kind.sys-control ≡ false
 no-control Rp2040 = refl
 no-control Rp235x = refl
@@ -152,7 +152,7 @@ rtc-back (on2040 c) hz mask = go (c .«rtc_clk»)
     go noRtc = refl
 rtc-back (on235x c) hz mask = refl
 
--- plans whose settings are read back: every accepted plan is one
+-- The condition under which settings are read back; the settings of every accepted plan meet it.
 pub record Readable (reading : ℕ) (s : Settings) : Type 0 where
   pub still : s .board .code ≡ reading → s .settling ≡ noCycles
   pub reference : Small (s .reference .div)

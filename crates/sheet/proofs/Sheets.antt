@@ -1,4 +1,4 @@
--- What holds of the steps of an accepted plan: its settings are read back from them, and each step is well formed.
+-- The settings of an accepted plan are read back from its steps, and each of its steps is well formed.
 use mathlib.Core.{Path._≡_, Bool.true, Bool.false}
 use Prim.Native.Nat.{ℕ}
 use Rattle.config.specs.Board.{boardOf}

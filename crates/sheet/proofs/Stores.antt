@@ -1,4 +1,5 @@
--- The stores of a sheet are one for each clock in order, with the frequencies of the settings: ten, nine of the RP235x.
+-- A sheet has one store for each clock, in the order of the clock numbers, with the frequencies of the settings: ten stores, nine
+-- on the RP235x.
 use mathlib.Core.{Path._≡_, Path.refl, Path.ap, Bool.Bool, Bool.true, Bool.false, List.List, List.[], List._∷_, List._++_}
 use Prim.Native.Nat.{ℕ}
 use lib.Dec.{eqb}

@@ -1,5 +1,5 @@
--- Inside: the settings that a sheet's steps hold, taken out part by part in the order of the sheet.
--- It answers settings for any list of steps; what it answers for a plan's steps is the plan's settings: `settings-back`.
+-- The settings of a sheet's steps, read part by part in the order of the sheet. The definitions give settings for any list of
+-- steps; for the steps of a plan these are the plan's settings, as `settings-back` shows.
 use mathlib.Core.{Bool._&&_, List.List}
 use Prim.Native.Nat.{ℕ, _-_}
 use lib.{ListN.getD, ListN.drop, Dec.eqb}
@@ -15,24 +15,24 @@ use Rattle.settings.specs.declared.{OptionCrystal.OptionCrystal, OptionCycles.O
 use Rattle.settings.specs.Codes.{rangeFrom, refFrom, sysFrom, periFrom, auxFrom, divFrom, chipFrom}
 use Rattle.sheet_steps.specs.Steps.{step0}
 
--- what a part of a sheet sets, and the steps after it
+-- The setting that a part of a sheet gives, and the steps after the part.
 pub data Part (A : Type 0) : Type 0 where
   part : A → List Step → Part A
 
--- goes on with the steps after a part
+-- Continues with the steps after a part.
 infixl 5 _then_
 abbrev pub _then_ : {A B : Type 0} → Part A → (A → List Step → B) → B
 part a rest then f = f a rest
 
--- step i of a list; past its end one of kind 0, which no step has
+-- Step i of a list; past the end it is a step of kind 0, which no sheet has.
 abbrev pub stepAt : List Step → ℕ → Step
 stepAt xs i = getD xs i (step0 0)
 
--- 38 is there on the RP235x
+-- A first step of kind 38 means the RP235x.
 abbrev pub readChip : List Step → Part Chip
 readChip xs = pick (eqb (stepAt xs 0 .kind) kind.chip-mark) (part Rp235x (drop 1 xs)) (part Rp2040 xs)
 
--- 9 to 12 and the store where there is a ring, else the store; the pass value is the chip's
+-- With a ring the part has 9 to 12 and the store, else only the store; `pass` is the chip's pass value.
 abbrev pub readRing : ℕ → List Step → Part OptionRosc
 readRing pass xs =
     pick (eqb (stepAt xs 0 .kind) kind.strengths-0-3)
@@ -57,12 +57,12 @@ readRing pass xs =
     (drop 5 xs))
     (part OptionRosc.None (drop 1 xs))
 
--- the voltage code, and with it the settling step
+-- The voltage code and the settling step.
 pub record Voltage : Type 0 where
   pub code : ℕ
   pub settling : OptionCycles
 
--- 13, 14 if there, and 15; with no 13 the code is the reading; the kind in the place of 13 is the chip's
+-- The part has 13, 14 if the voltage settles, and 15; without 13 the code is the reading. `voltage` is the chip's kind, 13 or 43.
 abbrev pub readVoltage : ℕ → ℕ → List Step → Part Voltage
 readVoltage voltage reading xs =
     pick (eqb (stepAt xs 0 .kind) voltage)
@@ -71,7 +71,7 @@ readVoltage voltage reading xs =
     (part (record { code = stepAt xs 0 .f0; settling = OptionCycles.None }) (drop 2 xs)))
     (part (record { code = reading; settling = OptionCycles.None }) xs)
 
--- nine steps from 19 on where the PLL is there; which: 0 system, 1 USB
+-- A PLL that is present has nine steps from 19 on; `which` is 0 for the system PLL, 1 for the USB PLL.
 abbrev pub readPll : ℕ → List Step → Part OptionPll
 readPll which xs =
     pick (eqb (stepAt xs 0 .kind) kind.pll-power && eqb (stepAt xs 0 .f0) which)
@@ -86,7 +86,7 @@ readPll which xs =
     (drop 9 xs))
     (part OptionPll.None xs)
 
--- 16 to 18 and the PLLs; the crystal's Hz are in the store after them, which stays
+-- The part has 16 to 18 and the PLLs. The crystal's Hz are read from the store after it, which belongs to the next part.
 abbrev pub readCrystal : List Step → Part OptionCrystal
 readCrystal xs =
     pick (eqb (stepAt xs 0 .kind) kind.startup)
@@ -95,36 +95,36 @@ readCrystal xs =
     part (OptionCrystal.Some (record { hz = stepAt zs 0 .f1; delay = stepAt xs 0 .f0; sys = sys; usb = usb })) zs)
     (part OptionCrystal.None xs)
 
--- store, 25, 8 and 26
+-- The part has the store, 25, 8 and 26; the tick follows.
 abbrev pub readRef : List Step → Part RefClkConfig
 readRef xs = part (record { src = refFrom (stepAt xs 1 .f0); div = divFrom (stepAt xs 3 .f0) }) (drop 4 xs)
 
--- past 27, or 39 to 42
+-- The steps after the tick, which is 27 or, on the RP235x, 39 to 42.
 abbrev pub pastTick : Chip → List Step → List Step
 pastTick Rp2040 xs = drop 1 xs
 pastTick Rp235x xs = drop 4 xs
 
--- the system clock's source and divider
+-- The source and the divider of the system clock.
 pub record Sys : Type 0 where
   pub src : SysClkSrc
   pub whole : ℕ
   pub fraction : ℕ
 
--- store, 28, 6, a second 28 and 6 unless the source is Ref, the divider
+-- The part has the store, 28, 6, a second 28 and 6 unless the source is the reference clock, and the divider.
 abbrev pub readSys : List Step → Part Sys
 readSys xs =
     pick (eqb (stepAt xs 3 .kind) kind.sys-control)
     (part (record { src = sysFrom (stepAt xs 3 .f0); whole = stepAt xs 5 .f0; fraction = stepAt xs 5 .f1 }) (drop 6 xs))
     (part (record { src = SysClkSrc.Ref; whole = stepAt xs 3 .f0; fraction = stepAt xs 3 .f1 }) (drop 4 xs))
 
--- 30 and the store, else the store
+-- A peripheral clock that is present has 30 and the store, an absent one only the store.
 abbrev pub readPeri : List Step → Part OptionPeri
 readPeri xs =
     pick (eqb (stepAt xs 0 .kind) kind.peri-control)
     (part (OptionPeri.Some (periFrom (stepAt xs 0 .f0))) (drop 2 xs))
     (part OptionPeri.None (drop 1 xs))
 
--- USB from kind 31 on, ADC from 33 on: two steps and the store, else the store
+-- USB has 31 and 32, ADC 33 and 34, and the store; an absent clock has only the store.
 abbrev pub readAux : ℕ → List Step → Part OptionAux
 readAux divider xs =
     pick (eqb (stepAt xs 0 .kind) divider)
@@ -133,7 +133,7 @@ readAux divider xs =
     (drop 3 xs))
     (part OptionAux.None (drop 1 xs))
 
--- 35 and 36 where the RTC is there
+-- An RTC that is present has 35 and 36.
 abbrev pub readRtc : List Step → OptionRtc
 readRtc xs =
     pick (eqb (stepAt xs 0 .kind) kind.rtc-divider)
@@ -146,7 +146,7 @@ readRtc xs =
     }))
     OptionRtc.None
 
--- past the nine steps of the head, and later past the stores of xosc, pll_sys and pll_usb
+-- All parts in turn; the nine steps of the head and the stores of `xosc`, `pll_sys` and `pll_usb` are skipped.
 unfoldable pub settingsFrom : ℕ → List Step → Settings
 settingsFrom reading xs =
     readChip xs then λ chip xs.

@@ -1,4 +1,4 @@
--- Inside: the stores of a sheet.
+-- The stores of a sheet, which only the proofs of this crate use.
 use Prim.Native.Nat.{ℕ, _+_}
 use mathlib.Core.List.{List, [], _∷_}
 use lib.Dec.{eqb}
@@ -7,12 +7,12 @@ use Rattle.step.specs.declared.Step.{Step}
 use Rattle.step.specs.Kinds as kind
 use Rattle.sheet_steps.specs.Steps.{storeStep}
 
--- the stores among steps, in their order
+-- The stores among steps, in their order.
 abbrev pub storesIn : List Step → List Step
 storesIn [] = []
 storesIn (x ∷ xs) = pick (eqb (x .kind) kind.store) (x ∷ storesIn xs) (storesIn xs)
 
--- a store for each frequency, from this clock on
+-- A store for each frequency; the clock numbers rise from `clock`.
 abbrev pub storesFrom : ℕ → List ℕ → List Step
 storesFrom clock [] = []
 storesFrom clock (hz ∷ hzs) = storeStep clock hz ∷ storesFrom (clock + 1) hzs

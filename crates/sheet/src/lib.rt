@@ -1,4 +1,4 @@
-// The clock sheet of a plan: the plan is refused, or its steps are gathered and written as bytes.
+// The clock sheet of a plan: `init` refuses the plan, or collects its steps and writes them as bytes.
 
 use base::Length;
 use config::ClockConfig;
@@ -11,7 +11,7 @@ ghost use Rattle.sheet_steps.specs.Steps.{stepsOf};
 ghost use Rattle.sheet_steps.specs.Gather.{held, pushes};
 ghost use Rattle.sheet.specs.Writer.{InitCall};
 
-// The steps of settings at a regulator reading, with their frequencies, from the first word on.
+// Collects the steps of settings at a regulator reading, from the first word on; f has the frequencies of the settings.
 fn gather(words: &mut Words, s: Settings, f: Frequencies, reading: u8) -> usize
     ensures { λ r. ⌜ (f ≡ frequenciesOf s → held (now (words .exit)) r ≡ pushes (held (now (words .entry)) 0) (stepsOf reading s)) ⌝ }
 {
@@ -28,7 +28,8 @@ fn gather(words: &mut Words, s: Settings, f: Frequencies, reading: u8) -> usize
     clock_parts::put_clocks(words, at, s, f)
 }
 
-// Writes the sheet of a plan at a regulator reading to the start of the caller's bytes. A refusal changes nothing.
+// Writes the sheet of a plan at a regulator reading to the start of the caller's bytes and answers its length in bytes; 18, then
+// 1 to 14, then 19 where the bytes are too few. A refusal changes nothing.
 pub fn init(config: ClockConfig, reading: u8, sheet: &mut [u8]) -> Length
     ensures { λ r. ⌜ InitCall config reading (now (sheet .entry)) r (now (sheet .exit)) ⌝ }
 {

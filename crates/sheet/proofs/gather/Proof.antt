@@ -1,4 +1,5 @@
--- `sheet::gather` meets its contract.
+-- `sheet::gather` meets its contract: the equations of the five calls are the parts in turn, and `pushes-append` joins them to
+-- `stepsOf`.
 use Rattle.sheet_steps.specs.Steps.{stepsOf}
 use Rattle.sheet_steps.proofs.Gathering.{pushes-append}
 use borrow.Author.Needs.{needs}

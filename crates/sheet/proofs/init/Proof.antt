@@ -1,4 +1,5 @@
--- `sheet::init` meets its contract: each of its three ends.
+-- `sheet::init` meets its contract: it has three ends: `refused` by the number that `examine` gives, `too-short` where
+-- `copy_turned` finds no room, and `accepted`.
 use mathlib.Core.{Path.sym, Path._∙_, List.List}
 use Prim.Native.Nat.{ℕ}
 use native.Mathlib.Omega.{arith}
