@@ -1,4 +1,4 @@
--- The plan of a plan's settings has the same settings, and no larger multiplier or time.
+-- The plan that `planOf` makes of a plan's settings has the same settings, and no larger multiplier or time.
 use mathlib.Core.{Path._≡_, Path.refl, Path.sym, Path.ap, Path._∙_, Bool.Bool, Bool.true, Bool.false, List.List}
 use Prim.Native.Nat.{ℕ, _%_, _^_, _≤_}
 use native.Mathlib.{Nat.mod-eq-of-lt, Omega.arith}
@@ -35,7 +35,7 @@ crystal-kept (xosc x) ok =
     (rw (same, least .gives), rw same (least .most))
 crystal-kept noXosc ok = (refl, omega arith)
 
--- what is found of the settling step of a time
+-- The time that is found for a settling step gives the same step and is at most the original time.
 record Settled (reading code time hz : ℕ) : Type 0 where
   kept : settlingStep reading code (timeFor hz (settlingStep reading code time hz)) hz ≡ settlingStep reading code time hz
   most : timeFor hz (settlingStep reading code time hz) ≤ time
@@ -92,20 +92,20 @@ given-in : (sheet : List ℕ) (reading : ℕ)
 unfolding planIn planOf
 given-in sheet reading = refl
 
--- the bytes that a plan gives hold its steps
+-- The steps in the bytes of a plan's sheet are the plan's steps.
 steps-in : {sheet : List ℕ} {reading : ℕ} {q : ClockConfig} → Gives sheet reading q
     → stepsIn sheet ≡ stepsOf reading (settingsOf q reading)
 unfolding sheetBytes
 steps-in {sheet} {reading} {q} g =
     rw (← g .bytes) (steps-encoded (stepsOf reading (settingsOf q reading)) (steps-formed q reading (g .accepted) (g .typed)))
 
--- and no more steps than are read
+-- They are at most 66, so all of them are read.
 read-in : {sheet : List ℕ} {reading : ℕ} {q : ClockConfig} → Gives sheet reading q
     → stepsRead sheet ≡ stepsOf reading (settingsOf q reading)
 unfolding stepsRead
 read-in {sheet} {reading} {q} g = rw (steps-in g) (take-all maxSteps _ (steps-few reading (settingsOf q reading)))
 
--- where some plan gives the bytes, it is the plan of that plan's settings
+-- Where some plan gives the bytes, the plan that is read is the one of that plan's settings.
 pub plan-in : {sheet : List ℕ} {reading : ℕ} {q : ClockConfig} → Gives sheet reading q
     → planIn sheet reading ≡ planOf (settingsOf q reading)
 unfolding planIn
@@ -113,7 +113,7 @@ plan-in {sheet} {reading} {q} g =
     rw (read-in g, settings-back q reading (g .accepted), settings-fixed q reading (g .accepted) (g .typed))
 
 module _ {sheet : List ℕ} {reading : ℕ} where
-  -- the plan made of the bytes has the settings of every plan that gives them
+  -- The plan that is read from the bytes has the settings of every plan that gives them.
   pub settings-in : (q : ClockConfig) → Gives sheet reading q → settingsOf (planIn sheet reading) reading ≡ settingsOf q reading
   settings-in q g = rw (plan-in g) (settings-kept q reading (g .accepted))
 
@@ -127,7 +127,7 @@ module _ {sheet : List ℕ} {reading : ℕ} where
         bytes = ap (λ (s : Settings). encoded (stepsOf reading s)) e ∙ g .bytes;
       }
 
-  -- where the plan made of the bytes gives them, it is the one that comes back
+  -- Where the plan that is read gives the bytes, it is the one that the law states.
   pub back-in : Gives sheet reading (planIn sheet reading) → Back sheet reading (planIn sheet reading)
   back-in g =
       record {

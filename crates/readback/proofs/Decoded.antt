@@ -1,4 +1,4 @@
--- The steps in a sheet's bytes: at each place what the unpacker reads there, and of a plan's sheet the plan's steps.
+-- Each position of a sheet has the step that `readAt` gives there, and the steps of a plan's sheet are the plan's steps.
 use mathlib.Core.{Path._≡_, Path.refl, Path.ap, Path._∙_, List.List, List.[], List._∷_}
 use Prim.Native.Nat.{ℕ, zero, suc, _+_, _*_, _/_, _≤_, _<_}
 use native.Mathlib.{Nat.add-zero, Nat.zero-add, Omega.arith}

@@ -1,4 +1,4 @@
--- Sheets read back: those of the crystal presets.
+-- The sheets of the crystal presets are read back to these presets with a settling time of 0.
 use mathlib.Core.Path.{_≡_}
 use Prim.Native.Nat.{ℕ}
 use Rattle.base.specs.Answer.{value}
@@ -13,11 +13,11 @@ use Rattle.settings.specs.LeastPlan.{multiplierFor, timeFor, planWith, planOf}
 use Rattle.readback.specs.Read.{readOf}
 use Rattle.readback.proofs.Right.{written-read}
 
--- a plan with a given time; what else it holds stands in its settings, whatever the reading
+-- A plan with a given time; its other fields are those of its settings, which the reading does not change.
 pub timed : ClockConfig → ℕ → ClockConfig
 timed p time = planWith (settingsOf p 11) (p .xosc) (given time)
 
--- the multiplier 128 of the presets is the smallest for 12 MHz
+-- The multiplier 128 of the presets is the smallest for their delay at 12 MHz.
 pub crystal-back : readOf (sheetBytes (crystalPlan Rp2040 12000000) 11) 11
     ≡ value (timed (crystalPlan Rp2040 12000000) 0)
 unfolding timed planOf multiplierFor timeFor startupSum cyclesPerUs settlingCycles settlingStep

@@ -1,4 +1,4 @@
--- The settings of an accepted plan are not cut.
+-- Truncation does not change the settings of an accepted plan.
 use mathlib.Core.{Path._≡_, Path.refl, Bool.Bool, Bool.false, Bool._||_}
 use Prim.Native.Nat.{ℕ, _+_, _%_, _^_, _<_}
 use native.Mathlib.{Nat.mod-eq-of-lt, Omega.arith}
@@ -84,7 +84,7 @@ rtc-fixed source hz (rtc r) t e =
     rw (fits 32 (r .«div_int») (omega arith), fits 8 (r .«div_frac») t, fits 8 (r .phase) (omega arith))
 rtc-fixed source hz noRtc t e = refl
 
--- the chip's part, by what acceptance and the types leave of its numbers
+-- The chip-specific part fits its types by the tests of acceptance and the bounds of the types.
 chip-fixed : (c : ChipConfig) (source hz : ℕ) → FractionFits (boardOf c) → RtcTyped (boardOf c .rtc)
     → wholeBad (factsOf (boardOf c .chip) .«top_whole») (boardOf c .whole) ≡ false
     → rtcBad source hz (boardOf c .rtc) ≡ false → cutChip c ≡ c

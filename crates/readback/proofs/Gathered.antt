@@ -1,4 +1,4 @@
--- Steps held by value: those that are not passed, and those that a reader gathered one after another.
+-- Reading ahead and moving on in held steps, and the held steps after a reader has added steps one after another.
 use mathlib.Core.{Path._≡_, Path.refl, Path.sym, Path.ap, Path._∙_, Bool.Bool, Bool.true, Bool.false, List.List, List.[], List._∷_}
 use Prim.Native.Nat.{ℕ, zero, suc, _+_, _/_, _≤_, _<_, min}
 use native.Mathlib.{Nat.add-zero, Omega.arith}
@@ -19,7 +19,7 @@ drop-end [] (suc k) h = refl
 drop-end (x ∷ xs) zero h = absurd (omega arith)
 drop-end (x ∷ xs) (suc k) h = drop-end xs k (omega arith)
 
--- a place past the most steps is as good as the place behind them
+-- A read position over 66 can be replaced by 66: no step follows either.
 capped : (xs : List Step) → length xs ≤ maxSteps → (at n : ℕ) → drop n (drop at xs) ≡ drop (min at maxSteps + n) xs
 capped xs h at n = go (ltb maxSteps at) refl
   where
@@ -60,7 +60,7 @@ module _ (s : Steps) (n : ℕ) where
   pub held-outside : min (s .count) maxSteps ≤ place → stepAt (held s) n ≡ step0 0
   held-outside h = rw held-at (past-end kept place (omega (arith, length-take (min (s .count) maxSteps) (s .steps))))
 
--- the steps of a list, added one after another
+-- The first n steps of a list, added one after another.
 abbrev pub gathered : List Step → ℕ → Steps
 gathered xs zero = noSteps
 gathered xs (suc n) = added (gathered xs n) (stepAt xs n)
@@ -92,7 +92,7 @@ gathers xs (suc n) few inside =
     one-more xs n (gathered xs n) (gathers xs n (omega arith) (omega arith)) (omega arith) (omega arith)
 
 module _ (sheet : List ℕ) where
-  -- all that are read, once so many were added
+  -- After `countOf` additions the held steps are all that are read.
   pub all-read : held (gathered (stepsIn sheet) (countOf sheet)) ≡ stepsRead sheet
   unfolding held stepsRead stepsIn
   all-read =

@@ -1,4 +1,4 @@
--- What the writer leaves in the greatest number of bytes of a sheet: the plan's sheet where the plan is accepted.
+-- Into 528 bytes `init` writes the sheet of every accepted plan, and it refuses every other plan.
 use mathlib.Core.{Path._≡_, Path.sym, Path.ap, Path._∙_, List.List}
 use Prim.Native.Nat.{ℕ, _≤_}
 use native.Mathlib.Omega.{arith}

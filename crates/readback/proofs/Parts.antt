@@ -1,4 +1,4 @@
--- The parts of a sheet, each read of the steps behind the one before it.
+-- The settings of a sheet consist of its parts, each read from the steps after the previous one.
 use mathlib.Core.{Path._≡_, Path.refl, List.List}
 use Prim.Native.Nat.{ℕ}
 use lib.ListN.{drop}
@@ -18,7 +18,7 @@ use Rattle.readback.specs.Parse.{sysTaken, periTaken, usbTaken, adcTaken
 then-is : {A B : Type 0} (p : Part A) (f : A → List Step → B) → (p then f) ≡ f (valueIn p) (restIn p)
 then-is (part a rest) f = refl
 
--- what a part sets and the steps after it
+-- The truncated value of a part, and the steps after it.
 pub record Goes {A : Type 0} (cut : A → A) (p : Part A) (a : A) (after : List Step) : Type 0 where
   pub value : a ≡ cut (valueIn p)
   pub rest : restIn p ≡ after
@@ -55,14 +55,14 @@ pub past-tick : (chip : Chip) (xs : List Step) → pastTick chip xs ≡ drop (ti
 past-tick Rp2040 xs = refl
 past-tick Rp235x xs = refl
 
--- the chip's part of the plan
+-- The chip-specific part of the plan.
 abbrev pub chipThere : ℕ → List Step → ChipConfig
 chipThere reading xs =
     chipFrom (valueIn (chipTaken xs)) (valueIn (voltageTaken reading xs) .code)
     (valueIn (sysTaken reading xs) .whole) (valueIn (sysTaken reading xs) .fraction)
     (readRtc (restIn (adcTaken reading xs)))
 
--- the settings of the parts
+-- The settings are those of the parts.
 pub settings-there : (reading : ℕ) (xs : List Step)
     → _≡_ {A = Settings} (settingsFrom reading xs)
     (record {

@@ -1,4 +1,4 @@
--- What is answered is what the law asks for, and nothing else is: `readback-one`.
+-- The answer of the code is the one that the law states, and by `readback-one` no other answer meets the law.
 use mathlib.Core.{Path._≡_, Path.refl, Path.sym, Path.ap, Path._∙_, Bool.Bool, Bool.true, Bool.false, List.List, List._++_}
 use Prim.Native.Nat.{ℕ, _/_, _%_, _^_, _≤_, _<_}
 use native.Mathlib.{Nat.mod-lt, Omega.arith}
@@ -37,7 +37,7 @@ use Rattle.settings.specs.LeastPlan.{xoscFor, planOf}
 use Rattle.readback.specs.Law.{chipIn, topReading, Gives, ReadBack, over, none, back}
 use Rattle.readback.specs.Read.{planIn, gives, readOf}
 
--- the numbers that were cut are of their types
+-- Truncated numbers fit their types.
 few : (w x : ℕ) → x % 2 ^ w < 2 ^ w
 few w x = mod-lt x (pow-pos w)
 
@@ -87,7 +87,7 @@ module _ (sheet : List ℕ) (reading : ℕ) where
   unfolding gives
   true-gives p g = rw (eq-eqb _ _ (g .accepted), g .bytes) (same-refl sheet)
 
-  -- the answer is what the request asks for
+  -- The answer meets the law.
   pub read-right : ReadBack sheet reading (readOf sheet reading)
   unfolding readOf
   read-right = go (ltb (topReading sheet) reading) (gives sheet reading (planIn sheet reading)) refl refl
@@ -105,7 +105,7 @@ module _ (sheet : List ℕ) (reading : ℕ) where
           let z : _≡_ {A = ℕ} 0 1 = cc in
           omega arith)
 
-  -- and nothing else is
+  -- No other answer meets the law.
   pub read-only : (a : Answer ClockConfig) → ReadBack sheet reading a → a ≡ readOf sheet reading
   read-only a l = readback-one l read-right
 
@@ -113,7 +113,7 @@ marked : Chip → Bool
 marked Rp2040 = false
 marked Rp235x = true
 
--- the first byte of a chip's sheet holds the kind of its first step
+-- The first byte of a sheet has the kind of its first step.
 first-kind : (chip : Chip) (ys : List Step)
     → eqb (getD (encoded (markSteps chip ++ (headPart chip ++ ys))) 0 0 / 4) 38 ≡ marked chip
 unfolding headPart encoded packOf widths width rows bytes8 marked
@@ -146,28 +146,28 @@ top-there {sheet} {reading} {q} g =
     ap (λ (xs : List ℕ). factsOf (chipIn xs) .«top_reading») (sym (g .bytes))
     ∙ ap (λ (k : Chip). factsOf k .«top_reading») (chip-there reading (settingsOf q reading))
 
--- a sheet that an accepted plan gives is never answered with 18
+-- The sheet of an accepted plan is never refused with 18.
 in-reach : {sheet : List ℕ} {reading : ℕ} {q : ClockConfig} → Gives sheet reading q → reading ≤ topReading sheet
 in-reach {sheet} {reading} {q} g =
     let s : Settings = settingsOf q reading in
     rw (top-there g) (ltb-false (factsOf (s .board .chip) .«top_reading») reading (accepted-by s reading (g .accepted) 18))
 
--- the sheet of an accepted plan is read back to the plan of its settings
+-- The sheet of an accepted plan is read back to the smallest plan with its settings.
 pub written-read : (q : ClockConfig) (reading : ℕ) → Typed (settingsOf q reading) → Accepted q reading
     → readOf (sheetBytes q reading) reading ≡ value (planOf (settingsOf q reading))
 written-read q reading t ok =
     let g : Gives (sheetBytes q reading) reading q = record { typed = t; accepted = ok; bytes = refl } in
     sym (read-only (sheetBytes q reading) reading _ (back _ (in-reach g) (back-in (gives-in q g)))) ∙ ap value (plan-in g)
 
--- a plan that is answered gives the sheet
+-- A plan that is answered gives the sheet.
 pub read-gives : {sheet : List ℕ} {reading : ℕ} {p : ClockConfig} → readOf sheet reading ≡ value p → Gives sheet reading p
 read-gives {sheet} {reading} {p} e = of-back (rw e at (read-right sheet reading))
   where
     of-back : ReadBack sheet reading (value p) → Gives sheet reading p
     of-back (back p h b) = b .gives
 
--- so a sheet that differs anywhere is read back to a plan of other settings, or refused: plans of the same settings come
--- from the same bytes
+-- So a sheet that differs in any byte is read back to a plan with other settings, or refused: plans with the same settings come
+-- from the same bytes.
 pub other-bytes : (sheet other : List ℕ) (reading : ℕ) (p q : ClockConfig)
     → readOf sheet reading ≡ value p → readOf other reading ≡ value q
     → settingsOf p reading ≡ settingsOf q reading → sheet ≡ other

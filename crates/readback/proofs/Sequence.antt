@@ -1,4 +1,4 @@
--- The steps that a reader gives one after another are the sheet's steps.
+-- The steps that a reader gives one after another are the steps of the sheet.
 use mathlib.Core.{Path._≡_, Path.refl, Path.sym, Path.ap, Path._∙_, List.List, List._∷_}
 use Prim.Native.Nat.{ℕ, zero, suc, _+_, _/_, _≤_, _<_}
 use native.Mathlib.{Nat.zero-add, Omega.arith}
@@ -31,7 +31,7 @@ module _ (s : RefT (List ℕ)) where
   unfolding takenAt
   moves-on n h = rw (lt-ltb n (length (now s) / 8) h) (ap readerAt (omega arith))
 
-  -- at the end there is no step, and the reader stays
+  -- At the end the step has kind 0, and the reader stays.
   pub stops : (n : ℕ) → length (now s) / 8 ≤ n → (nextStep (readerAt n) ≡ step0 0) × (moved (readerAt n) ≡ readerAt n)
   unfolding takenAt
   stops n h = (step-past (now s) n h, rw (le-ltb n (length (now s) / 8) h))
@@ -44,7 +44,7 @@ module _ (s : RefT (List ℕ)) where
       rw (drop-cons steps i (step0 0) inside, next-is i, moves-on i (omega arith))
       (ap (λ (xs : List Step). stepAt steps i ∷ xs) (from-place n (suc i) (omega arith)))
 
-  -- so many calls of `next` from the first step on give so many steps of the sheet, and as many as it has give all
+  -- From the start n calls of `next` give the first n steps, so one call for each step gives the whole sheet.
   pub one-after-another : (n : ℕ) → n ≤ length (now s) / 8 → nexts n (readerAt 0) ≡ take n steps
   one-after-another n h = from-place n 0 (omega arith)
 

@@ -1,4 +1,4 @@
--- The law of reading back leaves no choice.
+-- The law of reading back allows exactly one answer.
 use mathlib.Core.{Path._≡_, Path.refl, Path.sym, Path.ap, Path._∙_, List.List}
 use Prim.Native.Nat.{ℕ}
 use native.Mathlib.Omega.{arith}
@@ -15,7 +15,7 @@ use Rattle.sheet.proofs.Demand3.{same-sheets}
 use Rattle.settings.specs.LeastPlan.{planWith}
 use Rattle.readback.specs.Law.{multiplierIn, timeOf, Back, ReadBack, over, none, back}
 
--- the crystal that is there; any where there is none
+-- The crystal of the settings, and an arbitrary one where it is absent.
 crystalIn : OptionCrystal → Crystal
 crystalIn (crystal x) = x
 crystalIn noCrystal = record { hz = 0; delay = 0; sys = noPll; usb = noPll }

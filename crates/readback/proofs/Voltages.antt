@@ -1,4 +1,4 @@
--- A number over 255 is no voltage code, as 255 is none.
+-- A number over 255 is not a voltage code, and neither is 255, so clamping to 255 does not change the decoded voltage.
 use mathlib.Core.{Path._≡_, Path.refl, Path.sym, Path._∙_, Bool.Bool, Bool.true, Bool.false}
 use Prim.Native.Nat.{ℕ, min}
 use native.Mathlib.Omega.{arith}

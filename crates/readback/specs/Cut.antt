@@ -1,4 +1,4 @@
--- Settings with each number cut to its type: those of an accepted plan are left as they are.
+-- Settings with each number truncated to its type. The settings of an accepted plan do not change.
 use Prim.Native.Nat.{ℕ, _%_, _^_}
 use Rattle.config.specs.declared.OptionRosc.{OptionRosc}
 use Rattle.config.specs.declared.OptionRosc.the-variants.{Some as ring, None as noRing}

@@ -1,4 +1,5 @@
--- What reading a sheet back answers, in the request's words. The law leaves no choice: `readback-one` in the proofs.
+-- The answer of reading a sheet back, stated declaratively (docs/FORMAT.md, Reading a sheet back). The law allows exactly one
+-- answer, as `readback-one` shows.
 use mathlib.Core.{Path._≡_, Bool._&&_, List.List}
 use Prim.Native.Nat.{ℕ, _/_, _≤_, _<_}
 use lib.{ListN.length, ListN.getD, Dec.leb, Dec.eqb}
@@ -15,22 +16,22 @@ use Rattle.settings.specs.{Settings.settlingTime, Settings.settingsOf, Typed.Ty
 use Rattle.refusals.specs.Refusals.{Accepted}
 use Rattle.sheet.specs.Writer.{sheetBytes}
 
--- The chip whose sheet the bytes are: a first step of kind 38 means the RP235x, anything else the RP2040. A step has 8 bytes,
--- and its kind is the first six bits of the first byte, whatever bits follow
+-- The chip of a sheet: a first step of kind 38 means the RP235x, anything else the RP2040. A step has 8 bytes, and its kind is
+-- the first six bits of the first byte, whatever bits follow.
 abbrev pub chipIn : List ℕ → Chip
 chipIn sheet = pick (leb 8 (length sheet) && eqb (getD sheet 0 0 / 4) kind.chip-mark) Rp235x Rp2040
 
--- the greatest reading of that chip, 15 or 31
+-- The greatest reading of that chip, 15 or 31.
 unfoldable pub topReading : List ℕ → ℕ
 topReading sheet = factsOf (chipIn sheet) .«top_reading»
 
--- a plan, with numbers of their types, that is accepted at the reading and written to exactly these bytes
+-- The plan, within the bounds of its number types, is accepted at the reading, and its sheet is exactly these bytes.
 pub record Gives (sheet : List ℕ) (reading : ℕ) (p : ClockConfig) : Type 0 where
   pub typed : Typed (settingsOf p reading)
   pub accepted : Accepted p reading
   pub bytes : sheetBytes p reading ≡ sheet
 
--- a plan's delay multiplier; with no crystal there is none, which counts as 0
+-- The delay multiplier of a plan; without a crystal it counts as 0.
 abbrev pub multiplierIn : OptionXosc → ℕ
 multiplierIn (xosc x) = x .«delay_multiplier»
 multiplierIn noXosc = 0
@@ -38,12 +39,12 @@ multiplierIn noXosc = 0
 abbrev pub multiplierOf : ClockConfig → ℕ
 multiplierOf p = multiplierIn (p .xosc)
 
--- a plan's settling time, given or the voltage's
+-- The settling time of a plan, given or the voltage's default.
 abbrev pub timeOf : ClockConfig → ℕ
 timeOf p = settlingTime (p .«voltage_stabilization_delay_us») (boardOf (p .chip) .«settling_us»)
 
--- the plan that comes back: it gives the bytes, with the smallest multiplier and the smallest time of all plans that do.
--- The time is a given one, 0 where there is no settling step
+-- The plan that is answered gives the bytes, with the smallest multiplier and the smallest time of all plans that do. Its time is
+-- given, and it is 0 where there is no settling step.
 pub record Back (sheet : List ℕ) (reading : ℕ) (p : ClockConfig) : Type 0 where
   pub gives : Gives sheet reading p
   pub multiplier : (q : ClockConfig) → Gives sheet reading q → multiplierOf p ≤ multiplierOf q
@@ -51,7 +52,7 @@ pub record Back (sheet : List ℕ) (reading : ℕ) (p : ClockConfig) : Type 0 wh
   pub is-given : p .«voltage_stabilization_delay_us» ≡ given (timeOf p)
   pub still : settingsOf p reading .settling ≡ noCycles → timeOf p ≡ 0
 
--- 18: reading over the greatest of the sheet's chip; 26: no accepted plan gives these bytes for this reading; else the plan
+-- 18 is for a reading over the greatest of the sheet's chip, 26 where no accepted plan gives these bytes at this reading.
 pub data ReadBack (sheet : List ℕ) (reading : ℕ) : Answer ClockConfig → Type 0 where
   over : topReading sheet < reading → ReadBack sheet reading (refusal 18)
   none : reading ≤ topReading sheet → ((p : ClockConfig) → Gives sheet reading p → ⊥) → ReadBack sheet reading (refusal 26)

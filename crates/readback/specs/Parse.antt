@@ -1,4 +1,4 @@
--- Inside: parts of a sheet as the code reads them: a value, and the steps behind the part.
+-- The parts of a sheet as the code reads them: a truncated value, and the steps after the part.
 use mathlib.Core.{Path._≡_, List.List}
 use Prim.Native.Nat.{ℕ, _-_}
 use lib.ListN.{drop}
@@ -16,15 +16,15 @@ use Rattle.settings.specs.Codes.{rangeFrom}
 use Rattle.sheet.specs.Read.{Part, part, Voltage, Sys, readChip, readRing, readVoltage, readCrystal, readRef, pastTick}
 use Rattle.sheet.specs.Read.{readSys, readPeri, readAux}
 
--- a part with what it sets cut to its types
+-- A part with its value truncated.
 abbrev pub cutPart : {A : Type 0} → (A → A) → Part A → Part A
 cutPart cut (part a rest) = part (cut a) rest
 
--- what is read of the steps held, cut to its types, and the steps behind it
+-- Reading a part of the held steps gives this truncated value and leaves these steps.
 abbrev pub Reads : {A : Type 0} → (List Step → Part A) → (A → A) → Steps → A → Steps → Type 0
 Reads read cut s a rest = cutPart cut (read (held s)) ≡ part a (held rest)
 
--- the ring of its five steps
+-- The ring of its five steps.
 abbrev pub ringFrom : ℕ → Step → Step → Step → Step → Step → OptionRosc
 ringFrom pass a b divider range store =
     OptionRosc.Some
@@ -36,25 +36,25 @@ ringFrom pass a b divider range store =
       div = divider .f0 - pass;
     })
 
--- the PLL of its third, fourth and seventh step
+-- The PLL of its reference, feedback and post steps.
 abbrev pub pllFrom : Step → Step → Step → OptionPll
 pllFrom reference feedback posts =
     OptionPll.Some
     (record { refdiv = reference .f1; fbdiv = feedback .f1; «post_div1» = posts .f1; «post_div2» = posts .f2 })
 
--- the steps of the tick
+-- The number of steps of the tick.
 abbrev pub ticks : Chip → ℕ
 ticks Rp2040 = 1
 ticks Rp235x = 4
 
--- the voltage and the system clock, as the code has them
+-- The voltage and the system clock of the code's records.
 abbrev pub voltageAt : VoltageSteps → Voltage
 voltageAt r = record { code = r .code; settling = r .settling }
 
 abbrev pub sysAt : SysRead → Sys
 sysAt r = record { src = r .src; whole = r .whole; fraction = r .fraction }
 
--- the parts of a sheet's steps, each from where the one before it ends
+-- The parts of a sheet's steps in turn, each from the end of the previous one.
 
 unfoldable pub chipTaken : List Step → Part Chip
 chipTaken xs = readChip xs
@@ -83,7 +83,7 @@ usbTaken reading xs = readAux kind.usb-divider (restIn (periTaken reading xs))
 unfoldable pub adcTaken : ℕ → List Step → Part OptionAux
 adcTaken reading xs = readAux kind.adc-divider (restIn (usbTaken reading xs))
 
--- the first four, and the steps behind them
+-- The parts up to the crystal, and the steps after them.
 pub record Oscillating (s : Steps) (reading : ℕ) (o : Oscillators) : Type 0 where
   pub chip : o .chip ≡ valueIn (chipTaken (held s))
   pub rosc : o .rosc ≡ cutRing (valueIn (ringTaken (held s)))

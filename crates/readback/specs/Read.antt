@@ -1,5 +1,5 @@
--- What reading a sheet back answers, as it is found: the plan that the bytes would be of, kept where it is written to them.
--- That it is what the law asks for is `read-right` in the proofs.
+-- The answer of reading a sheet back, as the code finds it: the plan of the settings in the bytes, if its sheet is these bytes.
+-- `read-right` shows that this is the answer that the law states.
 use mathlib.Core.{Bool.Bool, Bool._&&_, List.List}
 use Prim.Native.Nat.{ℕ}
 use lib.Dec.{eqb, ltb}
@@ -10,14 +10,15 @@ use Rattle.sheet.specs.{Read.settingsFrom, Writer.sheetBytes, Writer.refusalIn}
 use Rattle.settings.specs.LeastPlan.{planOf}
 use Rattle.readback.specs.{Steps.stepsRead, Cut.cutSettings, Law.topReading}
 
--- the plan made of what the bytes hold
+-- The smallest plan with the settings that are read from the bytes.
 unfoldable pub planIn : List ℕ → ℕ → ClockConfig
 planIn sheet reading = planOf (cutSettings (settingsFrom reading (stepsRead sheet)))
 
--- a plan is accepted and written to the bytes
+-- The plan is accepted, and its sheet is these bytes.
 unfoldable pub gives : List ℕ → ℕ → ClockConfig → Bool
 gives sheet reading p = eqb (refusalIn p reading) 0 && same (sheetBytes p reading) sheet
 
+-- 18 for a reading over the greatest of the chip, then 26 where that plan does not give the bytes.
 unfoldable pub readOf : List ℕ → ℕ → Answer ClockConfig
 readOf sheet reading =
     pick (ltb (topReading sheet) reading) (refusal 18)

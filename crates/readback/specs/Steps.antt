@@ -1,4 +1,4 @@
--- The steps that a sheet's bytes hold, one for each eight bytes.
+-- The steps of a sheet's bytes, one for each eight bytes, and the readers that take them.
 use mathlib.Core.List.{List, [], _∷_}
 use Prim.Native.Nat.{ℕ, zero, suc, _+_, _*_, _/_, min}
 use lib.{ListN.length, ListN.take, ListN.drop, ListN.set, ListN.replicate, Dec.ltb}
@@ -11,12 +11,12 @@ use Rattle.step.specs.Sheet.{maxSteps}
 use Rattle.sheet.specs.Read.{Part, part, stepAt}
 use Rattle.readback.specs.declared.{Reader.Reader, Taken.Taken, held.Steps.Steps}
 
--- the step of an answer; where it is refused one of kind 0, which no step has
+-- The step of an answer; a refusal gives a step of kind 0, which no sheet has.
 abbrev pub stepOr : Answer Step → Step
 stepOr (value s) = s
 stepOr (refusal n) = step0 0
 
--- n steps from step i
+-- The n steps from step i.
 abbrev pub stepsFrom : List ℕ → ℕ → ℕ → List Step
 stepsFrom sheet i zero = []
 stepsFrom sheet i (suc n) = stepOr (readAt sheet (8 * i)) ∷ stepsFrom sheet (suc i) n
@@ -24,31 +24,31 @@ stepsFrom sheet i (suc n) = stepOr (readAt sheet (8 * i)) ∷ stepsFrom sheet (s
 unfoldable pub stepsIn : List ℕ → List Step
 stepsIn sheet = stepsFrom sheet 0 (length sheet / 8)
 
--- what is taken at a position, and the position after it; at the end a step of kind 0, and the position stays
+-- The step at a position and the position after it; at the end the step has kind 0, and the position stays.
 unfoldable pub takenAt : List ℕ → ℕ → Taken
 takenAt sheet at =
     record { step = stepAt (stepsIn sheet) at; at = pick (ltb at (length sheet / 8)) (at + 1) at }
 
--- the step that a reader gives next, and the reader after it
+-- The next step of a reader, and the reader after it.
 abbrev pub nextStep : Reader → Step
 nextStep r = takenAt (now (r .sheet)) (r .at) .step
 
 abbrev pub moved : Reader → Reader
 moved r = record { sheet = r .sheet; at = takenAt (now (r .sheet)) (r .at) .at }
 
--- the steps that a reader gives in n calls of `next`, one after another
+-- The steps that n calls of `next` give, one after another.
 unfoldable pub nexts : ℕ → Reader → List Step
 nexts zero r = []
 nexts (suc n) r = nextStep r ∷ nexts n (moved r)
 
--- the steps that are read of a sheet: as many as a plan's sheet can have
+-- The number of steps that are read, at most 66, and these steps.
 abbrev pub countOf : List ℕ → ℕ
 countOf sheet = min (length sheet / 8) maxSteps
 
 unfoldable pub stepsRead : List ℕ → List Step
 stepsRead sheet = take maxSteps (stepsIn sheet)
 
--- steps that are held: none, one more where there is room, and those that are not passed
+-- The held steps: none, one appended where there is room, and those from the read position on.
 unfoldable pub noSteps : Steps
 noSteps = record { steps = replicate maxSteps (step0 0); count = 0; at = 0 }
 
@@ -59,7 +59,7 @@ added s x =
 unfoldable pub held : Steps → List Step
 held s = drop (s .at) (take (min (s .count) maxSteps) (s .steps))
 
--- what a part sets, and the steps after it
+-- The value of a part, and the steps after it.
 abbrev pub valueIn : {A : Type 0} → Part A → A
 valueIn (part a rest) = a
 

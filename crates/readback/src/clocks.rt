@@ -1,4 +1,4 @@
-// The clocks and the chip's part of a plan, as a sheet's steps hold them.
+// Reads the clocks and the chip-specific part of a plan from the steps of a sheet.
 use crate::codes;
 use crate::held::Steps;
 use crate::held::ahead;
@@ -22,7 +22,7 @@ ghost use Rattle.readback.specs.Steps.{held};
 ghost use Rattle.readback.specs.Cut.{cutRef, cutAux, cutRtc, cutChip};
 ghost use Rattle.readback.specs.Parse.{Reads, ticks, sysAt};
 
-// Each part, and the steps behind it.
+// The setting that each part gives, and the steps after the part.
 pub struct RefRead {
     pub reference: RefClkConfig,
     pub rest: Steps,
@@ -45,6 +45,7 @@ pub struct AuxRead {
     pub rest: Steps,
 }
 
+// The reference clock; its part has a store, control, wait and divider.
 pub(crate) fn read_ref(s: Steps) -> RefRead
     ensures { λ r. ⌜ Reads readRef cutRef s (r .reference) (r .rest) ⌝ }
 {
@@ -59,7 +60,7 @@ pub(crate) fn read_ref(s: Steps) -> RefRead
     }
 }
 
-// The steps of the tick.
+// The number of steps of the tick.
 pub(crate) fn ticks(chip: Chip) -> u8
     ensures { λ r. ⌜ r ≡ ticks chip ⌝ }
 {
@@ -69,7 +70,7 @@ pub(crate) fn ticks(chip: Chip) -> u8
     }
 }
 
-// Unless the source is the reference clock, there is a second pair of control and wait.
+// The source and the divider of the system clock. Unless the source is the reference clock, control and wait come twice.
 pub(crate) fn read_sys(s: Steps) -> SysRead
     ensures { λ r. ⌜ Reads readSys (λ s. s) s (sysAt r) (r .rest) ⌝ }
 {
@@ -91,6 +92,7 @@ pub(crate) fn read_sys(s: Steps) -> SysRead
     }
 }
 
+// The peripheral clock; without a control step it is absent.
 pub(crate) fn read_peri(s: Steps) -> PeriRead
     ensures { λ r. ⌜ Reads readPeri (λ p. p) s (r .peri) (r .rest) ⌝ }
 {
@@ -107,7 +109,7 @@ pub(crate) fn read_peri(s: Steps) -> PeriRead
     }
 }
 
-// The USB clock or the ADC clock, by the kind of its divider's step.
+// The USB or the ADC clock, selected by the kind of its divider step; without that step it is absent.
 pub(crate) fn read_aux(s: Steps, divider_kind: u8) -> AuxRead
     ensures { λ r. ⌜ Reads (readAux «divider_kind») cutAux s (r .aux) (r .rest) ⌝ }
 {
@@ -145,7 +147,7 @@ fn read_rtc(s: Steps) -> OptionRtc
     })
 }
 
-// The chip's part of a plan; the steps begin with the RTC's part, where the chip has one.
+// The chip-specific part of a plan. The steps start with the RTC part where the chip has one.
 pub(crate) fn read_config(s: Steps, chip: Chip, code: u64, whole: u64, fraction: u64) -> ChipConfig
     ensures { λ r. ⌜ r ≡ cutChip (chipFrom chip code whole fraction (readRtc (held s))) ⌝ }
 {

@@ -1,4 +1,4 @@
-// The steps that a reader took from a sheet, held by value.
+// The steps of a sheet, decoded and held by value, with a read position.
 use step::MAX_STEPS;
 use step::Step;
 ghost use mathlib.Core.Path.{_≡_};
@@ -7,14 +7,14 @@ ghost use Rattle.sheet_steps.specs.Steps.{step0};
 ghost use Rattle.sheet.specs.Read.{stepAt};
 ghost use Rattle.readback.specs.Steps.{noSteps, added, held};
 
-// The first `count` steps, of which those before `at` are passed.
+// The first `count` steps are in use; those before `at` have been read.
 pub struct Steps {
     pub steps: [Step; MAX_STEPS],
     pub count: usize,
     pub at: usize,
 }
 
-// No step has kind 0.
+// The step that means the end: no sheet has a step of kind 0.
 pub(crate) fn no_step() -> Step
     ensures { λ r. ⌜ r ≡ step0 0 ⌝ }
 {
@@ -28,6 +28,7 @@ pub(crate) fn no_step() -> Step
     }
 }
 
+// Room for 66 steps, none in use.
 pub(crate) fn no_steps() -> Steps
     ensures { λ r. ⌜ r ≡ noSteps ⌝ }
 {
@@ -38,7 +39,7 @@ pub(crate) fn no_steps() -> Steps
     }
 }
 
-// With one step more, where there is room for it.
+// Appends a step where there is room for it.
 pub(crate) fn add(mut s: Steps, step: Step) -> Steps
     ensures { λ r. ⌜ r ≡ added s step ⌝ }
 {
@@ -50,7 +51,7 @@ pub(crate) fn add(mut s: Steps, step: Step) -> Steps
     s
 }
 
-// The step `more` places after the one that is next; one of kind 0 past the last.
+// The step `more` places after the read position; a step of kind 0 past the last.
 pub(crate) fn ahead(s: Steps, more: u8) -> Step
     ensures { λ r. ⌜ r ≡ stepAt (held s) more ⌝ }
 {
@@ -62,7 +63,7 @@ pub(crate) fn ahead(s: Steps, more: u8) -> Step
     }
 }
 
-// n steps further on.
+// Moves the read position n steps on.
 pub(crate) fn past(mut s: Steps, n: u8) -> Steps
     ensures { λ r. ⌜ held r ≡ drop n (held s) ⌝ }
 {

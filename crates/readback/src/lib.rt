@@ -1,4 +1,4 @@
-// A sheet's bytes read back: the plan that gives them.
+// Reads a sheet back: from its bytes and a reading to the plan that gives them (docs/FORMAT.md, Reading a sheet back).
 mod clocks;
 mod codes;
 mod held;
@@ -22,7 +22,7 @@ ghost use Rattle.readback.specs.Steps.{takenAt, nextStep, moved, countOf
 ghost use Rattle.readback.specs.Law.{chipIn, topReading};
 ghost use Rattle.readback.specs.Read.{gives, readOf};
 
-// A sheet's bytes, and the position of the step that is next.
+// The bytes of a sheet, and the position of the next step, counted in steps.
 pub struct Reader<'a> {
     pub sheet: &'a [u8],
     pub at: usize,
@@ -34,7 +34,8 @@ pub struct Taken {
     pub at: usize,
 }
 
-// The step at a position of a sheet, and the position after it. At the end it is one of kind 0, and the position stays.
+// The step at a position of a sheet, and the position after it; a step of kind 0 where the bytes are no step. At the end the step
+// has kind 0, and the position stays.
 pub fn take(sheet: &[u8], at: usize) -> Taken
     ensures { λ r. ⌜ r ≡ takenAt (now (sheet .entry)) at ⌝ }
 {
@@ -56,7 +57,7 @@ pub fn take(sheet: &[u8], at: usize) -> Taken
     }
 }
 
-// Takes the step that is next: the reader moves on to the one after it, and stops at the end.
+// Takes the next step and moves the reader on by one. At the end the step has kind 0, and the reader stays.
 pub fn next<'s, 'a>(r: &'s mut Reader<'a>) -> Step
     ensures { λ s. ⌜ (s ≡ nextStep (now (r .entry))) × (now (r .exit) ≡ moved (now (r .entry))) ⌝ }
 {
@@ -66,14 +67,14 @@ pub fn next<'s, 'a>(r: &'s mut Reader<'a>) -> Step
     t.step
 }
 
-// How many steps of a sheet are read: no plan's sheet has more.
+// The number of steps that are read: at most 66, as no sheet of a plan has more.
 fn count_of(sheet: &[u8]) -> usize
     ensures { λ r. ⌜ r ≡ countOf (now (sheet .entry)) ⌝ }
 {
     base::least(sheet.len() / 8, MAX_STEPS)
 }
 
-// One reader goes over the sheet, from its first step to its last.
+// The steps of a sheet, at most 66, taken by one reader from the first to the last.
 pub fn steps_of(sheet: &[u8]) -> Steps
     ensures { λ r. ⌜ held r ≡ stepsRead (now (sheet .entry)) ⌝ }
 {
@@ -94,7 +95,7 @@ fn is_sheet(written: &[u8], sheet: &[u8]) -> bool
     text::same_bytes(written, sheet)
 }
 
-// Whether a plan is accepted at a reading, and written to exactly these bytes.
+// Whether a plan is accepted at a reading and its sheet is exactly these bytes.
 fn gives(sheet: &[u8], reading: u8, plan: ClockConfig) -> bool
     ensures { λ r. ⌜ r ≡ gives (now (sheet .entry)) reading plan ⌝ }
 {
@@ -105,7 +106,7 @@ fn gives(sheet: &[u8], reading: u8, plan: ClockConfig) -> bool
     }
 }
 
-// The chip whose sheet it is, by the six kind bits of the first step.
+// The chip of a sheet, by the six kind bits of its first step; the RP2040 for fewer than 8 bytes.
 pub fn chip_in(sheet: &[u8]) -> Chip
     ensures { λ r. ⌜ r ≡ chipIn (now (sheet .entry)) ⌝ }
 {
@@ -119,7 +120,7 @@ pub fn chip_in(sheet: &[u8]) -> Chip
     }
 }
 
-// 15, or 31 for a sheet of the RP235x.
+// The greatest reading of the sheet's chip: 15, or 31 on the RP235x.
 fn top_reading(sheet: &[u8]) -> u8
     ensures { λ r. ⌜ r ≡ topReading (now (sheet .entry)) ⌝ }
 {
@@ -128,9 +129,9 @@ fn top_reading(sheet: &[u8]) -> u8
     facts.top_reading
 }
 
-// The plan whose sheet at a regulator reading is these bytes: of all that are, the one with the smallest delay multiplier and the
-// smallest settling time, which is given. 18 for a reading over the greatest of the sheet's chip,
-// then 26 where no accepted plan gives these bytes.
+// The plan whose sheet at a regulator reading is these bytes; of all such plans the one with the smallest delay multiplier and
+// the smallest settling time, which is given. 18 for a reading over the greatest of the sheet's chip, then 26 where no accepted
+// plan gives these bytes.
 pub fn read_sheet(sheet: &[u8], reading: u8) -> Planned
     ensures { λ r. ⌜ plannedIs r ≡ readOf (now (sheet .entry)) reading ⌝ }
 {

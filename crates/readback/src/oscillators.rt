@@ -1,4 +1,4 @@
-// The chip, the ring, the voltage and the crystal with its PLLs, as a sheet's steps hold them.
+// Reads the chip, the ring, the voltage and the crystal with its PLLs from the steps of a sheet.
 use crate::codes;
 use crate::held::Steps;
 use crate::held::ahead;
@@ -19,7 +19,7 @@ ghost use Rattle.sheet.specs.Read.{readChip, readRing, readVoltage, readPll, re
 ghost use Rattle.readback.specs.Cut.{cutRing, cutPll, cutCrystal};
 ghost use Rattle.readback.specs.Parse.{Reads, ringFrom, pllFrom, voltageAt, Oscillating};
 
-// Each part, and the steps behind it.
+// The setting that each part gives, and the steps after the part.
 pub struct ChipMark {
     pub chip: Chip,
     pub rest: Steps,
@@ -46,7 +46,7 @@ pub struct CrystalRead {
     pub rest: Steps,
 }
 
-// All of them.
+// The settings of all these parts, and the steps after them.
 pub struct Oscillators {
     pub chip: Chip,
     pub rosc: OptionRosc,
@@ -56,7 +56,7 @@ pub struct Oscillators {
     pub rest: Steps,
 }
 
-// 38 is there on the RP235x.
+// The chip: a first step of kind 38 means the RP235x.
 pub(crate) fn read_chip(s: Steps) -> ChipMark
     ensures { λ r. ⌜ Reads readChip (λ c. c) s (r .chip) (r .rest) ⌝ }
 {
@@ -74,7 +74,7 @@ pub(crate) fn read_chip(s: Steps) -> ChipMark
     }
 }
 
-// Of its five steps: strengths 0 to 3, strengths 4 to 7, divider, range and the store behind them.
+// Builds a ring from its five steps: strengths 0 to 3, strengths 4 to 7, divider, range and the store.
 fn ring_of(pass: u16, low: Step, high: Step, divider: Step, range: Step, store: Step) -> OptionRosc
     ensures { λ r. ⌜ r ≡ cutRing (ringFrom pass low high divider range store) ⌝ }
 {
@@ -117,7 +117,7 @@ fn read_ring(s: Steps, pass: u16) -> RingRead
     }
 }
 
-// With no voltage step the code is the reading; the kind of that step is the chip's.
+// The voltage code and the settling cycles; without a voltage step the code is the reading. `voltage` is the chip's kind.
 fn read_voltage(s: Steps, voltage: u8, reading: u8) -> VoltageSteps
     ensures { λ r. ⌜ Reads (readVoltage voltage reading) (λ v. v) s (voltageAt r) (r .rest) ⌝ }
 {
@@ -145,7 +145,7 @@ fn read_voltage(s: Steps, voltage: u8, reading: u8) -> VoltageSteps
     }
 }
 
-// Of its third, fourth and seventh step.
+// Builds a PLL from its reference, feedback and post steps.
 fn pll_of(reference: Step, feedback: Step, posts: Step) -> OptionPll
     ensures { λ r. ⌜ r ≡ cutPll (pllFrom reference feedback posts) ⌝ }
 {
@@ -157,7 +157,7 @@ fn pll_of(reference: Step, feedback: Step, posts: Step) -> OptionPll
     })
 }
 
-// Which PLL: 0 system, 1 USB.
+// A PLL, absent where its first step is not next; `which` is 0 for the system PLL, 1 for the USB PLL.
 fn read_pll(s: Steps, which: u64) -> PllRead
     ensures { λ r. ⌜ Reads (readPll which) cutPll s (r .pll) (r .rest) ⌝ }
 {
@@ -177,7 +177,7 @@ fn read_pll(s: Steps, which: u64) -> PllRead
     }
 }
 
-// The crystal's Hz are in the store behind its part.
+// The crystal with its PLLs. The crystal's Hz are read from the store that follows its part.
 fn read_crystal(s: Steps) -> CrystalRead
     ensures { λ r. ⌜ Reads readCrystal cutCrystal s (r .xosc) (r .rest) ⌝ }
 {
@@ -205,7 +205,7 @@ fn read_crystal(s: Steps) -> CrystalRead
     }
 }
 
-// Past the nine steps of the head.
+// The parts up to the crystal; the nine steps of the head are skipped.
 pub(crate) fn oscillators_in(s: Steps, reading: u8) -> Oscillators
     ensures { λ r. ⌜ Oscillating s reading r ⌝ }
 {

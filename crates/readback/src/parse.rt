@@ -1,5 +1,5 @@
-// The settings that a sheet's steps hold, part by part in the order of the sheet. A number that its type cannot hold is cut:
-// what is read is compared with the sheet in the end.
+// Reads the settings from the steps of a sheet, part by part in the order of the sheet. A number that is too large for its type
+// is truncated; this is safe, as the caller writes the plan again and compares the bytes.
 use crate::clocks;
 use crate::held::Steps;
 use crate::held::past;
@@ -11,7 +11,7 @@ ghost use Rattle.sheet.specs.Read.{settingsFrom};
 ghost use Rattle.readback.specs.Steps.{held};
 ghost use Rattle.readback.specs.Cut.{cutSettings};
 
-// Past the stores of xosc, pll_sys and pll_usb, and past the tick.
+// The settings of the steps; the stores of `xosc`, `pll_sys` and `pll_usb` and the tick are skipped.
 pub(crate) fn settings_in(steps: Steps, reading: u8) -> Settings
     ensures { λ r. ⌜ r ≡ cutSettings (settingsFrom reading (held steps)) ⌝ }
 {

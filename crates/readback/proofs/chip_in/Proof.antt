@@ -1,4 +1,4 @@
--- `readback::chip_in` meets its contract.
+-- `readback::chip_in` meets its contract: the two tests of the code are the two conditions of `chipIn`.
 use borrow.Author.Tests.{le-leb, lt-leb, eq-eqb, ne-eqb}
 use borrow.Author.Needs.{needs}
 use Rattle.readback.proofs.chip_in.Statement.{statement}

@@ -1,4 +1,5 @@
--- `readback::gives` meets its contract.
+-- `readback::gives` meets its contract: a length means that the plan is accepted and the buffer starts with its sheet (`kept`); a
+-- refusal means that it is not accepted.
 use mathlib.Core.Path.{refl}
 use borrow.{Author.Tests.eq-eqb, Author.Tests.ne-eqb, Author.Needs.needs}
 use Rattle.readback.specs.Read.{gives}

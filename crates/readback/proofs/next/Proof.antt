@@ -1,7 +1,6 @@
--- `readback::next` meets its contract: a walk of its MIR, by hand. The borrow is opened, `take` is called on the slice
--- and the number that the struct holds, the number that it answers is stored, and the borrow is closed at that struct.
--- The struct is Copy: of what it owns one copy goes to the callee beside the token of 'a, which comes back, and one
--- stays.
+-- `readback::next` meets its contract: `take` gives the step and the new position, which is stored in the borrowed struct. The
+-- proof walks through the MIR by hand: it opens the borrow, calls `take` with the slice and the position, stores the new position
+-- and closes the borrow. The struct is Copy, so one copy of what it owns goes to the callee with the token of 'a, and one stays.
 use mathlib.Core.{Path._≡_, Path.refl, Path.ap, List.List, List.[], List._∷_}
 use Prim.Native.Nat.{ℕ, _<_, _^_}
 use lib.ListN.{length}

@@ -1,4 +1,5 @@
--- `readback::read_sheet` meets its contract.
+-- `readback::read_sheet` meets its contract: `top_reading` decides on 18; else `steps_of`, `settings_in` and `plan_of` give the
+-- plan, and `gives` decides on it or 26.
 use borrow.{Author.Tests.lt-ltb, Author.Tests.le-ltb, Author.Needs.needs}
 use Rattle.readback.specs.Read.{planIn, readOf}
 use Rattle.readback.proofs.read_sheet.Statement.{statement}

@@ -1,8 +1,7 @@
--- `readback::steps_of` meets its contract: a walk of its MIR, by hand. A `Reader` at place 0 is made in a local, of one
--- of two copies of what the slice owns. In each turn of the loop it is lent to `next`, for a lifetime within the one of
--- the bytes (the token of that one is halved for it), and the step that comes back is added. After j turns the reader
--- is at place j, and the first j steps are held. All that the proof knows of its callees is that each meets its
--- contract.
+-- `readback::steps_of` meets its contract: after j iterations the reader is at position j and the first j steps are held. The
+-- proof walks through the MIR by hand. A local holds a `Reader` at position 0, made of one of two copies of what the slice owns.
+-- Each iteration lends it to `next` for a lifetime within that of the bytes, whose token is halved for this, and adds the step.
+-- The proof uses only the contracts of the callees.
 use mathlib.Core.{Path._≡_, Path.refl, Path.ap, Path._∙_, Bool.Bool, Bool.true, Bool.false, List.List, List.[], List._∷_}
 use mathlib.Core.WellFounded.{WellFounded, InvImage·wf}
 use Prim.Native.Nat.{ℕ, suc, _-_, _≤_, _<_}
@@ -60,7 +59,7 @@ use Rattle.readback.proofs.steps_of as steps-of
 use Rattle.readback.proofs.steps_of.Statement as stated
 use Rattle.readback.proofs.steps_of.Code as code
 
--- `&[u8]` in the signature: at exit nothing is had of it
+-- `&[u8]` in the signature; at exit it gives nothing back.
 abbrev bytes : Slot 1
 bytes = shrSliceOf (0 ∷ []) tt (plain (λ _. u8))
 
@@ -124,7 +123,7 @@ module _ {M : Type 1} (𝓤 : URA M) (H : Heap 𝓤) (A : Atoms 𝓤) (W : Given
   abbrev n : ℕ
   n = countOf (now s)
 
-  -- the steps held after j turns
+  -- The steps held after j iterations.
   abbrev g : ℕ → Steps
   g = gathered (stepsIn (now s))
 
@@ -139,11 +138,11 @@ module _ {M : Type 1} (𝓤 : URA M) (H : Heap 𝓤) (A : Atoms 𝓤) (W : Given
   abbrev Holds : Steps → Fml
   Holds z = P.the-row .own z (P′.lowered z ∷ [])
 
-  -- of what a callee ensures, its clause alone: what is said of last values is dropped
+  -- The clause that a callee ensures, without what it states about last values.
   told : {X : Type 0} (P : X → Fml) (φ : Type 0) → ent 𝓤 (ex 𝓤 (λ x. sep 𝓤 (sem 𝓤 H A (P x)) (fact 𝓤 φ))) (fact 𝓤 φ)
   told P φ = exE 𝓤 _ (λ x. snd∗ 𝓤 (sem 𝓤 H A (P x)) (fact 𝓤 φ))
 
-  -- a local that holds the reader at the first step can be lent, with what s owns
+  -- A local that holds the reader at the first step can be lent, together with what s owns.
   lie : (b : ℕ) → ent 𝓤 (⋆ 𝓤 H A (‵ (fat fullShare reader b 0 (T′.lowered (readerAt s 0))) ∷ ‵ Own ∷ []))
       (sem 𝓤 H A (mem (R κ) .lies (readerAt s 0) b 0))
   unfolding partOf
@@ -157,7 +156,7 @@ module _ {M : Type 1} (𝓤 : URA M) (H : Heap 𝓤) (A : Atoms 𝓤) (W : Given
       fjoin ! $ fpack ! (List Val) (λ us. fsep (cellAt fullShare (R κ .mir) us b 0) (R κ .own (readerAt s 0) us)) u $
       done !
 
-  -- the local of a reader that was lent is a local again when it is back
+  -- After the loan ends the local of the reader is an ordinary local again.
   back : (r : Reader) (b : ℕ) → ent 𝓤 (sem 𝓤 H A (mem (R κ) .lies r b 0))
       (sem 𝓤 H A (fat fullShare reader b 0 (T′.lowered r)))
   unfolding partOf
@@ -204,7 +203,7 @@ module _ {M : Type 1} (𝓤 : URA M) (H : Heap 𝓤) (A : Atoms 𝓤) (W : Given
       (((κ, tt), (q, tt), tt, (s, tt), at), tt) (P′.lowered z) z (tt, tt) (tt, tt)) $ says ! e $
       nothing ! $ move ! (1 ∷ 0 ∷ []) $ join ! $ frame ! $ nothing ! $ nothing ! $ fjoin ! $ frame ! $ done !
 
-  -- turns: so many steps are held
+  -- The number of iterations, which is the number of held steps.
   abbrev Upto : Type 0
   Upto = (j : ℕ) × (j ≤ n)
 
@@ -227,7 +226,7 @@ module _ {M : Type 1} (𝓤 : URA M) (H : Heap 𝓤) (A : Atoms 𝓤) (W : Given
       rw end (all-read (now s))
 
   module _ (l₀ l₁ l₂ l₃ l₄ l₅ l₆ l₇ : ℕ) where
-    -- what is had where so many steps are held
+    -- The resources after this number of iterations.
     abbrev At : Upto → List (Item 𝓤)
     At i = ‵ (mem (R κ) .lies (readerAt s (i .0)) l₂ 0) ∷ ‵ (flft κ q) ∷ ‵ (Holds (g (i .0)))
         ∷ ‵ (froom ref l₇ 0) ∷ ‵ (fdies ref l₇) ∷ ‵ (froom tyBool l₆ 0) ∷ ‵ (fdies tyBool l₆)

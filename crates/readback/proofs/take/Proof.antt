@@ -1,4 +1,5 @@
--- `readback::take` meets its contract.
+-- `readback::take` meets its contract: inside the sheet `read` decides, and a refused step counts as kind 0; at the end
+-- `step-past` gives kind 0 too.
 use borrow.{Author.Tests.lt-ltb, Author.Tests.le-ltb, Author.Needs.needs}
 use Rattle.readback.specs.Steps.{takenAt}
 use Rattle.readback.proofs.{Decoded.step-inside, Decoded.step-past, take.Statement.statement}

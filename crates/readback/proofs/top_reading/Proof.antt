@@ -1,4 +1,4 @@
--- `readback::top_reading` meets its contract.
+-- `readback::top_reading` meets its contract: `chip_in` gives the chip and `facts` its greatest reading.
 use borrow.Author.Needs.{needs}
 use Rattle.readback.specs.Law.{topReading}
 use Rattle.readback.proofs.top_reading.Statement.{statement}

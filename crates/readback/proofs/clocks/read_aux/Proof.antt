@@ -1,4 +1,5 @@
--- `readback::clocks::read_aux` meets its contract.
+-- `readback::clocks::read_aux` meets its contract: the test of the first step is the test of the definition; `aux_from` decodes
+-- the source, `div_from` the divider.
 use borrow.{Author.Tests.eq-eqb, Author.Tests.ne-eqb, Author.Needs.needs}
 use Rattle.readback.proofs.clocks.read_aux.Statement.{statement}
 use Rattle.readback.proofs.clocks.read_aux.Tie as tie

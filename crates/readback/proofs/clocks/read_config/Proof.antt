@@ -1,4 +1,5 @@
--- `readback::clocks::read_config` meets its contract.
+-- `readback::clocks::read_config` meets its contract: each chip's arm fills its record: voltage and truncated divider, on the
+-- RP2040 also `read_rtc`.
 use borrow.Author.Needs.{needs}
 use Rattle.readback.proofs.clocks.read_config.Statement.{statement}
 use Rattle.readback.proofs.clocks.read_config.Tie as tie

@@ -1,4 +1,5 @@
--- `readback::clocks::read_peri` meets its contract.
+-- `readback::clocks::read_peri` meets its contract: the test of the first step is the test of the definition, and `peri_from`
+-- decodes the source.
 use borrow.{Author.Tests.eq-eqb, Author.Tests.ne-eqb, Author.Needs.needs}
 use Rattle.readback.proofs.clocks.read_peri.Statement.{statement}
 use Rattle.readback.proofs.clocks.read_peri.Tie as tie

@@ -1,4 +1,5 @@
--- `readback::clocks::read_rtc` meets its contract.
+-- `readback::clocks::read_rtc` meets its contract: the test of the first step is the test of the definition, `aux_from` decodes
+-- the source, and the numbers are truncated.
 use borrow.{Author.Tests.eq-eqb, Author.Tests.ne-eqb, Author.Needs.needs}
 use Rattle.readback.proofs.clocks.read_rtc.Statement.{statement}
 use Rattle.readback.proofs.clocks.read_rtc.Tie as tie

@@ -1,4 +1,5 @@
--- `readback::clocks::read_sys` meets its contract.
+-- `readback::clocks::read_sys` meets its contract: the test of the fourth step is the test of the definition, and `sys_from`
+-- decodes the source.
 use borrow.{Author.Tests.eq-eqb, Author.Tests.ne-eqb, Author.Needs.needs}
 use Rattle.readback.proofs.clocks.read_sys.Statement.{statement}
 use Rattle.readback.proofs.clocks.read_sys.Tie as tie

@@ -1,4 +1,5 @@
--- `readback::codes::voltage_from` meets its contract.
+-- `readback::codes::voltage_from` meets its contract: `least-code` shows that clamping to 255 changes nothing, and `core_voltage`
+-- decodes the code or refuses it.
 use Rattle.chip.specs.declared.Chip.the-variants.{Rp2040}
 use Rattle.readback.proofs.{Voltages.least-code, codes.voltage_from.Statement.statement}
 use borrow.Author.Needs.{needs}

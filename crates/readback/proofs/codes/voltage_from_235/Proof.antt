@@ -1,4 +1,5 @@
--- `readback::codes::voltage_from_235` meets its contract.
+-- `readback::codes::voltage_from_235` meets its contract: `least-code` shows that clamping to 255 changes nothing, and
+-- `core_voltage_235` decodes the code or refuses it.
 use Rattle.chip.specs.declared.Chip.the-variants.{Rp235x}
 use Rattle.readback.proofs.{Voltages.least-code, codes.voltage_from_235.Statement.statement}
 use borrow.Author.Needs.{needs}

@@ -1,4 +1,4 @@
--- `readback::held::add` meets its contract.
+-- `readback::held::add` meets its contract: the test for room is the test of the definition.
 use borrow.{Author.Tests.lt-ltb, Author.Tests.le-ltb, Author.Needs.needs}
 use Rattle.readback.specs.Steps.{added}
 use Rattle.readback.proofs.held.add.Statement.{statement}

@@ -1,4 +1,5 @@
--- `readback::held::ahead` meets its contract.
+-- `readback::held::ahead` meets its contract: inside the steps in use `held-inside` gives the step; past them `held-outside`
+-- gives kind 0.
 use mathlib.Core.Path.{sym, _∙_}
 use native.Mathlib.Omega.{arith}
 use borrow.Author.Needs.{needs}

@@ -1,4 +1,4 @@
--- `readback::held::no_steps` meets its contract.
+-- `readback::held::no_steps` meets its contract: `no_step` gives the step that fills the room.
 use borrow.Author.Needs.{needs}
 use Rattle.readback.specs.Steps.{noSteps}
 use Rattle.readback.proofs.held.no_steps.Statement.{statement}

@@ -1,4 +1,4 @@
--- `readback::held::past` meets its contract.
+-- `readback::held::past` meets its contract: `held-past` turns the moved position, capped at 66, into dropped steps.
 use borrow.Author.Needs.{needs}
 use Rattle.readback.specs.Steps.{held}
 use Rattle.readback.proofs.{Gathered.held-past, held.past.Statement.statement}

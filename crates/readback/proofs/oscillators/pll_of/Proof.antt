@@ -1,4 +1,4 @@
--- `readback::oscillators::pll_of` meets its contract.
+-- `readback::oscillators::pll_of` meets its contract: each field is its step's field, truncated by `cut8` or `cut16`.
 use borrow.Author.Needs.{needs}
 use Rattle.readback.proofs.oscillators.pll_of.Statement.{statement}
 use Rattle.readback.proofs.oscillators.pll_of.Tie as tie

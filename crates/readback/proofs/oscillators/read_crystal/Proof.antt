@@ -1,4 +1,5 @@
--- `readback::oscillators::read_crystal` meets its contract.
+-- `readback::oscillators::read_crystal` meets its contract: without the startup step there is no crystal; else `goes-on` carries
+-- the two equations of `read_pll` on, and `crystal-there` joins them.
 use mathlib.Core.Path.{sym, ap, _∙_}
 use borrow.{Author.Tests.ne-eqb, Author.Needs.needs}
 use Rattle.step.specs.declared.Step.{Step}

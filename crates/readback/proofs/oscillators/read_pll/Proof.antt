@@ -1,4 +1,5 @@
--- `readback::oscillators::read_pll` meets its contract.
+-- `readback::oscillators::read_pll` meets its contract: the test of the first step is the test of the definition; `ahead` gives
+-- the steps and `pll_of` the PLL.
 use borrow.Author.Needs.{needs}
 use Rattle.readback.proofs.oscillators.read_pll.Statement.{statement}
 use Rattle.readback.proofs.oscillators.read_pll.Tie as tie

@@ -1,4 +1,5 @@
--- `readback::oscillators::read_ring` meets its contract.
+-- `readback::oscillators::read_ring` meets its contract: the test of the first step is the test of the definition; `ahead` gives
+-- the five steps and `ring_of` the ring.
 use borrow.{Author.Tests.eq-eqb, Author.Tests.ne-eqb, Author.Needs.needs}
 use Rattle.readback.proofs.oscillators.read_ring.Statement.{statement}
 use Rattle.readback.proofs.oscillators.read_ring.Tie as tie

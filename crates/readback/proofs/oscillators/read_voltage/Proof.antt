@@ -1,4 +1,5 @@
--- `readback::oscillators::read_voltage` meets its contract.
+-- `readback::oscillators::read_voltage` meets its contract: the two tests of the kinds are those of the definition; `past` drops
+-- the steps of each of the three cases.
 use borrow.{Author.Tests.eq-eqb, Author.Tests.ne-eqb, Author.Needs.needs}
 use Rattle.readback.proofs.oscillators.read_voltage.Statement.{statement}
 use Rattle.readback.proofs.oscillators.read_voltage.Tie as tie

@@ -1,4 +1,5 @@
--- `readback::oscillators::ring_of` meets its contract.
+-- `readback::oscillators::ring_of` meets its contract: each field is its step's field, truncated by `cut8`, `cut16` or `cut32`,
+-- and the divider is without the pass value.
 use borrow.Author.Needs.{needs}
 use Rattle.readback.proofs.oscillators.ring_of.Statement.{statement}
 use Rattle.readback.proofs.oscillators.ring_of.Tie as tie

@@ -1,4 +1,5 @@
--- `readback::parse::settings_in` meets its contract.
+-- `readback::parse::settings_in` meets its contract: `goes-on` carries each reader's equation on to the steps after the previous
+-- part, and `settings-there` joins the parts.
 use mathlib.Core.{Path._≡_, Path.sym, List.List}
 use lib.ListN.{drop}
 use borrow.Author.Needs.{needs}
