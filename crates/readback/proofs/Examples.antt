@@ -13,7 +13,7 @@ use Rattle.settings.specs.LeastPlan.{multiplierFor, timeFor, planWith, planOf}
 use Rattle.readback.specs.Read.{readOf}
 use Rattle.readback.proofs.Right.{written-read}
 
--- A plan with a given time; its other fields are those of its settings, which the reading does not change.
+-- The plan with a given time; its other fields are in its settings at any reading.
 pub timed : ClockConfig → ℕ → ClockConfig
 timed p time = planWith (settingsOf p 11) (p .xosc) (given time)
 

@@ -15,6 +15,7 @@ use Rattle.settings.specs.declared.OptionCrystal.{OptionCrystal}
 use Rattle.settings.specs.declared.OptionCrystal.the-variants.{Some as crystal, None as noCrystal}
 use Rattle.settings.specs.declared.Settings.{Settings}
 
+-- The low 8, 16 and 32 bits of a number, for u8, u16 and u32.
 abbrev pub byte : ℕ → ℕ
 byte n = n % 2 ^ 8
 

@@ -21,6 +21,7 @@ abbrev pub stepsFrom : List ℕ → ℕ → ℕ → List Step
 stepsFrom sheet i zero = []
 stepsFrom sheet i (suc n) = stepOr (readAt sheet (8 * i)) ∷ stepsFrom sheet (suc i) n
 
+-- All steps of a sheet; bytes after the last full eight do not count.
 unfoldable pub stepsIn : List ℕ → List Step
 stepsIn sheet = stepsFrom sheet 0 (length sheet / 8)
 

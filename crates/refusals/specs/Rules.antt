@@ -33,6 +33,7 @@ unfoldable pub startupOver : OptionCrystal → Bool
 startupOver (OptionCrystal.Some x) = ltb 16383 (x .delay)
 startupOver OptionCrystal.None = false
 
+-- A PLL that is present is invalid where a divider, its reference or its VCO is out of range (docs/PLL.md, Valid PLLs).
 abbrev pub pllInvalid : ℕ → OptionPll → Bool
 pllInvalid hz (OptionPll.Some p) = not (validOf p hz)
 pllInvalid hz OptionPll.None = false

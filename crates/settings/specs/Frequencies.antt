@@ -34,9 +34,11 @@ refSource f RefClkSrc.Xosc = f .xosc
 refSource f RefClkSrc.Rosc = f .rosc
 refSource f RefClkSrc.PllUsb = f .«pll_usb»
 
+-- Source over divider.
 unfoldable pub refHz : Sources → RefClkConfig → ℕ
 refHz f c = refSource f (c .src) / c .div
 
+-- The source of the system clock is the reference clock or one of the four aux sources.
 abbrev pub sysSource : Sources → ℕ → SysClkSrc → ℕ
 sysSource f reference SysClkSrc.Ref = reference
 sysSource f reference SysClkSrc.PllSys = f .«pll_sys»
@@ -55,6 +57,7 @@ periSource f system PeriClkSrc.PllUsb = f .«pll_usb»
 periSource f system PeriClkSrc.Rosc = f .rosc
 periSource f system PeriClkSrc.Xosc = f .xosc
 
+-- The peripheral clock has the frequency of its source; it has no divider.
 abbrev pub periHz : Sources → ℕ → OptionPeri → ℕ
 periHz f system (OptionPeri.Some src) = periSource f system src
 periHz f system OptionPeri.None = 0
@@ -75,10 +78,12 @@ abbrev pub rtcSourceIn : Sources → OptionRtc → ℕ
 rtcSourceIn f (OptionRtc.Some r) = auxSource f (r .src)
 rtcSourceIn f OptionRtc.None = 0
 
+-- USB and ADC: source over divider.
 abbrev pub auxHz : Sources → OptionAux → ℕ
 auxHz f (OptionAux.Some a) = auxSource f (a .src) / a .div
 auxHz f OptionAux.None = 0
 
+-- RTC: source × 256 / (whole × 256 + fraction).
 abbrev pub rtcHz : Sources → OptionRtc → ℕ
 rtcHz f (OptionRtc.Some r) = dividedHz 256 (auxSource f (r .src)) (r .«div_int») (r .«div_frac»)
 rtcHz f OptionRtc.None = 0

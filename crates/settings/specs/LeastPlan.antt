@@ -47,5 +47,6 @@ planWith s x time =
       «voltage_stabilization_delay_us» = time;
     }
 
+-- The settling time is always given, 0 where there is no settling step.
 unfoldable pub planOf : Settings → ClockConfig
 planOf s = planWith s (xoscFor (s .xosc)) (given (timeFor (ringHz (s .rosc)) (s .settling)))

@@ -1,5 +1,4 @@
--- Bounds that the number types give to every settings value of a program: 32 bits for a frequency, the chip's scale for a
--- fraction.
+-- The bounds that the number types of the code give to settings: 32 bits for a frequency, the chip's scale for a fraction.
 use Prim.Native.Nat.{_<_, _^_}
 use Rattle.config.specs.declared.OptionRtc.{OptionRtc}
 use Rattle.config.specs.Board.{FractionFits}
@@ -11,6 +10,7 @@ abbrev pub RtcTyped : OptionRtc → Type 0
 RtcTyped (OptionRtc.Some r) = r .«div_frac» < 2 ^ 8
 RtcTyped OptionRtc.None = Unit {0}
 
+-- The ring's and the crystal's frequencies are u32; the fractions fit their dividers.
 pub record Typed (s : Settings) : Type 0 where
   pub rosc : sourcesIn s .rosc < 2 ^ 32
   pub xosc : sourcesIn s .xosc < 2 ^ 32

@@ -1,5 +1,5 @@
--- For any weight of the kinds no sheet weighs more than one with every part. With weight 1 this bounds the number of steps: 65,
--- on the RP235x 66.
+-- For any weight of the kinds no sheet weighs more than one with every part. With weight 1 this bounds the number of steps: a
+-- sheet has at most 65, on the RP235x 66.
 use Prim.Native.Nat.{ℕ, _+_, _/_, _≤_}
 use mathlib.Core.{Bool.Bool, Bool.true, Bool.false, List.List, List.[], List._∷_, List._++_, Path._≡_, Path.refl}
 use lib.{Dec.eqb, ListN.length}

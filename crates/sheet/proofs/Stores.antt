@@ -1,5 +1,4 @@
--- A sheet has one store for each clock, in the order of the clock numbers, with the frequencies of the settings: ten stores, nine
--- on the RP235x.
+-- A sheet stores the frequencies of the settings, one for each clock in the order of the clocks: ten, on the RP235x nine.
 use mathlib.Core.{Path._≡_, Path.refl, Path.ap, Bool.Bool, Bool.true, Bool.false, List.List, List.[], List._∷_, List._++_}
 use Prim.Native.Nat.{ℕ}
 use lib.Dec.{eqb}

@@ -30,6 +30,7 @@ abbrev pub leaves : Answer ℕ → List ℕ → List ℕ → List ℕ
 leaves (value n) sheet buffer = sheet ++ drop n buffer
 leaves (refusal n) sheet buffer = buffer
 
+-- The whole buffer after the call.
 unfoldable pub initBuffer : ClockConfig → ℕ → List ℕ → List ℕ
 initBuffer p reading buffer = leaves (initAnswer p reading buffer) (sheetBytes p reading) buffer
 

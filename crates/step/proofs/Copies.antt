@@ -1,5 +1,4 @@
--- Copying words to the start of a buffer: one iteration adds one word's bytes, and the room decides which result is the specified
--- one.
+-- Each iteration of the copy adds the bytes of one word; `copied` is the buffer in the end, with room for all words and without.
 use mathlib.Core.{Bool.true, Bool.false, Path._≡_, Path.refl, Path.ap, Path._∙_}
 use mathlib.Core.List.{List, [], _∷_, _++_, map, map-append, append-nil}
 use Prim.Native.Nat.{ℕ, _+_, _*_, _≤_, _<_}

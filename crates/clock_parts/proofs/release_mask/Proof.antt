@@ -1,5 +1,4 @@
--- `clock_parts::release_mask` meets its contract: the four bit functions give the terms of the sum that `less` subtracts from the
--- chip's last mask.
+-- `clock_parts::release_mask` meets its contract: the four bit functions give the terms that `less` subtracts from the last mask.
 use Rattle.sheet_steps.specs.Steps.{releaseMask}
 use borrow.Author.Needs.{needs}
 use Rattle.clock_parts.proofs.release_mask.Statement.{statement}

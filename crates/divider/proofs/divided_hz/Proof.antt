@@ -1,5 +1,4 @@
--- `divider::divided_hz` meets its contract: `quotient` gives the result; `product-most` bounds both products, so nothing
--- overflows 64 bits.
+-- `divider::divided_hz` meets its contract: `quotient` gives the result; `product-most` excludes an overflow of both products.
 use borrow.Author.Needs.{needs}
 use native.Mathlib.Omega.{arith}
 use Rattle.divider.specs.Clock.{dividedHz}

@@ -11,13 +11,13 @@ use Rattle.divider.specs.Gpout.{gpoutClock}
 use Rattle.divider.proofs.gpout_clock.Statement.{statement}
 use Rattle.divider.proofs.gpout_clock.Tie as tie
 
--- within a list no default counts
+-- Inside a list the default does not matter.
 within : (l : List ℕ) (i : ℕ) → i < length l → getD l i 0 ≡ getD l i 10
 within [] i h = absurd (omega arith)
 within (x ∷ l) zero h = refl
 within (x ∷ l) (suc i) h = within l i (omega arith)
 
--- each table has the codes 0 to 11
+-- The table of each chip has the codes 0 to 11.
 coded : (chip : Chip) (i : ℕ) → i < 12 → getD (factsOf chip .gpout) i 0 ≡ getD (factsOf chip .gpout) i 10
 coded Rp2040 i h = within (factsOf Rp2040 .gpout) i h
 coded Rp235x i h = within (factsOf Rp235x .gpout) i h

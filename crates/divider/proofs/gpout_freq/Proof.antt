@@ -1,5 +1,4 @@
--- `divider::gpout_freq` meets its contract: the two tests of the code decide the two conditions of `gpoutOf`; `gpout_hz` gives
--- the value.
+-- `divider::gpout_freq` meets its contract: its two tests decide the two conditions of `gpoutOf`, and `gpout_hz` gives the value.
 use borrow.{Author.Needs.needs, Author.Tests.le-leb, Author.Tests.lt-leb, Author.Tests.lt-ltb, Author.Tests.le-ltb}
 use Rattle.divider.specs.Gpout.{gpoutOf}
 use Rattle.divider.proofs.gpout_freq.Statement.{statement}

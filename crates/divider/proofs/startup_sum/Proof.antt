@@ -1,5 +1,5 @@
--- `divider::startup_sum` meets its contract: the definition is the code's; `product-most` bounds the product, so neither
--- operation overflows 64 bits.
+-- `divider::startup_sum` meets its contract: the code is the definition, and `product-most` bounds the product, so nothing
+-- overflows 64 bits.
 use Prim.Native.Nat.{_/_}
 use borrow.Author.Needs.{needs}
 use native.Mathlib.Omega.{arith}

@@ -70,7 +70,7 @@ module _ {M : Type 1} (𝓤 : URA M) (H : Heap 𝓤) (A : Atoms 𝓤) (W : Given
   abbrev x : RefT Reader × Unit {0}
   x = (record { ptr = (b, o); name = γ; now = h }, tt)
 
-  -- the reader at another place
+  -- The reader at another position.
   abbrev to-place : ℕ → Reader
   to-place n = record { sheet = h .sheet; at = n }
 
@@ -119,7 +119,7 @@ module _ {M : Type 1} (𝓤 : URA M) (H : Heap 𝓤) (A : Atoms 𝓤) (W : Given
       use2 W (raw (Take 𝓤 H A at-mem run .pre to)) (qed W ((‵ (flft κ′ q′) ⊛ ‵ ftrue) ∷ ‵
       (owns (ShrSlice (named 0) κ′ u8 ∷ usize ∷ []) vd passed) ∷ []) ∵ join ! $ frame ! $ done !) $ frame ! $ done !)
 
-  -- what sheet owns is kept, and at's facts are made anew
+  -- What `sheet` owns is kept, and the facts about `at` hold for the new position.
   again : (n : ℕ) → n < 2 ^ 64 → ent 𝓤 (sem 𝓤 H A Own) (sem 𝓤 H A (B κ′ .own (to-place n) (T′.lowered (to-place n) ∷ [])))
   again n ok = qed W (‵ Own ∷ []) ∵ owned ! usize (Is usize) (uint-makes 𝓤 H A W w64) n _ (refl, ok) $
       move ! (1 ∷ 0 ∷ []) $ by ! (own-put 𝓤 H A W D L 1 vd n (T′.lowered h))

@@ -70,7 +70,7 @@ by-test : {X : Type 1} (b : Bool) → (b ≡ true → X) → (b ≡ false → X)
 by-test true f g = f refl
 by-test false f g = g refl
 
--- the struct behind the reference that `next` takes
+-- The struct that the argument of `next` refers to.
 abbrev α : Lft → NamedLft
 α κ = record { mir = named 1; lft = κ }
 
@@ -246,13 +246,13 @@ module _ {M : Type 1} (𝓤 : URA M) (H : Heap 𝓤) (A : Atoms 𝓤) (W : Given
       alloc1 ! (λ l₀. alloc1 ! (λ l₁. alloc1 ! (λ l₂. alloc1 ! (λ l₃. alloc1 ! (λ l₄. alloc1 ! (λ l₅. alloc1 !
       (λ l₆. alloc1 ! (λ l₇. alloc0 ! $ params1 ! $
       pass1 ! (init ! 12 refl typed) $ pass0 ! $
-      -- what s owns is had twice: the reader at the first step holds one
+      -- What s owns is duplicated; the reader at the first step holds one copy.
       move ! (17 ∷ []) $ fsplit ! $
       use1 W (‵ Own ⊛ ‵ Own) (shr-slice-copy 𝓤 H A W (named 0) κ u8 .twice s (v ∷ [])) $ split ! $
       assigns ! (agg ! (and-then ! (load ! (from ! (stop !)) (look ! 15 refl)) (and-then ! (lit ! tt) (no-more !))))
       (from ! (stop !)) (init ! 13 refl (tt, (typed .1, (record { fits = lit< tt }, tt)))) $
       move ! (13 ∷ 0 ∷ []) $ use2 W (‵ (mem (R κ) .lies (readerAt s 0) l₂ 0)) (lie l₂) $
-      -- how many steps, and none of them
+      -- The calls of `count_of` and `no_steps`.
       move ! (1 ∷ 2 ∷ []) $ fjoin ! $ move ! (17 ∷ 0 ∷ []) $ use2 W (raw (Count 𝓤 H A at-mem run .pre to-count))
       (qed W ((‵ (flft κ q) ⊛ ‵ ftrue) ∷ ‵ (owns (ShrSlice (named 0) κ u8 ∷ []) (s, tt) at) ∷ []) ∵
       join ! $ frame ! $ done !) $
@@ -315,7 +315,7 @@ module _ {M : Type 1} (𝓤 : URA M) (H : Heap 𝓤) (A : Atoms 𝓤) (W : Given
       -- [the result; the tokens; res; nothing; the lender's part; the rest of ν; what the steps own; _7; …]
       peeks ! S.the-row (Is S.the-row) (shows 𝓤 H A S.the-row) t (u′ ∷ []) (λ is′.
       land ! (from ! (stop !)) (init ! 11 refl (LL.lawful S.the-type S′.the-laws 𝓤 H A W .typed t _ is′ .0)) $
-      -- the lifetime is ended, and the reader is back
+      -- The lifetime ends, and the reader is a local again.
       move ! (1 ∷ []) $ split ! $ move ! (1 ∷ []) $ split ! $ move ! (2 ∷ 7 ∷ []) $
       use2 W (later (‵ (fdead (ν ∷ κ)) ⊛ ‵ (flft κ ql))) (within-end 𝓤 H A W ν κ ql) $ await ! tt $ split ! $
       move ! (0 ∷ 7 ∷ 5 ∷ []) $ use3 W (later (‵ (mem (R κ) .lies (ys .0) l₂ 0)))
@@ -348,7 +348,7 @@ module _ {M : Type 1} (𝓤 : URA M) (H : Heap 𝓤) (A : Atoms 𝓤) (W : Given
       keep ! (3 ∷ 2 ∷ 0 ∷ 6 ∷ 7 ∷ 8 ∷ 9 ∷ 10 ∷ 11 ∷ 12 ∷ 13 ∷ 14 ∷ 15 ∷ 16 ∷ 17 ∷ 18 ∷ 19 ∷ 20 ∷ []) $
       again ! Nearer (At l₀ l₁ l₂ l₃ l₄ l₅ l₆ l₇) i (suc (i .0), goes-on i less)
       (omega (arith, goes-on i less))))))))))))))
-      -- the last turn, and what follows the loop
+      -- After the last iteration: the code that follows the loop.
       (λ over. rewrite ! 5 (λ (t : Bool). ‵ (fat fullShare tyBool l₆ 0 (vbool t))) over refl $
       leaves-loop ! (load ! (from ! (stop !)) (look ! 5 refl)) $
       exec ! (𝓣 .C) (𝓣 .Λ) _ rest (atRet _ Post) $ move ! (2 ∷ []) $

@@ -1,5 +1,4 @@
--- `refusals::refusal_of` meets its contract: each call of `number_when` is a row of the list of tests, from the last to the
--- first.
+-- `refusals::refusal_of` meets its contract: each call of `number_when` is a row of the list of tests, the last first.
 use mathlib.Core.{Path._≡_, Path.refl, Path.ap, Path._∙_, Bool.Bool}
 use Prim.Native.Nat.{ℕ}
 use borrow.Author.Needs.{needs}

@@ -1,4 +1,4 @@
--- `settings::settling_step` meets its contract: the two tests that returned or failed decide the two choices of `settlingStep`;
+-- `settings::settling_step` meets its contract: the two tests of the code are the two choices of `settlingStep`, and
 -- `settling_cycles` gives the cycles.
 use borrow.{Author.Tests.eq-eqb, Author.Tests.ne-eqb, Author.Needs.needs}
 use Rattle.settings.specs.Settings.{settlingStep}

@@ -1,5 +1,4 @@
--- `sheet::gather` meets its contract: the equations of the five calls are the parts in turn, and `pushes-append` joins them to
--- `stepsOf`.
+-- `sheet::gather` meets its contract: the equations of the five calls are the parts of `stepsOf`, which `pushes-append` joins.
 use Rattle.sheet_steps.specs.Steps.{stepsOf}
 use Rattle.sheet_steps.proofs.Gathering.{pushes-append}
 use borrow.Author.Needs.{needs}

@@ -11,7 +11,7 @@ use Rattle.sheet.proofs.Ends.{Looked, looked, Ready, ready, copy-short,
 use Rattle.sheet.proofs.init.Statement.{statement}
 use Rattle.sheet.proofs.init.Tie as tie
 
--- what is known after the plan was examined, and after its steps were gathered
+-- The facts after the plan is examined, and after its steps are collected.
 seen : (c : tie.After-examine)
     → Looked (c .before .before .before .args .config) (c .before .before .before .args .reading)
     (c .before .settings-of .result) (c .examine .result)

@@ -1,5 +1,4 @@
--- `sheet_steps::add5` meets its contract: the test for room is the test of the definition, and `turned` of `pack` is the word of
--- the step.
+-- `sheet_steps::add5` meets its contract: the test for room is that of the definition, and `turned` of `pack` gives the word.
 use borrow.{Author.Tests.lt-ltb, Author.Tests.le-ltb, Author.Needs.needs}
 use Rattle.sheet_steps.specs.Gather.{pushed}
 use Rattle.sheet_steps.proofs.add5.Statement.{statement}

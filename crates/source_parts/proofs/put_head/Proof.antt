@@ -1,5 +1,4 @@
--- `source_parts::put_head` meets its contract: the nine equations of the calls are the nine steps in turn, with the masks that
--- `facts` gives.
+-- `source_parts::put_head` meets its contract: the nine calls append the nine steps in turn, with the masks of `facts`.
 use Rattle.sheet_steps.specs.Steps.{headPart}
 use borrow.Author.Needs.{needs}
 use Rattle.source_parts.proofs.put_head.Statement.{statement}

@@ -1,5 +1,4 @@
--- `readback::clocks::read_ref` meets its contract: `ref_from` decodes the source and `div_from` the divider of the steps that
--- `ahead` gives.
+-- `readback::clocks::read_ref` meets its contract: `ref_from` decodes the source and `div_from` the divider.
 use borrow.Author.Needs.{needs}
 use Rattle.readback.proofs.clocks.read_ref.Statement.{statement}
 use Rattle.readback.proofs.clocks.read_ref.Tie as tie

@@ -1,5 +1,4 @@
--- `readback::oscillators::oscillators_in` meets its contract: `goes-on` carries each reader's equation on to the steps after the
--- previous part.
+-- `readback::oscillators::oscillators_in` meets its contract: `goes-on` carries each reader's equation on to the next part.
 use mathlib.Core.Path.{_≡_, refl, sym, ap}
 use lib.ListN.{drop}
 use borrow.Author.Needs.{needs}

@@ -1,5 +1,4 @@
--- `readback::oscillators::read_chip` meets its contract: the test of the first step that `ahead` gives is the test of the
--- definition.
+-- `readback::oscillators::read_chip` meets its contract: the test of the first step is the test of the definition.
 use borrow.{Author.Tests.eq-eqb, Author.Tests.ne-eqb, Author.Needs.needs}
 use Rattle.readback.proofs.oscillators.read_chip.Statement.{statement}
 use Rattle.readback.proofs.oscillators.read_chip.Tie as tie

@@ -1,5 +1,4 @@
--- `refusals::rules::peri_bad` meets its contract: a present clock is compared with 0 Hz as in the definition; an absent one
--- passes.
+-- `refusals::rules::peri_bad` meets its contract: a present clock is tested for 0 Hz as in the definition; an absent one passes.
 use Rattle.refusals.specs.Rules.{periBad}
 use borrow.Author.Needs.{needs}
 use Rattle.refusals.proofs.rules.peri_bad.Statement.{statement}

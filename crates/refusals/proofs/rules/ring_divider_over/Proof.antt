@@ -1,5 +1,4 @@
--- `refusals::rules::ring_divider_over` meets its contract: a present part is compared with the same limit as in the definition;
--- an absent one passes.
+-- `refusals::rules::ring_divider_over` meets its contract: a present ring is tested as in the definition; an absent one passes.
 use Rattle.refusals.specs.Rules.{ringDividerOver}
 use borrow.Author.Needs.{needs}
 use Rattle.refusals.proofs.rules.ring_divider_over.Statement.{statement}

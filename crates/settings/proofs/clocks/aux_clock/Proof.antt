@@ -1,5 +1,5 @@
--- `settings::clocks::aux_clock` meets its contract: the clock's record, once known, is divided by `quotient32` from the source
--- that `aux_source` gives.
+-- `settings::clocks::aux_clock` meets its contract: for a present clock `quotient32` divides the source that `aux_source` gives;
+-- an absent one has 0 for both.
 use borrow.Author.Needs.{needs}
 use Rattle.settings.proofs.clocks.aux_clock.Statement.{statement}
 use Rattle.settings.proofs.clocks.aux_clock.Tie as tie

@@ -1,5 +1,5 @@
--- `settings::clocks::frequencies_of` meets its contract: the equations of the callees give the fields in turn; the bounds are
--- those of the types of `Sources` and of `rtc_clock`.
+-- `settings::clocks::frequencies_of` meets its contract: the callees' equations give the fields in turn; the bounds come from the
+-- types of `Sources` and from `rtc_clock`.
 use native.Mathlib.Omega.{arith}
 use borrow.Author.Needs.{needs}
 use Rattle.settings.proofs.clocks.frequencies_of.Statement.{statement}

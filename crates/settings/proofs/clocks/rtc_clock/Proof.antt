@@ -1,5 +1,5 @@
--- `settings::clocks::rtc_clock` meets its contract: the clock's record, once known, is divided by `divided_hz` from the source
--- that `aux_source` gives; its fraction is a u8.
+-- `settings::clocks::rtc_clock` meets its contract: for a present RTC `divided_hz` divides the source that `aux_source` gives,
+-- and its fraction is a u8; an absent one has 0 for both.
 use mathlib.Core.Path.{refl}
 use native.Mathlib.Omega.{arith}
 use borrow.Author.Needs.{needs}

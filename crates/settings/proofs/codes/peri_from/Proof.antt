@@ -1,5 +1,4 @@
--- `settings::codes::peri_from` meets its contract: codes 0, 1, 2 and 4 pick their rows; any other number fails the four tests and
--- picks the ring.
+-- `settings::codes::peri_from` meets its contract: codes 0, 1, 2 and 4 pick their rows; any other fails the four tests: the ring.
 use borrow.Author.Tests.{ne-eqb}
 use Rattle.settings.proofs.codes.peri_from.Statement.{statement}
 use Rattle.settings.proofs.codes.peri_from.Tie as tie

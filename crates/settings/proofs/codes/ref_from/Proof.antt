@@ -1,5 +1,4 @@
--- `settings::codes::ref_from` meets its contract: codes 0 and 1 pick their rows; any other number gives the crystal, whether it
--- is 2 or not.
+-- `settings::codes::ref_from` meets its contract: codes 0 and 1 pick their rows; any other gives the crystal, 2 or not.
 use mathlib.Core.{Path._≡_, Path.refl, Bool.Bool, Bool.true, Bool.false}
 use lib.Dec.{eqb}
 use Rattle.base.specs.Choice.{pick}

@@ -1,5 +1,4 @@
--- `settings::codes::sys_source_from` meets its contract: code 0 is the reference clock; any other is decoded by `sys_from` after
--- 1 is subtracted.
+-- `settings::codes::sys_source_from` meets its contract: code 0 is the reference clock; `sys_from` decodes any other, less 1.
 use borrow.{Author.Needs.needs, Author.Tests.eq-eqb, Author.Tests.ne-eqb}
 use Rattle.settings.proofs.codes.sys_source_from.Statement.{statement}
 use Rattle.settings.proofs.codes.sys_source_from.Tie as tie

@@ -1,5 +1,4 @@
--- `settings::least_plan::plan_of` meets its contract: `xosc_for` gives the crystal and `time_for` the time; the other fields are
--- copied.
+-- `settings::least_plan::plan_of` meets its contract: `xosc_for` gives the crystal and `time_for` the time; the rest is copied.
 use Rattle.settings.specs.LeastPlan.{planOf}
 use borrow.Author.Needs.{needs}
 use Rattle.settings.proofs.least_plan.plan_of.Statement.{statement}

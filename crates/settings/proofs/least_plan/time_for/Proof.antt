@@ -1,5 +1,5 @@
--- `settings::least_plan::time_for` meets its contract: the cycles of one microsecond are those of a settling of 1 µs, and the
--- quotient is at most the 32 bit cycles.
+-- `settings::least_plan::time_for` meets its contract: `settling_cycles` of 1 µs gives the cycles of a microsecond, and the
+-- quotient is at most the cycles, so the cast to 32 bits keeps it.
 use native.Mathlib.{Omega.arith, Nat.one-mul, Nat.div-le-self}
 use Prim.Native.Nat.{ℕ, _%_}
 use Rattle.divider.specs.Delay.{settlingCycles}

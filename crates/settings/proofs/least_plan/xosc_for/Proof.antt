@@ -1,5 +1,4 @@
--- `settings::least_plan::xosc_for` meets its contract: with a crystal `multiplier_for` gives the multiplier; the other fields are
--- copied.
+-- `settings::least_plan::xosc_for` meets its contract: with a crystal `multiplier_for` gives the multiplier; the rest is copied.
 use borrow.Author.Needs.{needs}
 use Rattle.settings.proofs.least_plan.xosc_for.Statement.{statement}
 use Rattle.settings.proofs.least_plan.xosc_for.Tie as tie

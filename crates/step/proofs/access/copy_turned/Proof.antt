@@ -1,5 +1,4 @@
--- `step::access::copy_turned` meets its contract: after i iterations the buffer starts with the bytes of the first i words, by
--- `copied-more`.
+-- `step::access::copy_turned` meets its contract: after i iterations the buffer starts with the bytes of i words: `copied-more`.
 use mathlib.Core.{Path._≡_, Path.refl, Path._∙_, List.List, List._++_, List.map}
 use Prim.Native.Nat.{ℕ, _≤_, _-_, _*_}
 use lib.{ListN.length, ListN.take, ListN.drop, Seq.take-length}

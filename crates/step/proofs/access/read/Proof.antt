@@ -1,5 +1,4 @@
--- `step::access::read` meets its contract: without eight bytes `read-short` gives 20; with them `unpack` decides on the word of
--- `get`.
+-- `step::access::read` meets its contract: without eight bytes `read-short` gives 20; else `unpack` decides on the word.
 use borrow.Author.Needs.{needs}
 use native.Mathlib.Omega.{arith}
 use denote.Ref.{now}

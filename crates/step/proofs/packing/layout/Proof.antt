@@ -1,5 +1,4 @@
--- `step::packing::layout` meets its contract: each arm has the row of its kind in the table, and `laid-none` covers every other
--- number.
+-- `step::packing::layout` meets its contract: each arm has the row of its kind, and `laid-none` covers every other number.
 use Rattle.step.specs.Layout.{rows, width}
 use Rattle.step.proofs.{Table.laid, Table.laid-none, packing.layout.Statement.statement}
 use Rattle.step.proofs.packing.layout.Tie as tie

@@ -1,5 +1,4 @@
--- `step::packing::low` meets its contract: `low-bits` turns the mask into a remainder; 2^w is positive, so the subtraction does
--- not underflow.
+-- `step::packing::low` meets its contract: `low-bits` turns the mask into a remainder; 2^w is positive, so 1 can be subtracted.
 use borrow.Author.Needs.{needs}
 use native.Mathlib.Omega.{arith}
 use lib.Pow.{pow-pos}
