@@ -1,5 +1,6 @@
--- The search's answer is the nearest by whole hertz, and of equals the first: settings of one whole-hertz output have
--- no remainder together, so one with no remainder is only the nearest. And the targets of one answer lie side by side.
+-- The answer of the search is the nearest by whole hertz, and of equals the first: of settings with one whole-hertz
+-- output all or none have a remainder, so a setting with no remainder is also the nearest. The targets with one
+-- answer are contiguous.
 use mathlib.Core.{Path._≡_, Path.sym, Path.ap, Path.subst, Path._∙_, Logic.⊎-elim}
 use Prim.Native.Nat.{ℕ, _+_, _-_, _*_, _%_, _≤_, _<_, _∣_}
 use native.Mathlib.{Omega.arith, Decide.decLe}
@@ -14,7 +15,7 @@ use Rattle.pll.proofs.{Candidates.vco-is, Right.LowestOf, Right.search-lowest, 
 use Rattle.pll.proofs.Scores.{score-cases, rank-is, Lowest, lowest-chosen}
 use Rattle.pll.proofs.{Sizes.posts-most, Sizes.posts-some, Unique.right-unique}
 
--- a remainder that the input divides when it is multiplied by at most 49 is none
+-- a remainder below 49 whose product with at most 49 is a multiple of the input is 0
 no-remainder : (input a b r p : ℕ) → 5000000 ≤ input → r < 49 → 0 < p → p ≤ 49 → input * a ≡ input * b + r * p → r ≡ 0
 no-remainder input a b r p hi hr hp hq e = ⊎-elim (λ z. z) (λ l. absurd (over l)) (eq-zero-or-pos r)
   where
@@ -130,7 +131,7 @@ module _ (input target : ℕ) where
   pub search-near : (c : PllConfig) → searchOf input target ≡ value c → NearestOutput input target c
   search-near c e = lowest-near c (subst (LowestOf input target) e (search-lowest input target))
 
--- of two outputs the nearer is told by twice the target and their sum
+-- twice the target compared with the sum of two outputs decides which output is nearer
 sum-low : (x y t : ℕ) → y < x → apart x t ≤ apart y t → x + y ≤ t + t
 sum-low x y t h k = omega arith
 

@@ -1,4 +1,4 @@
--- Worked answers of `find_usb_pll` (docs/PLL.md, USB PLL), from the definition; `limits` runs more of them.
+-- Worked answers of `find_usb_pll` (docs/PLL.md, USB PLL), evaluated from the definition; `limits` runs more of them.
 use mathlib.Core.{Path._≡_, Path.refl, List.flatMap}
 use Rattle.base.specs.Answer.{value}
 use Rattle.pll.specs.Search.{falling, rising, setting, settings, keep}

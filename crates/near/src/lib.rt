@@ -1,1 +1,1 @@
-// Theorems about the search by whole hertz: proofs/Near.antt. No code of its own.
+// Theorems about the search by whole hertz (proofs/Near.antt). The crate has no code.

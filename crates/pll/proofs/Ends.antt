@@ -1,4 +1,4 @@
--- The feedback dividers that the VCO permits: their two ends, and that they leave none out between them.
+-- The feedback dividers that the VCO permits are all the numbers between two ends, which divisions of the VCO range give.
 use mathlib.Core.{Path._≡_, Path.refl, Path.sym, Path.ap, Path.subst, Path._∙_, Logic._⊎_, Logic.⊎-elim}
 use mathlib.Core.Bool.{Bool, true, false}
 use Prim.Native.Nat.{ℕ, zero, suc, _+_, _-_, _*_, _/_, _≤_, _<_}
@@ -231,7 +231,7 @@ module _ (input : ℕ) where
       → VcoPermits input fb → (low ≤ fb) × (fb ≤ high)
   outside-refused low high fb l h v = (lowest-right low l .last fb v, highest-right high h .1 .last fb v)
 
--- at 12 MHz
+-- at 12 MHz the ends are 133 and 63
 pub ends-at-12-mhz : (highestOf 12000000 ≡ value 133) × (lowestOf 12000000 ≡ value 63)
 unfolding highestOf lowestOf firstPermitted falling rising
 ends-at-12-mhz = (refl, refl)

@@ -1,4 +1,5 @@
--- Which inputs the search serves, and what it hands out: from what is right of its answers.
+-- The search serves exactly the inputs that have a permitted feedback divider, and its settings are valid: both
+-- follow from `RightAnswer`.
 use mathlib.Core.{Path._≡_, Path.refl, Path.sym, Path.ap, Path.subst, Path._∙_, Logic._⊎_, Logic.⊎-elim, Bool.true}
 use Prim.Native.Nat.{ℕ, _/_, _≤_, _<_}
 use native.Mathlib.{Omega.arith, Nat.mul-le-mul-left, Nat.div-one}

@@ -1,4 +1,4 @@
--- The setting of the lowest rank is the answer of the search.
+-- The setting with the lowest rank is the answer of `searchOf`.
 use mathlib.Core.{Path._≡_, Path.sym, Path.ap, Logic.⊎-elim}
 use Prim.Native.Nat.{ℕ, _-_, _/_, _%_, _<_}
 use native.Mathlib.Omega.{arith}

@@ -1,4 +1,5 @@
--- Which settings of one feedback divider are nearest to the target.
+-- Of the settings with one feedback divider, the nearest to the target has one of the two post products next to the
+-- wanted one.
 use mathlib.Core.{Path._≡_, Path.refl, Path.sym, Path.ap, Path._∙_, Logic.inr, Logic.⊎-elim}
 use Prim.Native.Nat.{ℕ, suc, min, _+_, _-_, _*_, _/_, _%_, _≤_, _<_}
 use native.Mathlib.Omega.{arith, min-cases}
@@ -20,7 +21,7 @@ gap v p d hp l h hv =
     le-div-iff-mul-le {k = p} {x = suc o} {y = v} hp .1
     (omega (arith, suc-mul o p, mul-suc o p, mul-le-mul-left o l, div-mul-le-self v d))
 
--- a product whose output is not the target has a score above 0
+-- a product that does not give the target with no remainder has a score above 0
 far : (v t p : ℕ) → 0 < p → (v / p ≡ t → ⊥) → scoreOf v t p ≡ apart (v / p) t + 1
 far v t p hp n = score-other v t p (λ e. n (div-eq-of-eq-mul-left {n = p} {m = v} {k = t} hp (sym e)))
 

@@ -1,5 +1,5 @@
--- Lists of settings that have each setting of a kind once, in an order. The order is a number, `by`, that falls along
--- the list: the key for the search, another for the lister.
+-- Lists that have each setting of a kind once and in order. The order is a number, `by`, that falls along the list:
+-- the key for the search, `listKey` for the lister.
 use mathlib.Core.{Path._≡_, Path.refl, Path.sym, Path.ap, Logic._⊎_, Logic.inl, Logic.inr, Logic.⊎-elim}
 use mathlib.Core.{List.List, List.[], List._∷_, List._++_, List.map, List.flatMap, Bool.Bool, Bool.true, Bool.false}
 use Prim.Native.Nat.{ℕ, zero, suc, _+_, _≤_, _<_}
@@ -40,7 +40,7 @@ module _ (by : PllConfig → ℕ) where
         (λ d k. (to d (k .0), k .1)) (λ d k. (from d (k .0), k .1)) cs (l .2),
   )
 
-  -- two lists, of which the first stands before the second
+  -- two lists, of which the first precedes the second
   lists-append : (A B D : Kind) → ((c : PllConfig) → A c → D c) → ((c : PllConfig) → B c → D c)
       → ((c : PllConfig) → D c → A c ⊎ B c) → ((c d : PllConfig) → A c → B d → by d < by c)
       → (xs ys : List PllConfig) → Lists by A xs → Lists by B ys → Lists by D (xs ++ ys)

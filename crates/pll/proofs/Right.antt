@@ -1,4 +1,4 @@
--- The search's answer has the lowest rank, and so it is right: what `specs/Law.antt` says holds of it.
+-- The answer of the search has the lowest rank, and so it is right by `RightAnswer` (specs/Law).
 use mathlib.Core.{Path._≡_, Path.refl, Logic._⊎_, Logic.inl, Logic.inr, Logic.⊎-elim, List.List, List.[], List._∷_}
 use mathlib.Core.Bool.{Bool, true, false}
 use Prim.Native.Nat.{ℕ, _+_, _-_, _*_, _≤_, _<_}

@@ -1,4 +1,4 @@
--- The laws of the score, of the order as one number, and of the rank.
+-- The laws of the score, of the key (the order as one number) and of the rank.
 use mathlib.Core.{Path._≡_, Path.refl, Logic._⊎_, Logic.inl, Logic.inr, Logic.⊎-elim, Bool.Bool, Bool.true, Bool.false}
 use Prim.Native.Nat.{ℕ, _+_, _-_, _*_, _/_, _≤_, _<_}
 use native.Mathlib.{Omega.arith, Nat.div-le-self, Nat.le-div-iff-mul-le, Nat.div-lt-iff-lt-mul, Nat.div-mul-le-self, Nat.add-mul}
@@ -45,7 +45,7 @@ module _ (v t d : ℕ) where
       = le-div-iff-mul-le {k = d} {x = v / d + e} {y = v + e * d} p .1 (omega (arith, add-mul (v / d) e d, div-mul-le-self v d)) in
       omega (arith, score-other (λ x. omega (arith, x)))
 
--- what stands before has the greater key
+-- the setting that precedes has the greater key
 pub before-key : (c d : PllConfig) → c .«post_div1» ≤ 7 → c .«post_div2» ≤ c .«post_div1» → Before d c → key c < key d
 before-key c d h1 h2 b =
     ⊎-elim (λ l. omega arith)

@@ -1,4 +1,4 @@
--- The steps of the walk down the feedback dividers.
+-- The steps of the walk down the feedback dividers: the two ends, the step to the next divider, and the whole walk.
 use mathlib.Core.{Path._≡_, Path.refl, Path._∙_, Logic._⊎_, Logic.inl, Logic.inr, Logic.⊎-elim}
 use Prim.Native.Nat.{ℕ, min, _-_, _≤_, _<_}
 use native.Mathlib.{Omega.arith, Omega.min-cases, Nat.eq-or-lt-of-le}

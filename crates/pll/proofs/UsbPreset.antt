@@ -1,4 +1,4 @@
--- The preset's USB PLL, from the definition.
+-- The USB PLL of the 12 MHz preset, evaluated from the definition.
 use mathlib.Core.{Path._≡_, Path.refl, List.flatMap}
 use Rattle.base.specs.Answer.{value}
 use Rattle.pll.specs.Search.{falling, rising, setting, settings, keep}

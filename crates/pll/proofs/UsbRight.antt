@@ -1,4 +1,4 @@
--- The first that fits is right: what `specs/UsbLaw.antt` says holds of `usbOf`.
+-- The first setting that fits is right by `UsbRight` (specs/UsbLaw).
 use mathlib.Core.{Path._≡_, Path.refl, Path.sym, Path.ap, Path.subst, Logic.⊎-elim}
 use mathlib.Core.List.{List, [], _∷_, _++_, map, flatMap}
 use mathlib.Core.Bool.{Bool, true, false, _&&_}

@@ -1,4 +1,4 @@
--- What a valid setting says of its numbers.
+-- The ranges of a valid setting as inequalities, and the bounds of its output.
 use mathlib.Core.{Path._≡_, Bool.true, Bool._&&_}
 use Prim.Native.Nat.{ℕ, _≤_}
 use native.Mathlib.{Nat.div-le-self, Omega.arith}

@@ -1,5 +1,5 @@
--- The feedback dividers that the walk takes are those that the VCO permits: they go from one end of these to the other, one
--- after another.
+-- The walk takes exactly the feedback dividers that the VCO permits: it takes every number from the highest down to
+-- the lowest.
 use mathlib.Core.{Path._≡_, Path.refl, Logic._⊎_, Logic._↔_, Logic.inl, Logic.inr, List.[], List._∷_, Bool.Bool, Bool.true, Bool.false}
 use Prim.Native.Nat.{ℕ, zero, suc, _/_, _≤_, _<_}
 use native.Mathlib.{Omega.arith, Nat.eq-or-lt-of-le}

@@ -1,4 +1,4 @@
--- The two ends of the feedback dividers that the search may take at an input, and the walk between them.
+-- The highest and the lowest feedback divider that the search may take at an input, and the walk between them.
 use mathlib.Core.{Path._≡_, Logic._⊎_, List.List, List.[], List._∷_}
 use Prim.Native.Nat.{ℕ, zero, suc}
 use lib.Dec.{leb}
@@ -18,13 +18,12 @@ highestOf input = firstPermitted input (falling feedbackMax)
 unfoldable pub lowestOf : ℕ → Answer ℕ
 lowestOf input = firstPermitted input (rising feedbackMax 1)
 
--- the dividers that the walk takes from fb down to `low`: after each that is above `low` the next lower one. A setting with
--- no remainder may end it before.
+-- the dividers that the walk takes from fb down to `low`; a setting with no remainder may end the walk earlier
 unfoldable pub walkDown : ℕ → ℕ → List ℕ
 walkDown low zero = []
 walkDown low (suc n) = suc n ∷ pick (leb (suc n) low) [] (walkDown low n)
 
--- those at an input: from the highest down to the lowest; none where there is no end
+-- the dividers of the walk at an input: from the highest down to the lowest; none where no divider is permitted
 abbrev pub walkedBetween : Answer ℕ → Answer ℕ → List ℕ
 walkedBetween (value high) (value low) = walkDown low high
 walkedBetween (value high) (refusal n) = []

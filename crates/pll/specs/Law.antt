@@ -1,4 +1,4 @@
--- What the search answers, said without its order of work; proved of `searchOf` in `proofs/Right.antt`.
+-- The right answer of the search, stated declaratively (docs/PLL.md); `proofs/Right.antt` proves it of `searchOf`.
 use mathlib.Core.{Path._≡_, Logic._⊎_, Logic._↔_}
 use Prim.Native.Nat.{ℕ, _*_, _≤_, _<_}
 use Rattle.base.specs.Answer.{Answer, value, refusal}
@@ -17,7 +17,7 @@ pub record VcoPermits (input fb : ℕ) : Type 0 where
   pub high : fb ≤ feedbackMax
   pub vco : InVco (input * fb)
 
--- fb is the highest of them, and the lowest: none lies beyond
+-- fb is the highest permitted divider; then the lowest
 pub record HighestPermitted (input fb : ℕ) : Type 0 where
   pub one : VcoPermits input fb
   pub last : (k : ℕ) → VcoPermits input k → k ≤ fb
@@ -26,8 +26,8 @@ pub record LowestPermitted (input fb : ℕ) : Type 0 where
   pub one : VcoPermits input fb
   pub last : (k : ℕ) → VcoPermits input k → fb ≤ k
 
--- Every feedback divider that the walk takes at an input, which is from 5 MHz on, is one of 16 to 320 that the VCO permits,
--- and none of those lies beyond its two ends.
+-- The walk takes a feedback divider at an input exactly where the input is at least 5 MHz, the divider is 16 to 320
+-- and its VCO frequency is in range.
 abbrev pub WalkTakesPermitted : Type 0
 WalkTakesPermitted = (input fb : ℕ) → Among fb (walkedOf input) ↔ ((referenceMin ≤ input) × VcoPermits input fb)
 
@@ -50,7 +50,7 @@ Exact input target c = target * postsOf c ≡ vcoOf c input
 abbrev pub NoneExact : ℕ → ℕ → Type 0
 NoneExact input target = (d : PllConfig) → Candidate input d → Exact input target d → ⊥
 
--- c stands before d in the order: feedback divider, post 1, post 2, the greater first
+-- c precedes d in the order of the search: feedback divider, post 1, post 2, the greater first
 abbrev pub Before : PllConfig → PllConfig → Type 0
 Before c d =
     (d .fbdiv < c .fbdiv)
@@ -61,10 +61,10 @@ Before c d =
 pub record Chosen (input target : ℕ) (c : PllConfig) : Type 0 where
   -- it is one of the candidates
   pub candidate : Candidate input c
-  -- where one has no remainder, it has none, and no such one stands before it
+  -- where a candidate has no remainder, c has none, and no such candidate precedes it
   pub exact : (d : PllConfig) → Candidate input d → Exact input target d → Exact input target c
   pub exact-first : (d : PllConfig) → Candidate input d → Exact input target d → Before d c → ⊥
-  -- where each has a remainder, none is nearer, and none as near stands before it
+  -- where every candidate has a remainder, none is nearer, and none as near precedes it
   pub nearest : NoneExact input target → (d : PllConfig) → Candidate input d
       → distance input target c ≤ distance input target d
   pub nearest-first : NoneExact input target → (d : PllConfig) → Candidate input d

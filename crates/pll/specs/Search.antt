@@ -42,11 +42,11 @@ candidates input = keep (permitted input) settings
 abbrev pub exact : ℕ → ℕ → PllConfig → Bool
 exact input target c = eqb (target * postsOf c) (vcoOf c input)
 
--- how far a and b lie apart
+-- the distance between a and b
 abbrev pub apart : ℕ → ℕ → ℕ
 apart a b = (a - b) + (b - a)
 
--- how far the whole-hertz output of c lies from the target
+-- the distance of the whole-hertz output of c from the target
 abbrev pub distance : ℕ → ℕ → PllConfig → ℕ
 distance input target c = apart (outputHz c input) target
 
@@ -66,12 +66,12 @@ abbrev pub firstOr : Answer PllConfig → List PllConfig → Answer PllConfig
 firstOr other [] = other
 firstOr other (c ∷ cs) = value c
 
--- `find_pll_params`
+-- `find_pll_params`: the first candidate with no remainder, else the nearest; refusal 15 where there is no candidate
 unfoldable pub searchOf : ℕ → ℕ → Answer PllConfig
 searchOf input target =
     firstOr (nearest input target (candidates input)) (keep (exact input target) (candidates input))
 
--- what an answer of the code says
+-- the code's answer as an answer of the definitions
 abbrev pub foundIs : Found → Answer PllConfig
 foundIs (Params c) = value c
 foundIs (Refused n) = refusal n

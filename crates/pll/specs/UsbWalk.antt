@@ -1,4 +1,4 @@
--- Inside: how the code goes over the reference dividers.
+-- Internal definitions: the loop of the code over the reference dividers.
 use mathlib.Core.Path.{_≡_}
 use Prim.Native.Nat.{ℕ, _<_}
 use Rattle.base.specs.Answer.{Answer, value, refusal}

@@ -1,4 +1,4 @@
-// The feedback dividers that the search may take at an input: both ends of them.
+// The highest and the lowest feedback divider that the search may take at an input frequency.
 use crate::FEEDBACK_MIN;
 use crate::REFERENCE_MIN;
 use crate::VCO_MAX;
@@ -10,20 +10,20 @@ ghost use Rattle.base.specs.Answer.{numberIs};
 ghost use Rattle.pll.specs.Ranges.{referenceMin};
 ghost use Rattle.pll.specs.Ends.{highestOf, lowestOf};
 
-// Over it even the least feedback divider has its VCO out of range.
+// Above this input even the least feedback divider, 16, takes the VCO above 1600 MHz.
 const INPUT_MAX: u64 = 100000000;
 
 // The refusal of an input that has no setting.
 const NO_SETTING: u8 = 15;
 
-// Whether an input has such a divider.
+// Whether an input has a permitted feedback divider.
 fn served(input_hz: u32) -> bool
     ensures { λ r. ⌜ r ≡ inRange referenceMin 100000000 «input_hz» ⌝ }
 {
     base::in_range(REFERENCE_MIN, INPUT_MAX, input_hz as u64)
 }
 
-// The highest, or 15 where there is none. From the reference's minimum on it is never over 320.
+// Answers the highest permitted divider; refuses with 15 where there is none. From 5 MHz on it is at most 320.
 pub fn highest(input_hz: u32) -> Number
     ensures { λ r. ⌜ numberIs r ≡ highestOf «input_hz» ⌝ }
 {
@@ -35,7 +35,7 @@ pub fn highest(input_hz: u32) -> Number
     }
 }
 
-// The lowest, or 15 where there is none.
+// Answers the lowest permitted divider; refuses with 15 where there is none.
 pub fn lowest(input_hz: u32) -> Number
     ensures { λ r. ⌜ numberIs r ≡ lowestOf «input_hz» ⌝ }
 {

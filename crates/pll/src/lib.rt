@@ -1,4 +1,4 @@
-// The PLL: whether a setting is valid, what it gives, and the search for one.
+// The PLL (docs/PLL.md): whether a setting is valid, which frequency it gives, and the search for a setting.
 pub mod feedback;
 pub mod usb;
 
@@ -66,7 +66,7 @@ impl PllConfig {
         (self.post_div1 as u64) * (self.post_div2 as u64)
     }
 
-    // Whether the setting is valid for an input frequency.
+    // Whether the setting is valid for an input frequency: dividers, reference and VCO are in range.
     pub fn is_valid(self, input_hz: u32) -> bool
         ensures { λ r. ⌜ r ≡ validOf self «input_hz» ⌝ }
     {
@@ -76,14 +76,14 @@ impl PllConfig {
             & base::in_range(VCO_MIN, VCO_MAX, self.vco(input_hz))
     }
 
-    // The output frequency as a plain number: both divisions rounded down, and 0 for a zero divisor.
+    // The output frequency in 64 bits: both divisions are rounded down, and a zero divisor gives 0.
     fn output_hz(self, input_hz: u32) -> u64
         ensures { λ r. ⌜ r ≡ outputHz self «input_hz» ⌝ }
     {
         base::quotient(self.vco(input_hz), self.posts())
     }
 
-    // The output frequency of a valid setting, 0 for another. The test and the output share the reference's division.
+    // The output frequency of a valid setting, else 0. The test and the output share the division by the reference divider.
     pub fn valid_hz(self, input_hz: u32) -> u32
         ensures { λ r. ⌜ r ≡ validHz self «input_hz» ⌝ }
     {
@@ -99,7 +99,7 @@ impl PllConfig {
         }
     }
 
-    // The output frequency, with no test of validity.
+    // The output frequency with no test of validity; refuses with 16 where a divisor is 0 or a number is too large.
     pub fn output_frequency(self, input_hz: u32) -> Number
         ensures { λ r. ⌜ numberIs r ≡ outputOf self «input_hz» ⌝ }
     {
@@ -136,8 +136,8 @@ fn score(vco: u32, target: u32, product: u32) -> u32
     }
 }
 
-// The rank of a setting, the lower the better: by the score, and of equals the one that stands first, with the
-// higher dividers. `posts` holds the two post dividers, three bits each.
+// The rank of a setting, the lower the better: by the score, and of equal scores the greater dividers first. `posts`
+// holds the two post dividers, three bits each.
 fn rank(vco: u32, target: u32, fbdiv: u32, posts: u32) -> u64
     requires { ⌜ (49 ≤ vco) × (vco ≤ vcoMax) × (fbdiv ≤ feedbackMax) × PostCode posts ⌝ }
     ensures { λ r. ⌜ r ≡ codeRankOf vco target fbdiv posts ⌝ }
@@ -181,7 +181,7 @@ fn nearer(higher: bool, best: u64, vco: u32, target: u32, fbdiv: u32, posts: u32
     lower(best, rank(vco, target, fbdiv, posts))
 }
 
-// How often the target goes into the VCO frequency, up to 49.
+// The VCO frequency over the target, rounded down and at most 49: the product of the post dividers to look for.
 fn wanted_product(vco: u32, target: u32) -> usize
     ensures { λ r. ⌜ WantedProduct vco target r ⌝ }
 {
@@ -192,10 +192,10 @@ fn wanted_product(vco: u32, target: u32) -> usize
     if q < 49 { q as usize } else { 49 }
 }
 
-// For 0, 1, .., 49 the post dividers with the greatest product up to it, and those with the least above it, three bits
-// for each divider: at 11 stands 0o5262, for 5 and 2, and 6 and 2. Of equal products it has the one with the greater
-// post 1. No product is up to 0 and none above 49: 0o11 and 0o77 stand there. A `match`, since a constant array would
-// be stored to the stack at each read.
+// For a product of 0 to 49, the post dividers with the greatest product up to it, and those with the least above it,
+// three bits for each divider: 11 gives 0o5262, which is 5 and 2, then 6 and 2. Equal products give the greater post
+// 1. No product is up to 0 and none is above 49; 0o11 and 0o77 fill these. It is a `match`, since a constant array
+// would be stored to the stack at each read.
 fn posts_near(product: usize) -> u16
     requires { ⌜ product ≤ 49 ⌝ }
     ensures { λ r. ⌜ NearestPosts product r ⌝ }
@@ -262,9 +262,10 @@ fn product(posts: u32) -> u32
     posts / 8 * (posts % 8)
 }
 
-// The lowest of `best` and the ranks at one feedback divider. Where the target goes q times into the VCO frequency, post
-// dividers with a product up to q give the target or more, and the greatest such product is nearest. Those with a
-// product above q give less, and there the least is nearest. Most are told to be farther than `best` by a product alone.
+// The lowest of `best` and the ranks at one feedback divider. Where the target goes q times into the VCO frequency,
+// post dividers with a product up to q give the target or more, and the greatest such product is nearest. Products
+// above q give less, and the least of them is nearest. For most settings one multiplication shows that they are
+// farther than `best`.
 fn best_posts(input_hz: u32, target: u32, fbdiv: u32, best: u64) -> u64
     requires { ⌜ (referenceMin ≤ «input_hz») × VcoPermits «input_hz» fbdiv × (best ≤ noRank) ⌝ }
     ensures { λ r. ⌜ Lowered «input_hz» target (CandidatesAt «input_hz» fbdiv) best r ⌝ }
@@ -280,9 +281,9 @@ fn best_posts(input_hz: u32, target: u32, fbdiv: u32, best: u64) -> u64
     nearer(low, now, vco, target, fbdiv, less)
 }
 
-// The lowest of `best` and the ranks at the feedback dividers from fbdiv down to `low`: it calls itself with the next
-// lower one. Those that it takes are those that the VCO permits: `walk-takes-permitted` (proofs/Walked). A rank with no
-// remainder ends the walk, since nothing after it is lower.
+// The lowest of `best` and the ranks at the feedback dividers from fbdiv down to `low`, by recursion. It takes
+// exactly the dividers that the VCO permits: `walk-takes-permitted` (proofs/Walked). A rank with no remainder ends
+// the walk, since no later rank is lower.
 fn walk(input_hz: u32, target: u32, fbdiv: u32, low: u32, best: u64) -> u64
     requires { ⌜ Among fbdiv (walkedOf «input_hz») × (lowestOf «input_hz» ≡ value low) ⌝ }
     requires { ⌜ (keys ≤ best) × (best ≤ noRank) ⌝ }
@@ -298,7 +299,7 @@ fn walk(input_hz: u32, target: u32, fbdiv: u32, low: u32, best: u64) -> u64
     walk(input_hz, target, fbdiv - 1, low, now)
 }
 
-// The setting of a rank.
+// The setting that a rank encodes.
 fn setting(rank: u64) -> PllConfig
     ensures { λ r. ⌜ r ≡ settingOf rank ⌝ }
 {
@@ -311,8 +312,8 @@ fn setting(rank: u64) -> PllConfig
     }
 }
 
-// The setting for a target frequency: one with no remainder if there is one, else the nearest. An input with no
-// feedback divider to take has none.
+// Answers the setting for a target frequency: the first with no remainder, else the nearest. Refuses with 15 an input
+// that has no permitted feedback divider.
 pub fn find_pll_params(input_hz: u32, target_hz: u32) -> Found
     ensures { λ r. ⌜ foundIs r ≡ searchOf «input_hz» «target_hz» ⌝ }
 {

@@ -1,4 +1,6 @@
--- The proof of the cycle of calls {walk}. The measure is the feedback divider.
+-- `pll::walk` meets its contract, by the feedback divider as measure: a rank with no remainder ends it, since nothing
+-- after it is lower (`stop-exact`); at the lowest divider nothing is left (`stop-last`); else the next call takes the
+-- rest (`walk-on`).
 use native.Mathlib.Omega.{arith}
 use Prim.Native.Nat.{ℕ, _≤_, _<_}
 use borrow.{Author.Needs.needs, Fn.Kinds.In}

@@ -1,4 +1,5 @@
--- `pll::best_posts` meets its contract.
+-- `pll::best_posts` meets its contract: one of the two table entries has the lowest rank at this divider
+-- (`nearest-lowest`), and two calls of `nearer` take the minimum of `best` and both.
 use mathlib.Core.Path.{_≡_}
 use Prim.Native.Nat.{ℕ, min}
 use native.Mathlib.Omega.{arith}

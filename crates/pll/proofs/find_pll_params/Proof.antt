@@ -1,4 +1,6 @@
--- `pll::find_pll_params` meets its contract.
+-- `pll::find_pll_params` meets its contract: the walk starts at the highest permitted divider, so its rank is the
+-- lowest of all candidates (`all-walked`), and the setting of that rank is the answer (`lowest-found`). Where one end
+-- is missing, the definition refuses with the same 15 (`none-to-walk`).
 use mathlib.Core.{Path.sym, Path.ap, Path._∙_, Logic.inl, Logic.inr}
 use native.Mathlib.Omega.{arith}
 use borrow.Author.Needs.{needs}

@@ -1,4 +1,5 @@
--- `pll::nearer` meets its contract.
+-- `pll::nearer` meets its contract: a score above that of `best` is a rank above `best`, so skipping the calculation
+-- keeps the minimum; otherwise `lower` and `rank` give it.
 use native.Mathlib.Omega.{arith}
 use borrow.Author.Needs.{needs}
 use Rattle.pll.specs.Walk.{codeRankOf}

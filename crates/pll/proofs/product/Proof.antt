@@ -1,4 +1,4 @@
--- `pll::product` meets its contract.
+-- `pll::product` meets its contract: post dividers from 1 to 7 have a product of 1 to 49 (`posts-some`, `posts-most`).
 use mathlib.Core.Path.{refl}
 use native.Mathlib.Omega.{arith}
 use Rattle.pll.proofs.{Sizes.posts-most, Sizes.posts-some, product.Statement.statement}

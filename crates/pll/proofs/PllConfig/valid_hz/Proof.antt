@@ -1,4 +1,5 @@
--- `pll::PllConfig::valid_hz` meets its contract.
+-- `pll::PllConfig::valid_hz` meets its contract: the test is `validOf` (`tested`); where it holds, `Valid` bounds the
+-- VCO frequency by 1600 MHz and makes the post product positive, so 32 bits hold every value.
 use mathlib.Core.{Path._≡_, Path.sym, Path._∙_, Bool._&&_}
 use native.Mathlib.{Nat.mul-le-mul, Nat.mul-pos, Omega.arith}
 use borrow.Author.Needs.{needs}

@@ -1,4 +1,5 @@
--- `pll::feedback::highest` meets its contract.
+-- `pll::feedback::highest` meets its contract: the test decides whether any divider is permitted; where one is, the
+-- highest is the quotient of 1600 MHz by the input (`highest-value`).
 use mathlib.Core.Path.{sym}
 use native.Mathlib.Omega.{arith}
 use borrow.Author.Needs.{needs}

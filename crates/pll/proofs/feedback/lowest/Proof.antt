@@ -1,4 +1,5 @@
--- `pll::feedback::lowest` meets its contract.
+-- `pll::feedback::lowest` meets its contract: the test decides whether any divider is permitted; where one is, the
+-- lowest is 16 (`lowest-at-least`) or 750 MHz over the input, rounded up (`lowest-above`).
 use mathlib.Core.Path.{sym}
 use Prim.Native.Nat.{_-_}
 use native.Mathlib.{Omega.arith, Nat.div-le-self}
