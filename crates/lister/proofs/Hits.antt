@@ -1,4 +1,5 @@
--- Which settings of a feedback divider give the target with no remainder.
+-- The settings with one feedback divider that give the target with no remainder are those whose post product is the
+-- quotient of the VCO frequency and the target.
 use mathlib.Core.{Path._≡_, Path.refl, Path.sym, Path._∙_, Path.ap, List.List, List.[], List._∷_, List.map, List.flatMap}
 use mathlib.Core.{Bool.Bool, Bool.true, Bool.false, Bool._&&_, Logic.⊎-elim}
 use Prim.Native.Nat.{ℕ, zero, suc, _+_, _-_, _*_, _/_, _%_, _≤_, _<_}
@@ -68,7 +69,7 @@ module _ (fb p1 : ℕ) (positive : 1 ≤ p1) where
       omega arith)
 
 module _ (input target fb : ℕ) where
-  -- where no product gives the target, or the divider may not be taken, there is no setting
+  -- where no product gives the target, or the divider is not permitted, there is no setting
   pub none-meets : ((posts : ℕ) → referenceMin ≤ input → feedbackMin ≤ fb → InVco (input * fb)
       → target * posts ≡ input * fb → ⊥)
       → keep (meets input target) (atFeedback fb) ≡ []

@@ -1,4 +1,4 @@
--- Worked values of the lister, from the definitions.
+-- Worked values of the lister, evaluated from the definitions.
 use mathlib.Core.{Path._≡_, Path.refl, List.[], List._∷_, List.flatMap}
 use Rattle.base.specs.Answer.{value, refusal}
 use Rattle.pll.specs.Search.{falling, rising, setting, keep}
@@ -34,7 +34,7 @@ pub end-rows :
 unfolding listOf inOrder rising keep falling flatMap
 end-rows = (refl, refl)
 
--- none: a target that nothing meets, no target, no input, and inputs that the search refuses
+-- empty lists: a target that no setting meets, a target of 0, an input of 0, and inputs that the search refuses
 pub none-rows :
     (listedOf 12000000 1 0 ≡ value 0)
     × (listedOf 12000000 0 0 ≡ value 0)

@@ -1,4 +1,4 @@
--- The list and the search agree.
+-- The list and the search agree: the search's answer is exact where the list has an entry, and then it is in the list.
 use mathlib.Core.{Path._≡_, Path.refl, Path.subst, List.List, List.[], List._∷_, Bool.Bool, Bool.true, Bool.false}
 use Prim.Native.Nat.{ℕ, _*_, _<_}
 use native.Mathlib.Omega.{arith}
@@ -13,7 +13,7 @@ use Rattle.lister.specs.Lister.{remainderFree, howOften, listOf, lengthO
 use Rattle.lister.proofs.Once.{Hit, hit-free, free-hit, list-once}
 
 module _ (input target : ℕ) where
-  -- what stands in the list is a candidate of the search, and exact
+  -- an entry of the list is a candidate of the search, and exact
   listed-hit : (c : PllConfig) → 0 < howOften c (listOf input target) → Hit input target c
   listed-hit c h = free-hit input target c (go (remainderFree input target c) refl)
     where
@@ -24,15 +24,15 @@ module _ (input target : ℕ) where
   chosen : (c : PllConfig) → searchOf input target ≡ value c → Chosen input target c
   chosen c e = subst (RightAnswer input target) e (search-right input target)
 
-  -- an exact answer of the search stands in the list
+  -- an exact answer of the search is in the list
   pub search-listed : (c : PllConfig) → searchOf input target ≡ value c → Exact input target c
       → howOften c (listOf input target) ≡ 1
   search-listed c e x =
       let hit : Hit input target c = (chosen c e .candidate, eq-eqb (target * postsOf c) (vcoOf c input) x) in
       rw (hit-free input target c hit) at (list-once input target c)
 
-  -- where a setting stands in the list, the search's answer is exact, and so in the list; none of the list stands
-  -- before it in the order of the search: it is the first entry at the greatest feedback divider
+  -- where the list has an entry, the search's answer is exact, and so in the list; no entry precedes it in the order
+  -- of the search: it is the first entry at the greatest feedback divider
   pub list-searched : (d : PllConfig) → 0 < howOften d (listOf input target)
       → (c : PllConfig) × (searchOf input target ≡ value c) × Exact input target c × (Before d c → ⊥)
   list-searched d h = go (searchOf input target) refl (search-lowest input target)

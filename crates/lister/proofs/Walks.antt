@@ -1,4 +1,4 @@
--- A walk over numbers, with the settings of each: what it keeps.
+-- A walk over numbers writes the settings of each number that pass a test; numbers without such settings may be left out.
 use mathlib.Core.{Path._≡_, Path.refl, Path.sym, Path._∙_, List.List, List.[], List._∷_, List._++_, List.map, List.flatMap}
 use mathlib.Core.Bool.{Bool, false}
 use Prim.Native.Nat.{ℕ, zero, suc, _+_, _-_, _≤_, _<_}
@@ -63,7 +63,7 @@ module _ (t : PllConfig → Bool) (f : ℕ → List PllConfig) where
   unfolding rising flatMap keep
   none-given total k h = skip total 0 total k (k + total) (omega arith) refl h
 
-  -- behind the others
+  -- after the others
   stop : (n m total k : ℕ) → total ≡ n + m → ((j : ℕ) → k + n ≤ j → j < k + total → keep t (f j) ≡ [])
       → keep t (flatMap f (rising total k)) ≡ keep t (flatMap f (rising n k))
   stop zero m total k e h = none-given total k (λ j lo hi. h j (omega arith) hi) ∙ sym (none-given 0 k (λ j lo hi. absurd (omega arith)))

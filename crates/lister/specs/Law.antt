@@ -1,4 +1,4 @@
--- What holds of the list, said without how it is made; proved of `listOf` in `proofs/Once.antt`.
+-- The right list, stated declaratively (docs/PLL.md, Lister); `proofs/Once.antt` proves it of `listOf`.
 use mathlib.Core.{Path._≡_, Logic._⊎_, List.List, List.[], List._∷_}
 use Prim.Native.Nat.{ℕ, _<_}
 use Rattle.base.specs.Choice.{pick}
@@ -13,13 +13,13 @@ Ahead c d =
     ⊎ ((c .fbdiv ≡ d .fbdiv)
     × ((d .«post_div1» < c .«post_div1») ⊎ ((c .«post_div1» ≡ d .«post_div1») × (d .«post_div2» < c .«post_div2»))))
 
--- so do any two neighbours
+-- each entry comes before the next
 unfoldable pub Ordered : List PllConfig → Type 0
 Ordered [] = Unit
 Ordered (c ∷ []) = Unit
 Ordered (c ∷ d ∷ ds) = Ahead c d × Ordered (d ∷ ds)
 
 pub record RightList (input target : ℕ) (cs : List PllConfig) : Type 0 where
-  -- each remainder-free setting stands there exactly once, and nothing else does
+  -- each remainder-free setting is in the list exactly once, and nothing else is
   pub once : (c : PllConfig) → howOften c cs ≡ pick (remainderFree input target c) 1 0
   pub ordered : Ordered cs

@@ -1,4 +1,5 @@
--- What the lister writes: each setting of the search that has no remainder, once, the lowest feedback divider first.
+-- The lister (docs/PLL.md, Lister) writes each setting of the search that has no remainder, once, the lowest feedback
+-- divider first.
 use mathlib.Core.{List.List, List.[], List._∷_, List._++_, List.map, List.flatMap, Bool.Bool, Bool._&&_}
 use Prim.Native.Nat.{ℕ, _+_, _-_, _*_, _/_, _%_}
 use lib.{Dec.leb, Dec.eqb, ListN.length, ListN.drop}
@@ -32,7 +33,7 @@ meets input target c = permitted input c && exact input target c
 unfoldable pub listOf : ℕ → ℕ → List PllConfig
 listOf input target = keep (meets input target) inOrder
 
--- how often c stands in the list
+-- the number of times that c is in the list
 unfoldable pub howOften : PllConfig → List PllConfig → ℕ
 howOften c [] = 0
 howOften c (d ∷ ds) = pick (sameSetting c d) 1 0 + howOften c ds
@@ -46,19 +47,19 @@ unfoldable pub listBytes : List PllConfig → List ℕ
 listBytes [] = []
 listBytes (c ∷ cs) = settingWord c / 256 ∷ settingWord c % 256 ∷ listBytes cs
 
--- the bytes that they take
+-- the number of bytes of the list
 abbrev pub lengthOf : ℕ → ℕ → ℕ
 lengthOf input target = 2 * length (listOf input target)
 
--- there is room for them
+-- the buffer has room for the list
 abbrev pub hasRoom : ℕ → ℕ → ℕ → Bool
 hasRoom input target room = leb (lengthOf input target) room
 
--- `list_exact`: the bytes written, or refusal 19
+-- `list_exact`: the number of bytes, or refusal 19 where the buffer is too short
 abbrev pub listedOf : ℕ → ℕ → ℕ → Answer ℕ
 listedOf input target room = pick (hasRoom input target room) (value (lengthOf input target)) (refusal 19)
 
--- and the buffer after it: the bytes past those written keep their values; after a refusal all do
+-- the buffer after it: the bytes past the list keep their values; after a refusal all bytes do
 abbrev pub listedIn : ℕ → ℕ → List ℕ → List ℕ
 listedIn input target before =
     pick (hasRoom input target (length before)) (listBytes (listOf input target) ++ drop (lengthOf input target) before)

@@ -1,4 +1,4 @@
--- Inside: how the code writes, feedback divider by feedback divider.
+-- Internal definitions: the code writes the settings of one feedback divider after another.
 use mathlib.Core.{Path._≡_, List.List, List.map, List.flatMap, Bool.Bool}
 use Prim.Native.Nat.{ℕ, _+_, _*_}
 use lib.{Dec.eqb, ListN.length, Seq.sets}
@@ -15,7 +15,7 @@ atFeedback fb = flatMap (atPost1 fb) (falling 7)
 abbrev pub hasProduct : ℕ → PllConfig → Bool
 hasProduct product c = eqb (postsOf c) product
 
--- the settings stand at an index, as far as the buffer reaches; r is the index past them
+-- the settings are written from index `at`, as far as the buffer reaches; r is the index past them
 pub record Wrote (before : List ℕ) (at : ℕ) (cs : List PllConfig) (after : List ℕ) (r : ℕ) : Type 0 where
   pub last : r ≡ at + 2 * length cs
   pub bytes : after ≡ sets before at (listBytes cs)

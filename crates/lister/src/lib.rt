@@ -1,4 +1,4 @@
-// The lister: every setting that gives a target frequency with no remainder, two bytes each.
+// The lister (docs/PLL.md): it writes every setting that gives a target frequency with no remainder, two bytes each.
 use base::Length;
 use base::Number;
 ghost use mathlib.Core.Path.{_≡_};
@@ -12,7 +12,7 @@ ghost use Rattle.pll.specs.Search.{setting, keep};
 ghost use Rattle.lister.specs.Lister.{meets, listOf, listedOf, listedIn};
 ghost use Rattle.lister.specs.Order.{atPost1, atFeedback, hasProduct, Wrote};
 
-// Sets a byte, if the buffer reaches that far.
+// Sets the byte at an index; an index past the buffer changes nothing.
 fn set_byte(buf: &mut [u8], at: usize, value: u8)
     ensures { λ _. ⌜ now (buf .exit) ≡ set (now (buf .entry)) at value ⌝ }
 {
@@ -22,7 +22,7 @@ fn set_byte(buf: &mut [u8], at: usize, value: u8)
     buf[at] = value;
 }
 
-// Puts a setting at an index, as far as the buffer reaches, and answers the index past it.
+// Puts the two bytes of a setting at an index, as far as the buffer reaches, and answers the index past them.
 fn put(buf: &mut [u8], at: usize, fbdiv: u64, post1: u64, post2: u64) -> usize
     requires { ⌜ (at ≤ 5000) × (fbdiv ≤ feedbackMax) × (post1 ≤ 7) × (post2 ≤ 7) ⌝ }
     ensures { λ r. ⌜ Wrote (now (buf .entry)) at (setting fbdiv post1 post2 ∷ []) (now (buf .exit)) r ⌝ }
@@ -33,7 +33,7 @@ fn put(buf: &mut [u8], at: usize, fbdiv: u64, post1: u64, post2: u64) -> usize
     at + 2
 }
 
-// Puts the setting of a feedback divider and a post 1 that has a given post product, if there is one.
+// Puts the setting with a given feedback divider, post 1 and post product, if there is one.
 fn put_post1(buf: &mut [u8], at: usize, fbdiv: u64, post1: u64, product: u64) -> usize
     requires { ⌜ (at ≤ 5000) × (fbdiv ≤ feedbackMax) × (1 ≤ post1) × (post1 ≤ 7) ⌝ }
     ensures { λ r. ⌜ Wrote (now (buf .entry)) at (keep (hasProduct product) (atPost1 fbdiv post1)) (now (buf .exit)) r ⌝ }
@@ -47,7 +47,7 @@ fn put_post1(buf: &mut [u8], at: usize, fbdiv: u64, post1: u64, product: u64) ->
     }
 }
 
-// Puts the settings of a feedback divider that have a given post product.
+// Puts the settings with a given feedback divider and post product, the greatest post 1 first.
 fn put_posts(buf: &mut [u8], at: usize, fbdiv: u64, product: u64) -> usize
     requires { ⌜ (at ≤ 4900) × (fbdiv ≤ feedbackMax) ⌝ }
     ensures { λ r. ⌜ Wrote (now (buf .entry)) at (keep (hasProduct product) (atFeedback fbdiv)) (now (buf .exit)) r ⌝ }
@@ -62,7 +62,7 @@ fn put_posts(buf: &mut [u8], at: usize, fbdiv: u64, product: u64) -> usize
     next
 }
 
-// Puts the settings of a feedback divider that give the target with no remainder.
+// Puts the settings with a given feedback divider that give the target with no remainder.
 fn put_feedback(buf: &mut [u8], at: usize, input_hz: u32, target_hz: u32, fbdiv: u32) -> usize
     requires { ⌜ (at ≤ 4900) × (referenceMin ≤ «input_hz») × VcoPermits «input_hz» fbdiv ⌝ }
     ensures { λ r. ⌜ Wrote (now (buf .entry)) at (keep (meets «input_hz» «target_hz») (atFeedback fbdiv)) (now (buf .exit)) r ⌝ }
@@ -78,8 +78,8 @@ fn put_feedback(buf: &mut [u8], at: usize, input_hz: u32, target_hz: u32, fbdiv:
     put_posts(buf, at, fbdiv as u64, (vco / target_hz) as u64)
 }
 
-// Puts the whole list, from the lowest feedback divider that may be taken to the highest. It answers the length of the
-// list, whether or not the buffer has room for it.
+// Puts the whole list, from the lowest permitted feedback divider to the highest. It answers the length of the list
+// in bytes, whether or not the buffer has room for it.
 fn put_list(buf: &mut [u8], input_hz: u32, target_hz: u32) -> usize
     ensures { λ r. ⌜ Wrote (now (buf .entry)) 0 (listOf «input_hz» «target_hz») (now (buf .exit)) r ⌝ }
 {
@@ -99,13 +99,13 @@ fn put_list(buf: &mut [u8], input_hz: u32, target_hz: u32) -> usize
 }
 
 // Writes every setting of the search that gives the target with no remainder, the lowest feedback divider first, then
-// the greatest post 1, then the greatest post 2, and answers the bytes written. Where the buffer is too short for them,
-// nothing is written.
+// the greatest post 1, then the greatest post 2, and answers the number of bytes. Refuses with 19 a buffer that is
+// too short, and then writes nothing.
 pub fn list_exact(input_hz: u32, target_hz: u32, buf: &mut [u8]) -> Length
     ensures { λ r. ⌜ lengthIs r ≡ listedOf «input_hz» «target_hz» (length (now (buf .entry))) ⌝ }
     ensures { λ _. ⌜ now (buf .exit) ≡ listedIn «input_hz» «target_hz» (now (buf .entry)) ⌝ }
 {
-    // A buffer with no room only counts.
+    // The first pass, over an empty buffer, only counts.
     let mut nowhere = [0u8; 0];
     let length = put_list(&mut nowhere, input_hz, target_hz);
     if buf.len() < length {

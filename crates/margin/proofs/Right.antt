@@ -1,4 +1,4 @@
--- `marginOf` is right, as `specs/Law.antt` says it; and so whatever is right is `marginOf`.
+-- `marginOf` is right by `RightMargin` (specs/Law), and so any right answer equals it.
 use mathlib.Core.{Path._≡_, Path.refl, Path.sym, Path.ap, Path._∙_, Bool.Bool, Bool.true, Bool.false, Option.some}
 use mathlib.Core.Logic.{⊎-elim}
 use Prim.Native.Nat.{ℕ, zero, suc, _+_, _-_, _≤_, _<_}
@@ -30,7 +30,7 @@ module _ (input target : ℕ) (c : PllConfig) (given : searchOf input target ≡
   differs : (t : ℕ) → test t ≡ false → searchOf input t ≡ searchOf input target → ⊥
   differs t e s = no (sym e ∙ setting-is c (searchOf input t) (s ∙ given))
 
-  -- what is passed on the way down shares the setting
+  -- every target that the walk down passes shares the setting
   lower-right : (t : ℕ) → t ≤ target → ((u : ℕ) → t ≤ u → u ≤ target → searchOf input u ≡ searchOf input target)
       → RightLower input target (lowerFrom test t)
   unfolding lowerFrom

@@ -1,4 +1,5 @@
--- Two settings that agree or not, and the two sides of a target.
+-- A comparison of two settings decides whether the search gives c, and the lowest and the highest target with c give
+-- the two sides.
 use mathlib.Core.{Path._≡_, Path.sym, Path.ap, Path.subst, Path._∙_, Bool.Bool, Bool.true, Bool.false}
 use mathlib.Core.Option.{Option, none, some}
 use Prim.Native.Nat.{ℕ, _≤_, _<_}
@@ -20,7 +21,7 @@ value-same c d e = cc
 pub refused-not : (n : ℕ) (c : PllConfig) → _≡_ {A = Answer PllConfig} (refusal n) (value c) → ⊥
 refused-not n c e = let z : _≡_ {A = ℕ} 0 1 = cc in omega arith
 
--- what two settings tell of the search that gave the first
+-- the comparison of c with the search's setting decides
 pub found-tells : (input t : ℕ) (d c : PllConfig) (r : Bool) → searchOf input t ≡ value d → r ≡ sameSetting d c
     → Tells input t c r
 found-tells input t d c r e s =

@@ -1,4 +1,4 @@
-// How far a target may be moved until the search gives other settings.
+// The margin of a target (docs/PLL.md): how far it can move before the search gives another setting.
 use pll::Found;
 use pll::PllConfig;
 ghost use mathlib.Core.Path.{_≡_};
@@ -32,7 +32,7 @@ fn same_setting(c: PllConfig, d: PllConfig) -> bool
         & (c.post_div2 == d.post_div2)
 }
 
-// What the search gives for a target: whether it is the setting that is asked about, and its output.
+// The answer of the search for a target: whether it is the setting in question, and its output.
 struct Probe {
     same: bool,
     hz: u32,
@@ -54,7 +54,7 @@ fn half_way(a: u32, b: u32) -> u64 {
     (a as u64 + b as u64) / 2
 }
 
-// A guess, or the end past which it lies.
+// A guess, clamped to the two ends.
 fn within(low: u32, high: u32, guess: u64) -> u32
     requires { ⌜ low ≤ high ⌝ }
     ensures { λ r. ⌜ (low ≤ r) × (r ≤ high) ⌝ }
@@ -68,9 +68,9 @@ fn within(low: u32, high: u32, guess: u64) -> u32
     guess as u32
 }
 
-// The lowest target for which the search gives c, at or below one that has it. The targets that have it lie side by
-// side, so any target between tells on which side of it the lowest is. It is half way between two outputs: that is the
-// guess, once there is another.
+// The lowest target for which the search gives c, from a target that has it. The targets that have it are contiguous,
+// so any target between shows on which side of it the lowest is. The lowest is near the middle between the output of
+// c and that of the next setting, which is the guess once the next setting is known.
 fn lowest_with(input_hz: u32, target_hz: u32, c: PllConfig) -> u32
     requires { ⌜ Has «input_hz» c «target_hz» ⌝ }
     ensures { λ r. ⌜ Lowest «input_hz» «target_hz» c r ⌝ }
@@ -93,7 +93,7 @@ fn lowest_with(input_hz: u32, target_hz: u32, c: PllConfig) -> u32
     low
 }
 
-// The highest target for which the search gives c, at or above one that has it.
+// The highest target for which the search gives c, from a target that has it.
 fn highest_with(input_hz: u32, target_hz: u32, c: PllConfig) -> u32
     requires { ⌜ Has «input_hz» c «target_hz» ⌝ }
     ensures { λ r. ⌜ Highest «input_hz» «target_hz» c r ⌝ }
@@ -116,7 +116,7 @@ fn highest_with(input_hz: u32, target_hz: u32, c: PllConfig) -> u32
     low
 }
 
-// The number below, or none below 0.
+// The number below x; there is none below 0.
 fn next_below(x: u32) -> Limit
     ensures { λ r. ⌜ JustBelow x (limitIs r) ⌝ }
 {
@@ -127,7 +127,7 @@ fn next_below(x: u32) -> Limit
     }
 }
 
-// The number above, or none above 32 bits.
+// The number above x; there is none above 32 bits.
 fn next_above(x: u32) -> Limit
     ensures { λ r. ⌜ JustAbove x (limitIs r) ⌝ }
 {
@@ -137,7 +137,7 @@ fn next_above(x: u32) -> Limit
     Limit::Nothing
 }
 
-// The greatest lower and the smallest higher target whose settings differ from those of the target.
+// Answers the greatest lower and the smallest higher target whose setting differs; refuses with 15 as the search does.
 pub fn target_margin(input_hz: u32, target_hz: u32) -> Margin
     ensures { λ r. ⌜ marginIs r ≡ marginOf «input_hz» «target_hz» ⌝ }
 {

@@ -1,4 +1,4 @@
--- The test over the whole book, which antt computes.
+-- The test over the whole book holds by evaluation.
 use mathlib.Core.{Path.sym, Path.subst, List.List, List.flatMap}
 use lib.Dec.{T}
 use Rattle.pll.specs.Search.{falling, keep}

@@ -1,4 +1,5 @@
--- The lookup's answer is the search's: below the target stands one output, from it on another, and the nearer is taken.
+-- The answer of the lookup is that of the search: the nearest output is the greatest below the target or the least
+-- from it on, and the nearer of the two is taken.
 use mathlib.Core.Path.{_≡_}
 use Prim.Native.Nat.{ℕ, _+_, _-_, _≤_, _<_}
 use native.Mathlib.{Omega.arith, Decide.decLe}

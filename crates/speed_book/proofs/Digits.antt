@@ -1,4 +1,4 @@
--- The digits of an entry of the table.
+-- The digits of a table entry give back the output and the dividers.
 use mathlib.Core.Path.{_≡_}
 use Prim.Native.Nat.{ℕ, _/_, _%_, _≤_, _<_}
 use native.Mathlib.{Omega.arith, Nat.div-le-self}
@@ -7,7 +7,7 @@ use Rattle.pll.specs.{Setting.vcoOf, Setting.postsOf, Search.setting}
 use Rattle.speed_book.specs.Book.{crystal, hertz, tableNumber, book, table, outputIn, settingIn}
 use Rattle.speed_book.proofs.Entries.{entryOf, entry-permitted, entry-candidate}
 
--- the entry at a place of the table
+-- the entry at an index of the table
 pub table-at : (k : ℕ) → getD table k 0 ≡ tableNumber (entryOf k)
 unfolding table tableNumber hertz
 table-at k = List·getD-map tableNumber book k (setting 0 0 0)

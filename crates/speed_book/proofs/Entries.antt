@@ -1,5 +1,5 @@
--- What holds of the book's entries: each is a candidate, they are in order, none is missing; and an entry that is the
--- nearest is the search's answer.
+-- The entries of the book are the candidates of the search, in order and complete; the nearest entry is the answer of
+-- the search.
 use mathlib.Core.{Path._≡_, Path.ap, Path.subst, Logic.inl, Logic.inr, Logic.⊎-elim, List.List, List.[], List._∷_}
 use mathlib.Core.Bool.{Bool, true, false}
 use Prim.Native.Nat.{ℕ, _≤_, _<_}
@@ -16,7 +16,7 @@ use Rattle.speed_book.proofs.Members.{In, in-lists, place-in}
 use Rattle.speed_book.proofs.Rising.{Ahead, Permitted, sound-length, sound-permitted, sound-ahead}
 use Rattle.speed_book.proofs.Checked.{checked}
 
--- the setting at a place of the book
+-- the setting at an index of the book
 abbrev pub entryOf : ℕ → PllConfig
 entryOf k = getD book k (setting 0 0 0)
 
@@ -94,7 +94,7 @@ entry-order a b l h = ⊎-elim same later (eq-or-lt-of-le l)
           λ f. omega (arith, entry-ahead a b m h),
         )
 
--- an entry that is the nearest, and of those as near the first, is the search's answer
+-- the nearest entry, and of equally near ones the first, is the answer of the search
 pub nearest-entry : (t m : ℕ) → m < 1988
     → ((k : ℕ) → k < 1988 → apart (hertz (entryOf m)) t ≤ apart (hertz (entryOf k)) t)
     → ((k : ℕ) → k < 1988 → apart (hertz (entryOf k)) t ≡ apart (hertz (entryOf m)) t

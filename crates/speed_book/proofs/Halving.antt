@@ -1,4 +1,4 @@
--- What one halving does.
+-- One halving: the cases of `halved` at a positive number of halvings.
 use mathlib.Core.{Path._≡_, Path.refl, List.List}
 use Prim.Native.Nat.{ℕ, zero, suc, _+_, _-_, _≤_, _<_}
 use native.Mathlib.Omega.{arith}

@@ -1,4 +1,4 @@
--- Looking up in the book is searching at 12 MHz.
+-- The lookup in the book gives the answer of the search at 12 MHz.
 use mathlib.Core.{Path._≡_, Path.refl, Path.sym, Path.ap, Path.subst, Path._∙_, Bool.Bool, Bool.true, Bool.false}
 use Prim.Native.Nat.{ℕ, _+_, _-_, _*_, _≤_, _<_}
 use native.Mathlib.{Omega.arith, Decide.decLe}
@@ -13,7 +13,7 @@ use Rattle.speed_book.proofs.Digits.{table-at, output-digits, setting-d
 use Rattle.speed_book.proofs.Places.{FirstFrom, first-place}
 use Rattle.speed_book.proofs.Choice.{below-within, at-start, at-end, lower-nearer, upper-nearer, lower-first, upper-first}
 
--- what stands at a place
+-- the entry at an index
 entry-is : (k : ℕ) → k < 1988 → entryAt table k ≡ tableNumber (entryOf k)
 entry-is k h = rw (lt-ltb k 1988 h) (table-at k)
 
@@ -23,7 +23,7 @@ output-is k h = output-digits k h (entryAt table k) (entry-is k h)
 setting-is : (k : ℕ) → k < 1988 → settingIn (entryAt table k) ≡ entryOf k
 setting-is k h = setting-digits k h (entryAt table k) (entry-is k h)
 
--- the digits of the dividers go by the order of the search
+-- the digits of the dividers fall in the order of the search
 abbrev digits : ℕ → ℕ
 digits k = dividersIn (entryAt table k)
 
@@ -63,7 +63,7 @@ module _ (a b : ℕ) (ha : a < 1988) (hb : b < 1988) where
       (omega (arith, digits-are a ha, digits-are b hb)) in
       omega arith
 
--- which of two is taken
+-- which of the two entries is taken
 module _ (t lower upper : ℕ) where
   abbrev sum : ℕ
   sum = outputIn lower + outputIn upper
@@ -95,7 +95,7 @@ nearer-same t n = go (lowerIs t n n)
     go false = refl
 
 module _ (t : ℕ) (fits : t < 4294967296) where
-  -- the entry that is taken is the search's answer
+  -- the entry that is taken is the answer of the search
   abbrev Right : ℕ → Type 0
   Right n = value (settingIn n) ≡ searchOf crystal t
 

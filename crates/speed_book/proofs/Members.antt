@@ -1,4 +1,4 @@
--- What stands in a list, and at which place.
+-- A member of a list has an index in it.
 use mathlib.Core.{Path._≡_, Path.sym, Logic._⊎_, Logic.inl, Logic.inr, Logic.⊎-elim, List.List, List.[], List._∷_}
 use Prim.Native.Nat.{ℕ, suc, _<_}
 use native.Mathlib.Omega.{arith}

@@ -1,4 +1,4 @@
--- Sorting a list in two parts and merging them is sorting the list: by this the book is computed in short time.
+-- Sorting a list in two parts and merging them sorts the list, which makes the evaluation of the book fast.
 use mathlib.Core.{Path._≡_, Path.refl, Path.ap, Path._∙_, List.List, List.[], List._∷_, List._++_, List.map, List.flatMap}
 use mathlib.Core.Bool.{Bool, true, false}
 use Prim.Native.Nat.{ℕ, _≤_, _<_}
@@ -16,7 +16,7 @@ unfoldable pub under : PllConfig → (List PllConfig → List PllConfig) → Lis
 under x rest [] = x ∷ rest []
 under x rest (y ∷ ys) = pick (leb (hertz x) (hertz y)) (x ∷ rest (y ∷ ys)) (y ∷ under x rest ys)
 
--- of equal outputs those of the first list stand first
+-- of equal outputs those of the first list come first
 unfoldable pub merge : List PllConfig → List PllConfig → List PllConfig
 merge [] ys = ys
 merge (x ∷ xs) ys = under x (merge xs) ys

@@ -1,4 +1,4 @@
--- The place at which halving ends in the book: the first whose output is not below a frequency.
+-- The halving ends in the book at the first index whose output is not below a frequency.
 use mathlib.Core.Path.{_≡_, refl}
 use Prim.Native.Nat.{ℕ, zero, suc, _+_, _-_, _*_, _≤_, _<_}
 use native.Mathlib.{Omega.arith, Decide.decLe}
@@ -7,13 +7,13 @@ use Rattle.speed_book.specs.{Book.hertz, Book.table, Lookup.middle, Look
 use Rattle.speed_book.proofs.Halving.{halved-none, halved-empty, halved-up, halved-down}
 use Rattle.speed_book.proofs.{Entries.entryOf, Entries.entry-order, Digits.table-at, Digits.output-digits}
 
--- r is the first place of the book whose output is not below hz, or past its end
+-- r is the first index of the book whose output is not below hz, or is past its end
 pub record FirstFrom (hz r : ℕ) : Type 0 where
   pub within : r ≤ 1988
   pub below : (k : ℕ) → k < r → hertz (entryOf k) < hz
   pub from : (k : ℕ) → r ≤ k → k < 1988 → hz ≤ hertz (entryOf k)
 
--- how many places n halvings serve
+-- the number of indices that n halvings cover
 abbrev room : ℕ → ℕ
 room zero = 1
 room (suc n) = room n + room n
@@ -32,14 +32,14 @@ module _ (hz : ℕ) where
   number-from : (k : ℕ) → k < 1988 → hz ≤ hertz (entryOf k) → bound ≤ getD table k 0
   number-from k h l = omega (arith, output-digits k h (getD table k 0) (table-at k))
 
-  -- low and high enclose the place
+  -- low and high enclose the index
   pub record Within (low high : ℕ) : Type 0 where
     pub order : low ≤ high
     pub most : high ≤ 1988
     pub below : (k : ℕ) → k < low → hertz (entryOf k) < hz
     pub from : (k : ℕ) → high ≤ k → k < 1988 → hz ≤ hertz (entryOf k)
 
-  -- n halvings of at most as many places as they serve
+  -- n halvings of at most as many indices as they cover
   abbrev Ends : ℕ → Type 0
   Ends n = (low high : ℕ) → high - low < room n → Within low high → FirstFrom hz (halved table bound n low high)
 

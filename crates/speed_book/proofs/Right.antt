@@ -1,4 +1,4 @@
--- The table is right, as `specs/Law.antt` says it.
+-- The table is right by `RightBook` (specs/Law).
 use mathlib.Core.{Path._≡_, Path.refl, Path.sym, Path.subst, Path._∙_, Logic._⊎_, Logic.inl, Logic.inr, Logic.⊎-elim}
 use mathlib.Core.Bool.{Bool, true, false}
 use Prim.Native.Nat.{ℕ, _≤_, _<_}
@@ -16,7 +16,7 @@ use Rattle.speed_book.proofs.Entries.{entryOf, book-length, entry-permi
 use Rattle.speed_book.proofs.Entries.{entry-order, entry-complete}
 use Rattle.speed_book.proofs.Digits.{table-at, output-digits, setting-digits}
 
--- the greater key stands before
+-- the setting with the greater key precedes
 key-before : (c d : PllConfig) → Candidate crystal c → Candidate crystal d → key d < key c → Before c d
 key-before c d m n l = go (decLe (c .fbdiv) (d .fbdiv))
   where
@@ -62,7 +62,7 @@ ordered a b l h =
     (λ k. inl k)
     (eq-or-lt-of-le (entry-order a b m h .0))
 
--- what the table says at a place
+-- the digits of the table at an index are those of the book's entry
 setting-is : (k : ℕ) → k < 1988 → settingAt table k ≡ entryOf k
 setting-is k h = setting-digits k h (getD table k 0) (table-at k)
 
@@ -73,7 +73,7 @@ table-length : length table ≡ 1988
 unfolding table
 table-length = length-map book tableNumber ∙ book-length
 
--- what holds of the entry and its output holds of what the table says
+-- a property of the entry and its output holds of the digits of the table
 at-place : (P : PllConfig → ℕ → Type 0) (k : ℕ) → k < 1988 → P (entryOf k) (hertz (entryOf k))
     → P (settingAt table k) (outputAt table k)
 at-place P k h p =

@@ -1,4 +1,4 @@
--- A test over a list of settings, entry by entry, and the law that turns it into the rule at each entry and each two.
+-- A test over a list of settings, entry by entry, and the law that derives the rule for each entry and each pair from it.
 use mathlib.Core.{Path._≡_, List.List, List.[], List._∷_, Bool.Bool, Bool.true, Bool.false}
 use Prim.Native.Nat.{ℕ, zero, suc, _+_, _*_, _≤_, _<_}
 use native.Mathlib.Omega.{arith}
@@ -26,7 +26,7 @@ permitted x =
     (both (leb 63 (x .fbdiv)) (both (leb (x .fbdiv) 133)
     (both (leb (x .«post_div1») 7) (both (leb 1 (x .«post_div2»)) (leb (x .«post_div2») (x .«post_div1»)))))))
 
--- x stands before y: by output, and of equal outputs by the greater key
+-- x precedes y: by output, and of equal outputs by the greater key
 abbrev pub Ahead : PllConfig → PllConfig → Type 0
 Ahead x y = hertz x * 16384 + key y < hertz y * 16384 + key x
 
@@ -37,7 +37,7 @@ abbrev pub rising : PllConfig → List PllConfig → Bool
 rising x [] = permitted x
 rising x (y ∷ ys) = both (permitted x) (both (ahead x y) (rising y ys))
 
--- the whole table: as many entries as it has to have, each permitted, each ahead of the next
+-- the whole table: the right number of entries, each permitted, each ahead of the next
 abbrev pub sound : ℕ → List PllConfig → Bool
 sound n [] = false
 sound n (x ∷ xs) = both (leb (suc (length xs)) n) (both (leb n (suc (length xs))) (rising x xs))

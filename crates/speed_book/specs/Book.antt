@@ -1,4 +1,4 @@
--- The book: every setting of a 12 MHz crystal, ordered by output.
+-- The book (docs/PLL.md, The 12 MHz book): every candidate of the search at 12 MHz, ordered by output.
 use mathlib.Core.List.{List, [], _∷_, map}
 use Prim.Native.Nat.{ℕ, _+_, _*_, _/_, _%_}
 use lib.{Dec.leb, Dec.ltb, ListN.getD}
@@ -15,12 +15,12 @@ crystal = 12000000
 unfoldable pub hertz : PllConfig → ℕ
 hertz c = outputHz c crystal
 
--- c goes before the first whose output is not less
+-- inserts c before the first setting whose output is not less
 unfoldable pub insert : PllConfig → List PllConfig → List PllConfig
 insert c [] = c ∷ []
 insert c (d ∷ ds) = pick (leb (hertz c) (hertz d)) (c ∷ d ∷ ds) (d ∷ insert c ds)
 
--- by output; equal outputs stay in the order in which the list has them
+-- sorts by output; equal outputs keep the order of the list
 unfoldable pub byOutput : List PllConfig → List PllConfig
 byOutput [] = []
 byOutput (c ∷ cs) = insert c (byOutput cs)
@@ -37,20 +37,20 @@ tableNumber c = hertz c * 100000 + c .fbdiv * 100 + c .«post_div1» * 10 + c .�
 unfoldable pub table : List ℕ
 table = map tableNumber book
 
--- what the digits of such a number say
+-- the output and the setting that the digits of such a number encode
 abbrev pub outputIn : ℕ → ℕ
 outputIn n = n / 100000
 
 abbrev pub settingIn : ℕ → PllConfig
 settingIn n = setting (n / 100 % 1000) (n / 10 % 10) (n % 10)
 
--- the output and the setting at a place of a table
+-- the output and the setting at an index of a table
 abbrev pub outputAt : List ℕ → ℕ → ℕ
 outputAt l k = outputIn (getD l k 0)
 
 abbrev pub settingAt : List ℕ → ℕ → PllConfig
 settingAt l k = settingIn (getD l k 0)
 
--- the line at a place; none from 1988 on
+-- the line at an index; nothing from 1988 on
 unfoldable pub lineIn : List ℕ → ℕ → Line
 lineIn l k = pick (ltb k 1988) (Entry (outputAt l k) (settingAt l k)) Nothing

@@ -1,4 +1,4 @@
--- What holds of the table, said without how it is made; proved of `table` in `proofs/Right.antt`.
+-- The right table, stated declaratively (docs/PLL.md, The 12 MHz book); `proofs/Right.antt` proves it of `table`.
 use mathlib.Core.{Path._≡_, Logic._⊎_, List.List, Bool.true}
 use Prim.Native.Nat.{ℕ, _<_}
 use lib.ListN.{length}

@@ -1,4 +1,4 @@
--- A line of the printed book: output, feedback divider, post 1 and post 2.
+-- A line of the printed book has the output in hertz, the feedback divider, post 1 and post 2.
 use mathlib.Core.List.{List, [], _∷_, _++_}
 use Prim.Native.Nat.{ℕ}
 use Rattle.replies.specs.Reply.{rowText}

@@ -1,4 +1,5 @@
-// The book: every setting of a 12 MHz crystal, ordered by output, and a lookup that gives what the search gives.
+// The book (docs/PLL.md, The 12 MHz book): every setting of a 12 MHz crystal, ordered by output, and a lookup that
+// gives the same answer as the search.
 pub mod page;
 mod table;
 
@@ -15,20 +16,20 @@ pub enum Line {
     Nothing,
 }
 
-// How many settings there are.
+// The number of settings at 12 MHz.
 pub const ENTRIES: usize = 1988;
 
-// More than any two targets: what stands past the end is nearer to none.
+// The entry past the end: its output is more than twice any target, so it is never the nearer one.
 const FAR: u64 = 8589934592_000_0_0;
 
-// The table. Whoever looks up more than once keeps it: each use of a constant stores it anew.
+// The table. A caller that looks up more than once keeps it, since each use of a constant stores it again.
 pub fn open() -> [u64; 1988]
     ensures { λ r. ⌜ r ≡ table ⌝ }
 {
     table::BOOK
 }
 
-// The setting of an entry.
+// The setting that an entry encodes.
 fn setting_in(entry: u64) -> PllConfig
     ensures { λ r. ⌜ r ≡ settingIn entry ⌝ }
 {
@@ -40,7 +41,7 @@ fn setting_in(entry: u64) -> PllConfig
     }
 }
 
-// The line at a place of an open book, counted from 0.
+// The line at an index of an open book, from 0; nothing from 1988 on.
 pub fn entry_in(book: &[u64; 1988], k: usize) -> Line
     ensures { λ r. ⌜ r ≡ lineIn (now (book .entry)) k ⌝ }
 {
@@ -52,7 +53,7 @@ pub fn entry_in(book: &[u64; 1988], k: usize) -> Line
     }
 }
 
-// The line at a place, counted from 0.
+// The line at an index of the book, from 0; nothing from 1988 on.
 pub fn entry(k: usize) -> Line
     ensures { λ r. ⌜ r ≡ lineIn table k ⌝ }
 {
@@ -60,7 +61,7 @@ pub fn entry(k: usize) -> Line
     entry_in(&book, k)
 }
 
-// The first entry that is not less than the bound, by halving: 11 times, since 1988 is below 2 to the 11.
+// The index of the first entry that is not less than the bound, by 11 halvings, since 1988 is below 2 to the power of 11.
 fn first_from(book: &[u64; 1988], bound: u64) -> usize
     ensures { λ r. ⌜ r ≡ firstFrom (now (book .entry)) bound ⌝ }
 {
@@ -81,14 +82,14 @@ fn first_from(book: &[u64; 1988], bound: u64) -> usize
     low
 }
 
-// The entry at a place.
+// The entry at an index, and `FAR` past the end.
 fn entry_at(book: &[u64; 1988], k: usize) -> u64
     ensures { λ r. ⌜ r ≡ entryAt (now (book .entry)) k ⌝ }
 {
     if ENTRIES <= k { FAR } else { book[k] }
 }
 
-// Of an entry below the target and one that is not, the nearer; of two as near the first in the order of the search.
+// The nearer of an entry below the target and one that is not; of equally near ones the first in the order of the search.
 fn nearer(target_hz: u32, lower: u64, upper: u64) -> u64
     ensures { λ r. ⌜ r ≡ nearerEntry «target_hz» lower upper ⌝ }
 {
@@ -102,7 +103,7 @@ fn nearer(target_hz: u32, lower: u64, upper: u64) -> u64
     }
 }
 
-// The setting for a target frequency at 12 MHz, from an open book: what the search gives.
+// Answers the setting for a target frequency at 12 MHz from an open book, as the search does; it never refuses.
 pub fn lookup_in(book: &[u64; 1988], target_hz: u32) -> Found
     ensures { λ r. ⌜ foundIs r ≡ lookupIn (now (book .entry)) «target_hz» ⌝ }
 {
@@ -114,7 +115,7 @@ pub fn lookup_in(book: &[u64; 1988], target_hz: u32) -> Found
     Found::Params(setting_in(nearer(target_hz, lower, upper)))
 }
 
-// The setting for a target frequency at 12 MHz: what the search gives.
+// Answers the setting for a target frequency at 12 MHz, as the search does; it never refuses.
 pub fn lookup(target_hz: u32) -> Found
     ensures { λ r. ⌜ foundIs r ≡ searchOf crystal «target_hz» ⌝ }
 {

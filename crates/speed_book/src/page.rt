@@ -4,7 +4,7 @@ ghost use Rattle.base.specs.Placed.{Placed};
 ghost use Rattle.speed_book.specs.Book.{lineIn};
 ghost use Rattle.speed_book.specs.Page.{entryLine};
 
-// Puts the line at a place of an open book, and answers its length; nothing past the end of the book.
+// Puts the line at an index of an open book and answers its length; past the end of the book it puts nothing and answers 0.
 pub fn put_line(out: &mut [u8], book: &[u64; 1988], k: usize) -> usize
     ensures { λ r. ⌜ Placed (now (out .entry)) 0 (entryLine (lineIn (now (book .entry)) k)) r (now (out .exit)) ⌝ }
 {

@@ -1,4 +1,5 @@
--- `lister::put_feedback` meets its contract.
+-- `lister::put_feedback` meets its contract: a target of 0, or one that does not divide the VCO frequency, has no
+-- setting (`none-put`); else the settings are those whose post product is the quotient (`product-meets`).
 use mathlib.Core.Path.{sym}
 use Prim.Native.Nat.{_*_}
 use borrow.Author.Needs.{needs}

@@ -1,4 +1,4 @@
--- `lister::put_list` meets its contract: what is left to write completes the list.
+-- `lister::put_list` meets its contract: the loop keeps that writing the remaining feedback dividers completes the list.
 use mathlib.Core.{Path._≡_, Path.refl, Path.sym, Path.ap, Path.subst, Path._∙_, Logic.inl, Logic.inr}
 use mathlib.Core.List.{List, flatMap}
 use Prim.Native.Nat.{ℕ, _+_, _-_, _*_, _≤_}

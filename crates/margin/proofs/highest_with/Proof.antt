@@ -1,4 +1,6 @@
--- `margin::highest_with` meets its contract.
+-- `margin::highest_with` meets its contract: the loop keeps that `low` has the setting and nothing above `high` has it,
+-- since the targets with it are contiguous (`search-between`); where `low` and `high` meet, it is the highest
+-- (`highest-end`).
 use mathlib.Core.Path.{sym, _∙_}
 use Prim.Native.Nat.{ℕ, _-_, _≤_, _<_}
 use native.Mathlib.Omega.{arith}

@@ -1,4 +1,6 @@
--- `margin::lowest_with` meets its contract.
+-- `margin::lowest_with` meets its contract: the loop keeps that `high` has the setting and nothing below `low` has it,
+-- since the targets with it are contiguous (`search-between`); where `low` and `high` meet, it is the lowest
+-- (`lowest-end`).
 use mathlib.Core.Path.{sym, _∙_}
 use Prim.Native.Nat.{ℕ, _-_, _≤_, _<_}
 use native.Mathlib.Omega.{arith}

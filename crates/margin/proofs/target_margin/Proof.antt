@@ -1,4 +1,5 @@
--- `margin::target_margin` meets its contract: from the lowest and the highest target with the setting.
+-- `margin::target_margin` meets its contract: the numbers next to the lowest and the highest target with the setting
+-- are the two sides.
 use mathlib.Core.Path.{sym, ap, _∙_}
 use borrow.Author.Needs.{needs}
 use Rattle.pll.specs.Search.{foundIs}

@@ -1,4 +1,4 @@
--- `speed_book::entry` meets its contract.
+-- `speed_book::entry` meets its contract: `open` gives the table and `entry_in` its line.
 use borrow.Author.Needs.{needs}
 use Rattle.speed_book.proofs.entry.Statement.{statement}
 use Rattle.speed_book.proofs.entry.Tie as tie

@@ -1,4 +1,4 @@
--- `speed_book::entry_at` meets its contract.
+-- `speed_book::entry_at` meets its contract: the comparison with 1988 decides the test of `entryAt`.
 use borrow.{Author.Tests.lt-ltb, Author.Tests.le-ltb, Author.Needs.needs}
 use Rattle.speed_book.proofs.entry_at.Statement.{statement}
 use Rattle.speed_book.proofs.entry_at.Tie as tie

@@ -1,4 +1,5 @@
--- `speed_book::entry_in` meets its contract.
+-- `speed_book::entry_in` meets its contract: the comparison with 1988 decides the test of `lineIn`, and `setting_in`
+-- gives the dividers.
 use borrow.{Author.Tests.lt-ltb, Author.Tests.le-ltb, Author.Needs.needs}
 use Rattle.speed_book.specs.Book.{lineIn}
 use Rattle.speed_book.proofs.entry_in.Statement.{statement}

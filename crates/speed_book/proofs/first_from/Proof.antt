@@ -1,4 +1,5 @@
--- `speed_book::first_from` meets its contract: what is left of the halvings is in the invariant.
+-- `speed_book::first_from` meets its contract: the loop keeps that the remaining halvings of `low` and `high` give
+-- the result.
 use mathlib.Core.Path.{_≡_, refl, sym, _∙_}
 use Prim.Native.Nat.{_-_, _≤_}
 use native.Mathlib.Omega.{arith}

@@ -1,4 +1,5 @@
--- `speed_book::lookup` meets its contract.
+-- `speed_book::lookup` meets its contract: `open` gives the table and `lookup_in` the lookup in it, which is the search
+-- at 12 MHz (`lookup-searches`).
 use borrow.Author.Needs.{needs}
 use Rattle.speed_book.proofs.{Lookups.lookup-searches, lookup.Statement.statement}
 use Rattle.speed_book.proofs.lookup.Tie as tie

@@ -1,4 +1,5 @@
--- `speed_book::lookup_in` meets its contract.
+-- `speed_book::lookup_in` meets its contract: the equations of the two calls of `first_from`, of the three entries, of
+-- `nearer` and of `setting_in` compose to `lookupIn`.
 use borrow.Author.Needs.{needs}
 use Rattle.speed_book.specs.Lookup.{lookupIn}
 use Rattle.speed_book.proofs.lookup_in.Statement.{statement}

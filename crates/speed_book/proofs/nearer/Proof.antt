@@ -1,4 +1,4 @@
--- `speed_book::nearer` meets its contract.
+-- `speed_book::nearer` meets its contract: the condition is that of `nearerEntry`, and its value picks the entry.
 use borrow.Author.Needs.{needs}
 use Rattle.speed_book.specs.Lookup.{nearerEntry}
 use Rattle.speed_book.proofs.nearer.Statement.{statement}

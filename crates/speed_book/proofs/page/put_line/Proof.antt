@@ -1,4 +1,5 @@
--- `speed_book::page::put_line` meets its contract.
+-- `speed_book::page::put_line` meets its contract: the equation of `entry_in` picks the case; an entry is the row of
+-- `put_row` followed by the newline of `put_byte`, and past the end nothing is put.
 use mathlib.Core.Path.{refl, sym, _∙_}
 use native.Mathlib.Omega.{arith}
 use borrow.Author.Needs.{needs}
