@@ -1,4 +1,4 @@
--- What a start of all and a call for a board leave.
+-- The bench after a start of all and after a call for a board, from the parts that the code computes.
 use mathlib.Core.{Bool.Bool, Bool.true, Bool.false, List.List, Path._≡_}
 use Prim.Native.Nat.{ℕ, _<_, _≤_}
 use borrow.Author.Tests.{lt-ltb, le-ltb}
@@ -19,7 +19,7 @@ module _ (b : Bench) (sheet : List ℕ) where
   unfolding startAllOf
   all-kept e = simp e
 
-  -- from its parts: the boards of a new bench, and what a runner's start keeps
+  -- the started bench, from the boards of a new bench and the kept sheet of a runner's start
   pub all-built : (bs : List Stepper) (r : Runner) → badSize (length sheet) ≡ false → bs ≡ freshBench .boards
       → r ≡ startedWith sheet
       → begun (value started) (record { boards = bs; kept = r .kept; len = r .len }) ≡ startAllOf b sheet
@@ -35,7 +35,7 @@ module _ (b : Bench) (n : ℕ) (sheet : List ℕ) (ready : Bool) where
   unfolding benchOf
   of-eight h = simp (le-ltb 7 n h)
 
-  -- the same from what the board did
+  -- the bench after a call, from the outcome of the board
   pub of-moved : {x : Outcome Stepper} → x ≡ stepperOf (boardAt b n) (b .len) (b .kept) sheet ready → n ≤ 7
       → inBench b n x ≡ benchOf b n sheet ready
   of-moved e h = rw e (of-eight h)

@@ -1,4 +1,4 @@
--- The types of the functions that change a bench in place, as base's `InPlace` goes by them.
+-- The types of the functions that change a bench in place, in the form that base's `InPlace` takes.
 use mathlib.Core.Path.{refl}
 use Rattle.base.proofs.Solid.{Solid, Returned, struct, two}
 use Rattle.runner.proofs.Changed.{opening, reply}

@@ -1,4 +1,4 @@
--- Each board of a bench alone behaves as a single runner, whatever comes for the others.
+-- Each board of a bench behaves as a single runner, whatever calls are made for the other boards.
 use mathlib.Core.{Bool.Bool, Bool.true, Bool.false, List.List, List.[], List._∷_, List._++_}
 use mathlib.Core.Path.{_≡_, refl, sym, ap, _∙_}
 use Prim.Native.Nat.{ℕ, _≤_}
@@ -17,16 +17,16 @@ use Rattle.runner.proofs.Starts.{start-refused, start-kept}
 use Rattle.boards.proofs.Benches.{all-refused, all-kept, over-seven, of-eight}
 
 module _ (n : ℕ) (few : n ≤ 7) where
-  -- eight boards of a runner's, and the runner
+  -- eight copies of a runner's stepper equal the runner
   eight-alike : (r : Runner) → Alike n (eightOf r) r
   eight-alike r =
       record { eight = refl; board = getD-replicate 8 n (r .stepper) noBoard (omega arith); kept = refl; len = refl }
 
-  -- a new bench and a new runner
+  -- a new bench equals a new runner
   pub alike-new : Alike n freshBench fresh
   alike-new = eight-alike fresh
 
-  -- after a start that is taken, whatever both were
+  -- after a start that is not refused they are equal, whatever both were
   started-alike : (b : Bench) (r : Runner) (sheet : List ℕ) → badSize (length sheet) ≡ false
       → Alike n (startAllOf b sheet .next) (startOf r sheet .next)
   started-alike b r sheet ok =
@@ -46,7 +46,7 @@ module _ (n : ℕ) (few : n ≤ 7) where
       go false e = started-alike b r sheet e
 
   module _ (b : Bench) (r : Runner) (k : Alike n b r) (sheet : List ℕ) (ready : Bool) where
-    -- what the board does, and the runner
+    -- the outcome of the board, which is also the runner's
     abbrev here : Outcome Stepper
     here = stepperOf (boardAt b n) (b .len) (b .kept) sheet ready
 
@@ -119,7 +119,8 @@ module _ (n : ℕ) (few : n ≤ 7) where
   between-starts b r sheet ok es =
       single es (startAllOf b sheet .next) (startOf r sheet .next) (started-alike b r sheet ok)
 
-  -- two histories of benches that were started with the same sheet: where what concerns the board agrees, the board does
+  -- in two histories of benches started with the same sheet, where the events that concern the board agree, so does
+  -- the board
   pub own-calls : (b d : Bench) (sheet : List ℕ) → badSize (length sheet) ≡ false → (es fs : List BenchEvent)
       → ownOf n es ≡ ownOf n fs → SameBoard n (startAllOf b sheet .next) es (startAllOf d sheet .next) fs
   unfolding boardHz
@@ -136,7 +137,7 @@ module _ (n : ℕ) (few : n ≤ 7) where
         hz = λ clock. rw board refl;
       }
 
--- a start in between that is taken makes all eight fresh, whatever came before
+-- a later start that is not refused makes all eight boards fresh, whatever came before
 pub after-start : (b : Bench) (es : List BenchEvent) (sheet : List ℕ) (fs : List BenchEvent) → badSize (length sheet) ≡ false
     → benchAfter b (es ++ (start sheet ∷ fs)) ≡ benchAfter (eightOf (startedWith sheet)) fs
 after-start b [] sheet fs ok =

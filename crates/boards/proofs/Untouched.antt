@@ -1,4 +1,4 @@
--- What a refusal of the bench leaves: the whole bench as it was, save at the lock timeout of the board that is called.
+-- A refusal leaves the whole bench as it was, except at the lock timeout of the board that is called.
 use mathlib.Core.{Bool.Bool, Bool.true, Bool.false, List.List, Logic.inl, Logic.inr, Path._≡_, Path.refl}
 use Prim.Native.Nat.{ℕ}
 use borrow.Author.Tests.{ltb-true, ltb-false}

@@ -1,4 +1,4 @@
--- Histories: starts and calls that came to a bench, and of these what concerns one board.
+-- Histories of a bench (docs/FORMAT.md, Bench): its starts and calls, and the part of them that concerns one board.
 use Prim.Native.Nat.{ℕ}
 use mathlib.Core.{Bool.Bool, List.List, List.[], List._∷_, Path._≡_}
 use lib.{Dec.eqb, ListN.length}
@@ -8,17 +8,17 @@ use Rattle.runner.specs.Run.{Progress, advanceOf, startOf}
 use Rattle.boards.specs.declared.Bench.{Bench}
 use Rattle.boards.specs.Bench.{boardAt, boardHz, benchOf, startAllOf}
 
--- what may come to the bench
+-- an event at the bench: a start of all, or a call for a board
 pub data BenchEvent : Type 0 where
   start : List ℕ → BenchEvent
   poll : ℕ → List ℕ → Bool → BenchEvent
 
--- what may come to a single runner
+-- an event at a single runner
 pub data Own : Type 0 where
   start : List ℕ → Own
   poll : List ℕ → Bool → Own
 
--- of a bench's history, what concerns board n: the starts, and the calls made for it
+-- the part of a bench's history that concerns board n: the starts, and the calls for it
 abbrev pub ownOf : ℕ → List BenchEvent → List Own
 ownOf n [] = []
 ownOf n (start sheet ∷ es) = start sheet ∷ ownOf n es
@@ -30,7 +30,7 @@ benchAfter b [] = b
 benchAfter b (start sheet ∷ es) = benchAfter (startAllOf b sheet .next) es
 benchAfter b (poll m sheet ready ∷ es) = benchAfter (benchOf b m sheet ready .next) es
 
--- what the calls for board n answered
+-- the answers of the calls for board n
 abbrev pub answersFor : ℕ → Bench → List BenchEvent → List (Answer Progress)
 answersFor n b [] = []
 answersFor n b (start sheet ∷ es) = answersFor n (startAllOf b sheet .next) es
@@ -38,7 +38,7 @@ answersFor n b (poll m sheet ready ∷ es) =
     let call = benchOf b m sheet ready in
     pick (eqb m n) (call .answer ∷ answersFor n (call .next) es) (answersFor n (call .next) es)
 
--- the single runner after its own history, and what its calls answered
+-- the single runner after its own history; then the answers of its calls
 abbrev pub singleAfter : Runner → List Own → Runner
 singleAfter r [] = r
 singleAfter r (start sheet ∷ es) = singleAfter (startOf r sheet .next) es
@@ -51,19 +51,19 @@ singleAnswers r (poll sheet ready ∷ es) =
     let call = advanceOf r sheet ready in
     call .answer ∷ singleAnswers (call .next) es
 
--- board n of the bench is the single runner's
+-- board n of the bench equals the single runner, in its stepper and its kept sheet
 pub record Alike (n : ℕ) (b : Bench) (r : Runner) : Type 0 where
   pub eight : length (b .boards) ≡ 8
   pub board : boardAt b n ≡ r .stepper
   pub kept : b .kept ≡ r .kept
   pub len : b .len ≡ r .len
 
--- board n answered as a single runner does over what concerns the board, and is left as that runner is
+-- board n gives the answers of a single runner over the events that concern it, and ends equal to that runner
 pub record AsSingle (n : ℕ) (b : Bench) (r : Runner) (es : List BenchEvent) : Type 0 where
   pub answered : answersFor n b es ≡ singleAnswers r (ownOf n es)
   pub left : Alike n (benchAfter b es) (singleAfter r (ownOf n es))
 
--- board n answered the same in two histories, and is left with the same state and the same ten frequencies
+-- board n gives the same answers in two histories, and ends with the same state and the same ten frequencies
 pub record SameBoard (n : ℕ) (b : Bench) (es : List BenchEvent) (d : Bench) (fs : List BenchEvent) : Type 0 where
   pub answered : answersFor n b es ≡ answersFor n d fs
   pub state : boardAt (benchAfter b es) n .state ≡ boardAt (benchAfter d fs) n .state

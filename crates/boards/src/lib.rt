@@ -1,4 +1,5 @@
-// The bench: eight boards under one kept sheet. A board steps as a runner does: `runner::move_stepper`.
+// The bench (docs/FORMAT.md, Bench): eight boards with one kept sheet. A board steps as a runner does, by
+// `runner::move_stepper`.
 ghost use mathlib.Core.Path.{_≡_};
 ghost use Prim.Native.Nat.{_<_};
 ghost use Rattle.base.specs.Answer.{numberIs};
@@ -11,7 +12,7 @@ use runner::Runner;
 use runner::Stepper;
 use step::MAX_BYTES;
 
-// Eight boards, and the sheet that all were started with: `len` bytes, zeros past them.
+// Eight boards, and the sheet that all were started with: `len` bytes, followed by zeros.
 pub struct Bench {
     pub boards: [Stepper; 8],
     pub kept: [u8; MAX_BYTES],
@@ -19,7 +20,7 @@ pub struct Bench {
 }
 
 impl Bench {
-    // Before any start.
+    // A bench before any start: its kept sheet is empty.
     pub fn new() -> Self
         ensures { λ r. ⌜ r ≡ freshBench ⌝ }
     {
@@ -33,17 +34,19 @@ impl Bench {
     }
 }
 
+// The answer of a call for a board, and the bench after it.
 pub struct Benched {
     pub reply: Reply,
     pub bench: Bench,
 }
 
+// The answer of a start, and the bench after it.
 pub struct AllOpened {
     pub reply: Opening,
     pub bench: Bench,
 }
 
-// One call for a board, by value.
+// One call for a board by value; refuses with 28 a number over 7, then as the runner.
 pub fn advance(b: Bench, board: u8, sheet: &[u8], ready: bool) -> Benched
     ensures { λ s. ⌜ benchedIs s ≡ benchOf b board (now (sheet .entry)) ready ⌝ }
 {
@@ -68,7 +71,7 @@ pub fn advance(b: Bench, board: u8, sheet: &[u8], ready: bool) -> Benched
     }
 }
 
-// The same in place.
+// One call for a board in place; refuses with 28 a number over 7, then as the runner.
 pub fn poll(b: &mut Bench, board: u8, sheet: &[u8], ready: bool) -> Reply
     ensures { λ a. ⌜ outcome (replyIs a) (now (b .exit)) ≡ benchOf (now (b .entry)) board (now (sheet .entry)) ready ⌝ }
 {
@@ -77,7 +80,7 @@ pub fn poll(b: &mut Bench, board: u8, sheet: &[u8], ready: bool) -> Reply
     s.reply
 }
 
-// A start of all eight, by value: a runner's start says whether it is taken, and what is kept.
+// A start of all eight boards by value; refuses with 20 as a runner's start does, which also gives the kept bytes.
 pub fn restarted(b: Bench, sheet: &[u8]) -> AllOpened
     ensures { λ o. ⌜ allOpenedIs o ≡ startAllOf b (now (sheet .entry)) ⌝ }
 {
@@ -102,7 +105,7 @@ pub fn restarted(b: Bench, sheet: &[u8]) -> AllOpened
     }
 }
 
-// The same in place.
+// A start of all eight boards in place; refuses with 20, and then changes nothing.
 pub fn start(b: &mut Bench, sheet: &[u8]) -> Opening
     ensures { λ a. ⌜ begun (openingIs a) (now (b .exit)) ≡ startAllOf (now (b .entry)) (now (sheet .entry)) ⌝ }
 {
@@ -111,8 +114,8 @@ pub fn start(b: &mut Bench, sheet: &[u8]) -> Opening
     o.reply
 }
 
-// The frequency that a board holds for a clock, by the clock's number: 0 to 9 in the order of the runner's readers. A
-// number over 9 is no clock, and has 0 Hz.
+// The frequency in Hz that a board holds for a clock, 0 to 9 in the order of the runner's functions; a clock over 9
+// has 0 Hz. Refuses with 28 a board over 7.
 pub fn clock_freq(b: Bench, board: u8, clock: u8) -> Number
     ensures { λ r. ⌜ numberIs r ≡ boardHz b board clock ⌝ }
 {

@@ -1,5 +1,5 @@
--- Will it come up? The sheet of an accepted plan, at its reading, under a runner that was started with it; and the bytes that
--- a call of `init` wrote.
+-- A runner that was started with the sheet of an accepted plan, or with the bytes that `init` wrote, reaches done
+-- within the bound, and the bound is reached.
 use Prim.Native.Nat.{ℕ, _+_, _*_, _/_, _≤_, _<_}
 use native.Mathlib.{Omega.arith, Nat.mul-le-mul-left, Nat.lt-of-not-le, Decide.decLe}
 use mathlib.Core.{Bool.Bool, List.List, Path._≡_, Path.refl}
@@ -45,8 +45,8 @@ module _ (p : ClockConfig) (reading : ℕ) (ok : Accepted p reading) (t : Typed 
       rw (steps-store reading p) at
       (steps-come-up-ready (planSteps p reading) (steps-formed p reading ok t) (steps-few reading s) ready hears)
 
--- the sheet of a call of `init`, from what it promises alone: a length is answered for an accepted plan, and the buffer then
--- starts with the plan's sheet
+-- the sheet of a call of `init`, from its contract alone: it answers a length only for an accepted plan, and the
+-- buffer then starts with the sheet of the plan
 pub init-comes-up : InitComesUp
 unfolding sheetBytes
 init-comes-up p reading before after r n call e =
@@ -73,7 +73,7 @@ longest-covers chip k = (
   λ over. rw (le-ltb k 1000000 over),
 )
 
--- the bound is reached: the longest plan of each chip at reading 11, kept waiting by the slowest stream
+-- the bound is reached: the longest plan of each chip at reading 11, with the slowest stream
 abbrev pub longest : Chip → ClockConfig
 longest Rp2040 = longestPlan
 longest Rp235x = longest235

@@ -1,4 +1,4 @@
--- The stream that keeps a runner waiting longest: k unready polls at each wait, no fewer and no more.
+-- The slowest stream gives exactly k unready polls at each wait, so the bound on the calls is reached.
 use Prim.Native.Nat.{ℕ, zero, suc, _+_, _*_, _≤_, _<_}
 use native.Mathlib.Omega.{arith}
 use mathlib.Core.{Bool.Bool, Bool.true, Bool.false, Bool._&&_, Bool.not, List.List}
@@ -37,7 +37,7 @@ module _ (k : ℕ) (sheet : List ℕ) where
       (ap (leb k) (same-polls (at i .stepper .state .position) i)
       ∙ ap (λ (r : Runner). leb k (slowAfter k sheet i .polls (r .stepper .state .position))) (same-runner i))
 
-  -- no poll is unready where k were
+  -- after k unready polls at a position the next is ready
   full : (p : ℕ) (r : Runner) (ready : Bool) (h : ℕ) → h ≤ k
       → (r .stepper .state .position ≡ p → ready ≡ leb k h) → h + unreadyPoll p r sheet ready ≤ k
   unfolding unreadyPoll

@@ -1,4 +1,4 @@
--- The frequencies after a sheet's steps are its stored values: only stores set them, and a sheet's stores are known.
+-- The frequencies after the steps of a sheet are its stored values, since only its stores set them.
 use mathlib.Core.{Bool.Bool, Bool.true, Bool.false, List.List, List.[], List._∷_, Path._≡_, Path.refl, Path.ap, Path._∙_}
 use Prim.Native.Nat.{ℕ}
 use lib.{Dec.eqb, ListN.replicate}
@@ -31,7 +31,7 @@ stores-alone (x ∷ xs) freqs = go (eqb (x .kind) kind.store) refl (stores-alone
     go true k rest = rest
     go false k rest = rest ∙ ap (storesOf (storesIn xs)) (no-store x freqs k)
 
--- where nothing is stored for the RTC it has 0 Hz
+-- an RTC for which nothing is stored has 0 Hz
 tenth : (c : ChipConfig) (f : Sources) (a₀ a₁ a₂ a₃ a₄ a₅ a₆ a₇ a₈ : ℕ)
     → storesOf (storesFrom 9 (tenthOf (boardOf c .chip) (rtcHz f (boardOf c .rtc))))
     (a₀ ∷ a₁ ∷ a₂ ∷ a₃ ∷ a₄ ∷ a₅ ∷ a₆ ∷ a₇ ∷ a₈ ∷ 0 ∷ [])

@@ -1,4 +1,5 @@
--- Calls of a runner over the sheet that it was started with, one for each ready flag of a stream.
+-- The calls of a runner over the sheet that it was started with, one for each ready flag of a stream: one call, done,
+-- and the counts of unready polls.
 use Prim.Native.Nat.{ℕ, zero, suc, _+_, _*_, _≤_, _<_}
 use native.Mathlib.{Omega.arith, Nat.zero-add}
 use mathlib.Core.{Bool.Bool, Bool.true, Bool.false, List.List, Path._≡_, Path.refl, Path.ap, Path._∙_}
@@ -16,7 +17,7 @@ module _ (sheet : List ℕ) (ready : ℕ → Bool) where
   abbrev pub at : ℕ → Runner
   at i = runnerAfter sheet ready i
 
-  -- one call on
+  -- the runner after one more call
   pub next : (i : ℕ) (r : Runner) (x : Outcome Runner) → at i ≡ r → advanceOf r sheet (ready i) ≡ x
       → at (suc i) ≡ x .next
   unfolding runnerAfter
@@ -28,7 +29,7 @@ module _ (sheet : List ℕ) (ready : ℕ → Bool) where
   answered i r x e c =
       ap (λ (y : Runner). advanceOf y sheet (ready i) .answer) e ∙ ap (λ (o : Outcome Runner). o .answer) c
 
-  -- from done on
+  -- after done nothing changes
   pub stays-done : (n : ℕ) → n ≤ maxSteps → length sheet ≡ 8 * n → (i total : ℕ) (freqs : List ℕ)
       → at i ≡ standing sheet n 0 total freqs → (d : ℕ) → at (d + i) ≡ standing sheet n 0 total freqs
   stays-done n few size i total freqs e zero = rw zero-add e
@@ -37,7 +38,7 @@ module _ (sheet : List ℕ) (ready : ℕ → Bool) where
       let before = stays-done n few size i total freqs e d in
       rw s (next (d + i) _ _ before (done-at sheet n few size total freqs (ready (d + i))))
 
-  -- polls at other positions
+  -- no unready poll was at a later position
   pub elsewhere : (i p q : ℕ) → at i .stepper .state .position ≡ p → p < q → heard sheet ready q i ≡ 0
       → heard sheet ready q (suc i) ≡ 0
   unfolding heard unreadyPoll

@@ -1,4 +1,5 @@
--- A sheet of well-formed steps under a runner that hears at most k unready polls at each wait, k under 1000000.
+-- A runner that was started with a sheet of well-formed steps, with at most k unready polls at each wait, k under
+-- 1000000, reaches done: one call for each step and at most k for each wait.
 use Prim.Native.Nat.{ℕ, zero, suc, _+_, _-_, _*_, _≤_, _<_}
 use native.Mathlib.Omega.{arith}
 use native.Mathlib.Nat.{add-zero, zero-add, mul-add, mul-one, mul-zero, zero-mul, eq-or-lt-of-le}
@@ -33,7 +34,7 @@ module _ (sheet : List ℕ) (n : ℕ) (few : n ≤ maxSteps) (size : length shee
   abbrev now : ℕ → Runner
   now i = at sheet ready i
 
-  -- call i finds the runner at p, where c polls were unready, and nothing heard further on
+  -- at call i the runner is at p, where c polls were unready, and no later position was polled
   record At (i p c polls total : ℕ) (freqs : List ℕ) : Type 0 where
     is : now i ≡ standing sheet p polls total freqs
     here : heard sheet ready p i ≡ c
@@ -52,7 +53,7 @@ module _ (sheet : List ℕ) (n : ℕ) (few : n ≤ maxSteps) (size : length shee
   position : (i p c polls total : ℕ) (freqs : List ℕ) → At i p c polls total freqs → now i .stepper .state .position ≡ p
   position i p c polls total freqs a = ap (λ (r : Runner). r .stepper .state .position) (a .is)
 
-  -- a call that moves on
+  -- a call that moves to the next position
   moved : (i p c polls total m : ℕ) (freqs held : List ℕ) → At i p c polls total freqs
       → now (suc i) ≡ standing sheet (p + 1) 0 m held → At (suc i) (p + 1) 0 0 m held
   moved i p c polls total m freqs held a e =
@@ -77,11 +78,11 @@ module _ (sheet : List ℕ) (n : ℕ) (few : n ≤ maxSteps) (size : length shee
       first j h l (inl e) = rw e at w
       first j h l (inr m) = g .before j (omega arith) l
 
-  -- at a wait that may hear d unready polls more, with what comes after it
+  -- at a wait with at most d more unready polls, given the rest of the sheet
   module _ (step : Step) (p : ℕ) (below : p < n) (read : readAt sheet (8 * p) ≡ value step)
       (w : isWait (step .kind) ≡ true) (freqs ends : List ℕ) (rest : ℕ)
       (onward : (j m : ℕ) → At j (p + 1) 0 0 m freqs → Goes j (j + rest) ends) where
-    -- the call that hears ready
+    -- the call with the ready flag
     passing : (d i c polls total : ℕ) → c + d ≡ k → polls ≤ c → At i p c polls total freqs → ready i ≡ true
         → Goes i (i + d + suc rest) ends
     passing d i c polls total e h a u =
@@ -148,7 +149,7 @@ module _ (sheet : List ℕ) (n : ℕ) (few : n ≤ maxSteps) (size : length shee
   abbrev after : List Step → ℕ
   after ts = length ts + k * waitsIn ts
 
-  -- a step, with what comes after it
+  -- a step, given the rest of the sheet
   module _ (step : Step) (ts : List Step) (p : ℕ) (below : p < n) (read : readAt sheet (8 * p) ≡ value step)
       (onward : (f : List ℕ) (j m : ℕ) → At j (p + 1) 0 0 m f → Goes j (j + after ts) (storesOf ts f))
       (i total : ℕ) (freqs : List ℕ) (a : At i p 0 0 total freqs) where
@@ -174,7 +175,7 @@ module _ (sheet : List ℕ) (n : ℕ) (few : n ≤ maxSteps) (size : length shee
     either : Goes i (i + after (step ∷ ts)) (storesOf (step ∷ ts) freqs)
     either = split (both (isWait (step .kind))) a-wait no-wait
 
-  -- a runner that has just come to the steps ts
+  -- a runner that has just reached the steps ts
   through : (d : Step) (ts : List Step) (p : ℕ) → p + length ts ≡ n
       → ((i : ℕ) → i < length ts → readAt sheet (8 * (p + i)) ≡ value (getD ts i d))
       → (freqs : List ℕ) (i total : ℕ) → At i p 0 0 total freqs → Goes i (i + after ts) (storesOf ts freqs)
@@ -193,7 +194,7 @@ module _ (sheet : List ℕ) (n : ℕ) (few : n ≤ maxSteps) (size : length shee
       either step ts p (omega arith) (rw add-zero at (reads 0 (omega arith)))
       (through d ts (p + 1) (omega arith) (shifted d step ts p reads)) i total freqs a
 
--- layer 1, with both bounds
+-- the number of calls until done, with its upper bound, and its value with exactly k unready polls at each wait
 record Comes (k : ℕ) (xs : List Step) (ready : ℕ → Bool) : Type 0 where
   calls : ℕ
   few : calls ≤ length xs + k * waitsIn xs
@@ -236,7 +237,7 @@ pub steps-come-up : (xs : List Step) → AllFormed xs → length xs ≤ maxSteps
 steps-come-up xs f few k small ready hears =
     let c = comes xs f few k small ready hears in record { calls = c .calls; few = c .few; up = c .up }
 
--- all k at each wait: done after exactly so many
+-- exactly k unready polls at each wait: done after exactly one call for each step and k for each wait
 pub steps-come-up-after : (xs : List Step) → AllFormed xs → length xs ≤ maxSteps → (k : ℕ) → k < 1000000
     → (ready : ℕ → Bool) → HearsAtMost k (encoded xs) ready → HearsAll k (encoded xs) ready
     → UpAfter (length xs + k * waitsIn xs) (encoded xs) ready (storesOf xs (replicate 10 0))
@@ -245,7 +246,7 @@ steps-come-up-after xs f few k small ready hears all =
     let same : c .calls ≡ length xs + k * waitsIn xs = omega (arith, c .few, c .all all) in
     rw same at (c .up)
 
--- none: done after as many calls as there are steps
+-- no unready poll: done after one call for each step
 pub steps-come-up-ready : (xs : List Step) → AllFormed xs → length xs ≤ maxSteps
     → (ready : ℕ → Bool) → HearsAtMost 0 (encoded xs) ready
     → UpAfter (length xs) (encoded xs) ready (storesOf xs (replicate 10 0))

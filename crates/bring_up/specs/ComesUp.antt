@@ -1,4 +1,4 @@
--- Will it come up? How many calls a sheet of ours may take (docs/FORMAT.md, How long a run takes).
+-- The bound on the calls that a sheet takes until done (docs/FORMAT.md, How long a run takes).
 use Prim.Native.Nat.{ℕ, _+_, _*_, _/_, _≤_, _<_}
 use mathlib.Core.{Path._≡_, Bool.Bool, List.List}
 use lib.{Dec.ltb, ListN.length, ListN.take}
@@ -14,48 +14,49 @@ use Rattle.runner.specs.declared.Runner.{Runner}
 use Rattle.runner.specs.Run.{begun, started, startedWith, startOf}
 use Rattle.bring_up.specs.{Up.planSteps, Wait.HearsAtMost, Wait.UpAfter, Wait.UpWithin}
 
--- of a sheet's steps at most 10 are waits
+-- at most 10 steps of a sheet are waits
 abbrev pub maxWaits : ℕ
 maxWaits = 10
 
--- each step once, and k unready polls at each wait: 65 + 10 × k of the RP2040, 66 + 10 × k of the RP235x
+-- one call for each step and k for each wait: 65 + 10 × k on the RP2040, 66 + 10 × k on the RP235x
 abbrev pub mostCalls : Chip → ℕ → ℕ
 mostCalls chip k = mostSteps chip + maxWaits * k
 
--- with at most k unready polls at each wait, done comes after at most so many calls, and these are then the frequencies
+-- with at most k unready polls at each wait, k under 1000000, done comes after at most `mostCalls` calls, with these
+-- frequencies
 abbrev pub UpInTime : Chip → List ℕ → List ℕ → Type 0
 UpInTime chip sheet freqs =
     (k : ℕ) → k < 1000000 → (ready : ℕ → Bool) → HearsAtMost k sheet ready
     → UpWithin (mostCalls chip k) sheet ready freqs
 
--- with none, after this many
+-- with no unready poll, done comes after exactly this many calls
 abbrev pub UpAtOnce : ℕ → List ℕ → List ℕ → Type 0
 UpAtOnce calls sheet freqs = (ready : ℕ → Bool) → HearsAtMost 0 sheet ready → UpAfter calls sheet ready freqs
 
--- the sheet of a plan: the frequencies are the stored values, and with no unready poll the calls are as many as its steps
+-- the sheet of a plan: the frequencies are the stored values, and with no unready poll there is one call for each step
 abbrev pub ComesUp : ClockConfig → ℕ → Type 0
 ComesUp p reading = UpInTime (settingsOf p reading .board .chip) (sheetBytes p reading) (tenOf (settingsOf p reading))
 
 abbrev pub ComesUpReady : ClockConfig → ℕ → Type 0
 ComesUpReady p reading = UpAtOnce (length (planSteps p reading)) (sheetBytes p reading) (tenOf (settingsOf p reading))
 
--- n bytes that were written for a plan: any runner starts with them and comes up, and a step is eight of them
+-- n bytes written for a plan, eight for each step: any runner starts with them and reaches done
 pub record WrittenUp (p : ClockConfig) (reading n : ℕ) (sheet : List ℕ) : Type 0 where
   pub starts : (r : Runner) → startOf r sheet ≡ begun (value started) (startedWith sheet)
   pub in-time : UpInTime (settingsOf p reading .board .chip) sheet (tenOf (settingsOf p reading))
   pub at-once : UpAtOnce (n / 8) sheet (tenOf (settingsOf p reading))
 
--- whatever plan, reading and buffer: the bytes up to the length that a call of `init` answered come up
+-- for every plan, reading and buffer: a runner reaches done with the bytes up to the length that `init` answered
 abbrev pub InitComesUp : Type 0
 InitComesUp =
     (p : ClockConfig) (reading : ℕ) (before after : List ℕ) (r : Length) (n : ℕ)
     → InitCall p reading before r after → lengthIs r ≡ value n → WrittenUp p reading n (take n after)
 
--- what a fitter is told of either chip: from 1000000 unready polls on a lock may time out, and it is the top of 32 bits
+-- `longest_wait`, for both chips: from 1000000 unready polls on a lock can time out, and the answer is the 32-bit maximum
 unfoldable pub longestWait : ℕ → ℕ
 longestWait k = pick (ltb k 1000000) (maxSteps + maxWaits * k) 4294967295
 
--- it bounds the calls of either chip as long as there is a bound
+-- it bounds the calls of either chip wherever there is a bound
 abbrev pub LongestCovers : Type 0
 LongestCovers =
     (chip : Chip) (k : ℕ)

@@ -1,4 +1,4 @@
--- Inside: a plan's sheet under a runner that was started with it and hears ready at each call.
+-- Internal definitions: a runner that was started with the sheet of a plan, with every call ready.
 use mathlib.Core.{Bool.true, List.List, List.[], List._∷_, List._++_, List.map, Path._≡_}
 use Prim.Native.Nat.{ℕ, _+_}
 use lib.ListN.{length, replicate}
@@ -16,18 +16,18 @@ use Rattle.runner.specs.Calls.{answers, after, readyAnswer, readyAt}
 abbrev pub planSteps : ClockConfig → ℕ → List Step
 planSteps p reading = stepsOf reading (settingsOf p reading)
 
--- whatever the runner was, it starts with the sheet
+-- any runner starts with the sheet
 abbrev pub Starts : ClockConfig → ℕ → Type 0
 Starts p reading =
     (r : Runner) → startOf r (sheetBytes p reading) ≡ begun (value started) (startedWith (sheetBytes p reading))
 
--- every step is answered in its order, then done
+-- the answers are those of the steps in order, then done
 abbrev pub AnswersAll : ClockConfig → ℕ → Type 0
 AnswersAll p reading =
     answers (startedWith (sheetBytes p reading)) (sheetBytes p reading) (replicate (length (planSteps p reading) + 1) true)
     ≡ map readyAnswer (planSteps p reading) ++ (value done ∷ [])
 
--- after as many calls as there are steps the runner holds the stored values, and 0 Hz for the RTC of an RP235x
+-- after one call for each step the runner holds the stored values, with 0 Hz for the RTC of an RP235x
 abbrev pub LeavesStored : ClockConfig → ℕ → Type 0
 LeavesStored p reading =
     after (startedWith (sheetBytes p reading)) (sheetBytes p reading) (replicate (length (planSteps p reading)) true)

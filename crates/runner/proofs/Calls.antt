@@ -1,4 +1,5 @@
--- Which rule a call falls under.
+-- The rules of a call by cases: each test picks one equation of `turnOf`, and a property of all outcomes holds of
+-- every call.
 use mathlib.Core.{Bool.Bool, Bool.true, Bool.false, Bool._||_, Bool.not, List.List, Path._≡_, Path.refl}
 use Prim.Native.Nat.{ℕ, _+_, _*_, _<_, _≤_}
 use borrow.Author.Tests.{le-leb, lt-leb, ltb-false}
@@ -62,7 +63,7 @@ pub both : {A : Type 0} (P : A → Type 0) (b : Bool) (x y : A) → P x → P y 
 both P true x y p q = p
 both P false x y p q = q
 
--- what holds of every outcome that the rules name holds of a call
+-- a property of every outcome that the rules name holds of a call
 module _ (P : Outcome State → Type 0) (s : State) (len : ℕ) (kept sheet : List ℕ) (ready : Bool)
     (refuses : (n : ℕ) → P (outcome (refusal n) s))
     (ends : P (outcome (value done) s)) (passes : P (outcome (value passed) (movedOn s 0)))

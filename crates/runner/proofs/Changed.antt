@@ -1,4 +1,4 @@
--- The types of the functions that change a runner in place, as base's `InPlace` goes by them.
+-- The types of the functions that change a runner in place, in the form that base's `InPlace` takes.
 use mathlib.Core.{Path.refl, List.[], List._∷_}
 use Prim.Native.Nat.{_+_}
 use mir.Syntax.{field}
@@ -37,7 +37,7 @@ opened = two S.the-type S′.the-laws (λ s. s .reply) (λ s. s .runner) (λ s. 
 abbrev pub moved : Returned reply stepper
 moved = two M.the-type M′.the-laws (λ s. s .reply) (λ s. s .stepper) (λ s. refl) refl (λ s p. (p .0, p .1 .0))
 
--- of a runner the stepper alone is stored
+-- `poll` stores only the stepper of a runner
 abbrev pub steps : Stored runner stepper
 steps = record {
   steps = field 2 ∷ [];

@@ -1,4 +1,4 @@
--- What done leaves: the runner as it was, for ever.
+-- A runner that answers done stays as it is, and answers done at every later call.
 use mathlib.Core.{Bool.Bool, Bool.true, Bool.false, Bool.not, List.List, Logic._⊎_, Logic.inl, Logic.inr}
 use mathlib.Core.Path.{_≡_, refl}
 use Prim.Native.Nat.{ℕ, _+_, _*_}

@@ -1,4 +1,4 @@
--- What a call gives to a runner that is under way over a sheet of well-formed steps.
+-- The answer of a call on a runner within a sheet of well-formed steps: done past the last step, else the rule of the step.
 use Prim.Native.Nat.{ℕ, _+_, _*_, _%_, _≤_, _<_}
 use native.Mathlib.Omega.{arith}
 use mathlib.Core.{Bool.Bool, Bool.true, Bool.false, List.List, Path._≡_, Path.refl, Path.sym, Path._∙_}

@@ -1,4 +1,4 @@
--- A runner goes by the sheet that it was started with, and by no other.
+-- A runner follows only the sheet that it was started with: any other sheet is refused and changes nothing.
 use mathlib.Core.{Bool.Bool, Bool.true, Bool.false, List.List, List.[], List._∷_}
 use mathlib.Core.Path.{_≡_, refl, sym, ap, _∙_}
 use Prim.Native.Nat.{ℕ}
@@ -29,7 +29,7 @@ module _ (r : Runner) (sheet : List ℕ) (ready : Bool) (other : same (take (r .
       go false o true e = simp (o, e)
       go false o false e = simp (o, e, other)
 
--- whatever sheets are given in, the runner is left as by the calls with the kept sheet alone
+-- after calls with any sheets, the runner is the same as after only the calls with the kept sheet
 kept-alone : (sheet : List ℕ) (calls : List Call) (r : Runner) → take (r .len) (r .kept) ≡ sheet
     → afterCalls r calls ≡ after r sheet (flagsOf sheet calls)
 unfolding advanceOf

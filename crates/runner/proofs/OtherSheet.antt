@@ -1,4 +1,4 @@
--- Whatever calls came before, a started runner refuses any other sheet with 27, or with 22 once it is stopped.
+-- After any calls, a started runner refuses any other sheet with 27, or with 22 once it is stopped.
 use mathlib.Core.{Bool.Bool, Bool.true, Bool.false, Bool.not, List.List, List.[], List._∷_}
 use mathlib.Core.Path.{_≡_, refl, sym, ap, _∙_}
 use Prim.Native.Nat.{ℕ, _+_, _*_, _%_, _≤_, _<_}

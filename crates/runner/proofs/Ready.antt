@@ -1,4 +1,5 @@
--- A sheet of well-formed steps under a runner that was started with it and hears ready each time.
+-- A runner that was started with a sheet of well-formed steps, with every call ready, answers each step in order and
+-- then done.
 use mathlib.Core.{Bool.Bool, Bool.true, Bool.false, List.List, List.[], List._∷_, List._++_, List.map}
 use mathlib.Core.Path.{_≡_, refl, ap, _∙_}
 use Prim.Native.Nat.{ℕ, suc, _+_, _*_, _≤_, _<_}

@@ -1,4 +1,4 @@
--- What a start leaves.
+-- The runner after a start: unchanged after a refusal, else fresh with the padded sheet.
 use mathlib.Core.{Bool.Bool, Bool.true, Bool.false, List.List, List._++_, Path._≡_, Path.refl, Path.sym, Path.ap, Path._∙_}
 use Prim.Native.Nat.{ℕ, _+_, _-_, _≤_}
 use native.Mathlib.Omega.{arith}
@@ -19,7 +19,7 @@ module _ (r : Runner) (sheet : List ℕ) where
   unfolding startOf
   start-kept e = simp e
 
-  -- from its parts
+  -- the started runner, from its parts
   pub start-built : (kept : List ℕ) (len : ℕ) (b : Stepper) → badSize (length sheet) ≡ false → kept ≡ padded sheet
       → len ≡ length sheet → b ≡ freshStepper
       → begun (value started) (record { kept = kept; len = len; stepper = b }) ≡ startOf r sheet
@@ -41,14 +41,14 @@ pub over-zeros : (sheet : List ℕ) → length sheet ≤ maxBytes
     → take (length sheet) sheet ++ drop (length sheet) (replicate maxBytes 0) ≡ padded sheet
 over-zeros sheet h = rw (take-length sheet, drop-zeros (length sheet) maxBytes h) refl
 
--- what is kept of a sheet is the sheet
+-- the kept bytes up to the length of the sheet are the sheet
 pub kept-sheet : (sheet : List ℕ) → take (length sheet) (padded sheet) ≡ sheet
 kept-sheet sheet = take-append-seam sheet (replicate (maxBytes - length sheet) 0)
 
 pub length-padded : (sheet : List ℕ) → length sheet ≤ maxBytes → length (padded sheet) ≡ maxBytes
 length-padded sheet h = rw (length-append, length-replicate) (omega arith)
 
--- what the code's answer tells
+-- the answer of the code determines the runner after the start
 module _ (r : Runner) (sheet : List ℕ) (o : Opened) (e : openedIs o ≡ startOf r sheet) where
   both-ways : (b : Bool) → badSize (length sheet) ≡ b
       → openedIs o ≡ pick b (begun (refusal 20) r) (begun (value started) (startedWith sheet))

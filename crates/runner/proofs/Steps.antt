@@ -1,4 +1,4 @@
--- What is known of a step that was read from a sheet, and so of one that is handed out.
+-- A step that was read from a sheet is well-formed, and so is one that is handed out.
 use mathlib.Core.{Bool.Bool, Bool.true, Bool.false, Bool._&&_, List.List, Path._≡_}
 use Prim.Native.Nat.{ℕ, _*_, _<_}
 use native.Mathlib.Omega.{arith}

@@ -1,4 +1,4 @@
--- What a refusal leaves: the runner as it was, save at the lock timeout.
+-- A refusal leaves the runner as it was, except at the lock timeout.
 use mathlib.Core.{Bool.Bool, Bool.true, Bool.false, List.List, List.[], List._∷_, Logic.inl, Logic.inr, Path._≡_, Path.refl}
 use Prim.Native.Nat.{ℕ}
 use Rattle.base.specs.{Answer.Answer, Answer.value, Answer.refusal, Choice.pick}
@@ -40,7 +40,7 @@ with-freqs b t = go (t .answer) (t .next)
     go (refusal n) s (inl e) = inl (rw e)
     go (refusal n) s (inr (number, e)) = inr (number, rw e)
 
--- a refusal leaves the stepper untouched, save the lock timeout
+-- a refusal leaves the stepper unchanged, except at the lock timeout
 pub stepper-keeps : (b : Stepper) (len : ℕ) (kept sheet : List ℕ) (ready : Bool)
     → Untouched b (stepperTimedOut b) (stepperOf b len kept sheet ready)
 unfolding stepperOf

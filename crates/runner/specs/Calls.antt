@@ -1,4 +1,4 @@
--- Inside: calls over one sheet, one for each ready flag, and what is expected of them where all are ready.
+-- Internal definitions: calls over one sheet, one for each ready flag, and the expected answers where all flags are ready.
 use Prim.Native.Nat.{ℕ}
 use mathlib.Core.{Bool.Bool, Bool.true, Bool.false, Logic._⊎_, Path._≡_, List.List, List.[], List._∷_}
 use Rattle.base.specs.{Answer.Answer, Answer.value, Answer.refusal, Choice.pick}
@@ -7,14 +7,14 @@ use Rattle.runner.specs.declared.{State.State, Stepper.Stepper, Runner.R
 use Rattle.text.specs.Ascii.{same}
 use Rattle.runner.specs.Run.{Progress, handed, passed, Outcome, isWait, polled, storedBy, withStepper, startedWith, advanceOf}
 
--- what the calls answer
+-- the answers of the calls
 abbrev pub answers : Runner → List ℕ → List Bool → List (Answer Progress)
 answers r sheet [] = []
 answers r sheet (ready ∷ flags) =
     let call = advanceOf r sheet ready in
     call .answer ∷ answers (call .next) sheet flags
 
--- the runner that they leave
+-- the runner after the calls
 abbrev pub after : Runner → List ℕ → List Bool → Runner
 after r sheet [] = r
 after r sheet (ready ∷ flags) = after (advanceOf r sheet ready .next) sheet flags
@@ -33,7 +33,7 @@ flagsOf sheet [] = []
 flagsOf sheet (call given ready ∷ calls) =
     pick (same sheet given) (ready ∷ flagsOf sheet calls) (flagsOf sheet calls)
 
--- what a ready call answers at a step: a wait is passed, any other step is handed out
+-- the answer of a ready call at a step: a wait is passed, any other step is handed out
 abbrev pub readyAnswer : Step → Answer Progress
 readyAnswer step = value (pick (isWait (step .kind)) passed (handed step))
 
@@ -42,15 +42,15 @@ abbrev pub storesOf : List Step → List ℕ → List ℕ
 storesOf [] freqs = freqs
 storesOf (step ∷ steps) freqs = storesOf steps (storedBy step freqs)
 
--- at a position, having heard ready each time
+-- the state at a position when every call was ready
 abbrev pub readyState : ℕ → State
 readyState position = record { position = position; «lock_polls» = 0; total = 0; stopped = false }
 
--- a runner that was started with the sheet, there
+-- a runner that was started with the sheet, at a position when every call was ready
 abbrev pub readyAt : List ℕ → ℕ → List ℕ → Runner
 readyAt sheet position freqs = withStepper (startedWith sheet) (record { state = readyState position; freqs = freqs })
 
--- where the answer is a refusal nothing has changed, or it is the lock timeout, 22, and what is left is timedOut
+-- after a refusal nothing has changed, or it is the lock timeout, 22, and the result is `timedOut`
 abbrev pub Untouched : {A : Type 0} → A → A → Outcome A → Type 0
 Untouched {A} same timedOut x = go (x .answer) (x .next)
   where
@@ -58,7 +58,7 @@ Untouched {A} same timedOut x = go (x .answer) (x .next)
     go (value p) y = Unit {0}
     go (refusal n) y = (y ≡ same) ⊎ ((n ≡ 22) × (y ≡ timedOut))
 
--- what the timeout leaves
+-- the stepper and the runner after the lock timeout
 abbrev pub stepperTimedOut : Stepper → Stepper
 stepperTimedOut b = record { state = polled (b .state) (b .state .«lock_polls») true; freqs = b .freqs }
 

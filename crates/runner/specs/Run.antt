@@ -1,4 +1,5 @@
--- What a start and each call of the runner answer and leave, for every runner, sheet and ready flag.
+-- The runner (docs/FORMAT.md, Runner): the answer of a start and of each call, and the runner after it, for every
+-- runner, sheet and ready flag.
 use Prim.Native.Nat.{ℕ, _+_, _-_, _*_}
 use mathlib.Core.{Bool.Bool, Bool.true, Bool.false, Bool._||_, Bool.not, List.List, List._++_}
 use lib.{Dec.eqb, Dec.ltb, Dec.leb, ListN.length, ListN.getD, ListN.set, ListN.take, ListN.replicate}
@@ -11,18 +12,18 @@ use Rattle.step.specs.Size.{badSize}
 use Rattle.runner.specs.declared.{Reply.Reply, State.State, Stepper.Stepper, Runner.Runner, Turned.Turned}
 use Rattle.runner.specs.declared.{Moved.Moved, Stepped.Stepped, Opening.Opening, Opened.Opened}
 
--- what a call that is not refused answers
+-- the answer of a call that is not refused
 pub data Progress : Type 0 where
   done : Progress
   handed : Step → Progress
   passed : Progress
   waiting : Progress
 
--- what a start that is not refused answers
+-- the answer of a start that is not refused
 pub data Go : Type 0 where
   started : Go
 
--- what a call or a start answers, and what it leaves
+-- the answer of a call or a start, and the state, stepper or runner after it
 pub record Leaves (P A : Type 0) : Type 0 where
   pub answer : Answer P
   pub next : A
@@ -39,7 +40,7 @@ outcome a x = record { answer = a; next = x }
 abbrev pub begun : {A : Type 0} → Answer Go → A → Begun A
 begun a x = record { answer = a; next = x }
 
--- the code's answers
+-- the code's answers as answers of the definitions
 abbrev pub replyIs : Reply → Answer Progress
 replyIs Reply.Done = value done
 replyIs (Reply.Handed s) = value (handed s)
@@ -84,16 +85,16 @@ abbrev pub isWait : ℕ → Bool
 isWait of =
     eqb of kind.wait-released || eqb of kind.wait-sys || eqb of kind.wait-ref || eqb of kind.wait-stable || eqb of kind.wait-lock
 
--- one more, up to the top of 32 bits
+-- plus one, saturating at 32 bits
 unfoldable pub oneMore : ℕ → ℕ
 oneMore total = pick (ltb total 4294967295) (total + 1) total
 
--- one step on, with these lock polls
+-- the state one position on, with the given lock polls
 abbrev pub movedOn : State → ℕ → State
 movedOn s polls =
     record { position = s .position + 1; «lock_polls» = polls; total = s .total; stopped = s .stopped }
 
--- after an unready poll, which adds to the total, with these lock polls and this stopped mark
+-- the state after an unready poll, which adds one to the total, with the given lock polls and stopped mark
 abbrev pub polled : State → ℕ → Bool → State
 polled s polls stopped =
     record { position = s .position; «lock_polls» = polls; total = oneMore (s .total); stopped = stopped }
@@ -101,21 +102,22 @@ polled s polls stopped =
 abbrev pub waits : State → ℕ → Outcome State
 waits s polls = outcome (value waiting) (polled s polls (s .stopped))
 
--- unready is waiting, and at the wait for lock one lock poll more; the 1000000th of these is refused and stops the runner
+-- rule 8 of a call: unready is waiting, and at the wait for lock adds one lock poll; the 1000000th of these is
+-- refused with 22 and stops the runner
 unfoldable pub unready : State → ℕ → Outcome State
 unready s wait =
     pick (not (eqb wait kind.wait-lock)) (waits s (s .«lock_polls»))
     (pick (ltb (s .«lock_polls» + 1) 1000000) (waits s (s .«lock_polls» + 1))
     (outcome (refusal 22) (polled s (s .«lock_polls») true)))
 
--- on ready a wait is passed and lock polls are zeroed; a step that is no wait is handed out
+-- on ready a wait is passed and the lock polls become 0; any other step is handed out
 unfoldable pub takeStep : State → Step → Bool → Outcome State
 takeStep s step ready =
     pick (isWait (step .kind))
     (pick ready (outcome (value passed) (movedOn s 0)) (unready s (step .kind)))
     (outcome (value (handed step)) (movedOn s (s .«lock_polls»)))
 
--- the step at the position, or its refusal
+-- the step at the position, or the refusal of its bytes
 unfoldable pub takeRead : State → Answer Step → Bool → Outcome State
 takeRead s (value step) ready = takeStep s step ready
 takeRead s (refusal n) ready = outcome (refusal n) s
@@ -124,13 +126,13 @@ takeRead s (refusal n) ready = outcome (refusal n) s
 unfoldable pub outside : State → ℕ → Bool
 outside s len = (ltb maxSteps (s .position) || ltb 999999 (s .«lock_polls»)) || badSize len
 
--- past the last step done, else the step
+-- done past the last step, else the step
 unfoldable pub onwardOf : State → List ℕ → Bool → Outcome State
 onwardOf s sheet ready =
     pick (leb (length sheet) (8 * s .position)) (outcome (value done) s)
     (takeRead s (readAt sheet (8 * s .position)) ready)
 
--- a call: 21, then 22, then 27 for a sheet other than the kept one, then done or the step
+-- a call: refusal 21, then 22 for a stopped runner, then 27 for a sheet other than the kept one, then done or the step
 unfoldable pub turnOf : State → ℕ → List ℕ → List ℕ → Bool → Outcome State
 turnOf s len kept sheet ready =
     pick (outside s len) (outcome (refusal 21) s)
@@ -138,7 +140,7 @@ turnOf s len kept sheet ready =
     (pick (not (same (take len kept) sheet)) (outcome (refusal 27) s)
     (onwardOf s sheet ready)))
 
--- the ten frequencies after a step: a store sets its clock's
+-- the ten frequencies after a step: a store sets the frequency of its clock
 unfoldable pub storedBy : Step → List ℕ → List ℕ
 storedBy step freqs = pick (eqb (step .kind) kind.store) (set freqs (step .f0) (step .f1)) freqs
 
@@ -150,7 +152,7 @@ freqsAfter (value passed) freqs = freqs
 freqsAfter (value waiting) freqs = freqs
 freqsAfter (refusal n) freqs = freqs
 
--- a step that is handed out is one that a sheet may hold
+-- a step that is handed out is well-formed
 abbrev pub HandsFormed : Answer Progress → Type 0
 HandsFormed (value done) = Unit {0}
 HandsFormed (value (handed step)) = WellFormed step
@@ -161,7 +163,7 @@ HandsFormed (refusal n) = Unit {0}
 abbrev pub joined : Outcome State → List ℕ → Outcome Stepper
 joined t freqs = outcome (t .answer) (record { state = t .next; freqs = freqsAfter (t .answer) freqs })
 
--- a call on the part that steps, under a kept sheet
+-- a call on a stepper with a kept sheet
 unfoldable pub stepperOf : Stepper → ℕ → List ℕ → List ℕ → Bool → Outcome Stepper
 stepperOf b len kept sheet ready = joined (turnOf (b .state) len kept sheet ready) (b .freqs)
 
@@ -175,7 +177,7 @@ inRunner r x = outcome (x .answer) (withStepper r (x .next))
 unfoldable pub advanceOf : Runner → List ℕ → Bool → Outcome Runner
 advanceOf r sheet ready = inRunner r (stepperOf (r .stepper) (r .len) (r .kept) sheet ready)
 
--- what is kept of a sheet: its bytes, and zeros past them
+-- the kept form of a sheet: its bytes, followed by zeros
 abbrev pub padded : List ℕ → List ℕ
 padded sheet = sheet ++ replicate (maxBytes - length sheet) 0
 
@@ -183,6 +185,7 @@ padded sheet = sheet ++ replicate (maxBytes - length sheet) 0
 abbrev pub startedWith : List ℕ → Runner
 startedWith sheet = record { kept = padded sheet; len = length sheet; stepper = freshStepper }
 
--- a start: 20 for the length, and then nothing changes; else fresh with the sheet, whatever the runner was
+-- a start: refusal 20 for a length that no sheet has, which changes nothing; else a fresh runner with the sheet,
+-- whatever it was before
 unfoldable pub startOf : Runner → List ℕ → Begun Runner
 startOf r sheet = pick (badSize (length sheet)) (begun (refusal 20) r) (begun (value started) (startedWith sheet))

@@ -1,5 +1,5 @@
-// The runner over its kept sheet: each call takes one step. `turn` does the work on the state, `move_stepper` on the
-// part that steps under a kept sheet, `advance` on a whole runner by value, and `poll` changes a runner in place.
+// The runner (docs/FORMAT.md, Runner) takes one step of its kept sheet at each call. `turn` works on the state,
+// `move_stepper` on the stepping part, `advance` on a whole runner by value, and `poll` changes a runner in place.
 // `restarted` and `start` take a sheet.
 mod stepping;
 
@@ -13,7 +13,7 @@ ghost use Rattle.step.specs.Sheet.{maxBytes};
 ghost use Rattle.runner.specs.Run.{outcome, replyIs, turnedIs, movedIs, steppedIs, freshStepper, fresh, freqOf};
 ghost use Rattle.runner.specs.Run.{turnOf, stepperOf, advanceOf, padded, begun, openingIs, openedIs, startOf};
 
-// What a runner holds besides the frequencies.
+// The state of a runner without the frequencies.
 pub struct State {
     pub position: usize,
     pub lock_polls: u32,
@@ -21,19 +21,20 @@ pub struct State {
     pub stopped: bool,
 }
 
-// The part that steps.
+// The stepping part of a runner: the state and the ten frequencies in Hz.
 pub struct Stepper {
     pub state: State,
     pub freqs: [u32; 10],
 }
 
-// A stepper and the sheet that it was started with: `len` bytes, zeros past them.
+// A stepper and the sheet that it was started with: `len` bytes, followed by zeros.
 pub struct Runner {
     pub kept: [u8; MAX_BYTES],
     pub len: usize,
     pub stepper: Stepper,
 }
 
+// The answer of a call: done, a step to carry out, a wait passed, a wait not ready, or the number of a refusal.
 pub enum Reply {
     Done,
     Handed(Step),
@@ -42,33 +43,38 @@ pub enum Reply {
     Refused(u8),
 }
 
+// The answer of a call on the state, and the state after it.
 pub struct Turned {
     pub reply: Reply,
     pub state: State,
 }
 
+// The answer of a call on a stepper, and the stepper after it.
 pub struct Moved {
     pub reply: Reply,
     pub stepper: Stepper,
 }
 
+// The answer of a call on a runner, and the runner after it.
 pub struct Stepped {
     pub reply: Reply,
     pub runner: Runner,
 }
 
-// What a start answers.
+// The answer of a start.
 pub enum Opening {
     Started,
     Refused(u8),
 }
 
+// The answer of a start, and the runner after it.
 pub struct Opened {
     pub reply: Opening,
     pub runner: Runner,
 }
 
 impl Stepper {
+    // A fresh stepper: all numbers are 0, and it is not stopped.
     pub fn new() -> Self
         ensures { λ r. ⌜ r ≡ freshStepper ⌝ }
     {
@@ -85,7 +91,7 @@ impl Stepper {
 }
 
 impl Runner {
-    // Before any start.
+    // A runner before any start: its kept sheet is empty.
     pub fn new() -> Self
         ensures { λ r. ⌜ r ≡ fresh ⌝ }
     {
@@ -98,7 +104,7 @@ impl Runner {
     }
 }
 
-// One call on the state, under the first `len` bytes of what is kept.
+// One call on the state, with the first `len` kept bytes as the sheet; refuses with 21, 22, 27 or 20, in this order.
 pub fn turn(s: State, len: usize, kept: &[u8; MAX_BYTES], sheet: &[u8], ready: bool) -> Turned
     ensures { λ t. ⌜ turnedIs t ≡ turnOf s len (now (kept .entry)) (now (sheet .entry)) ready ⌝ }
 {
@@ -115,7 +121,7 @@ pub fn turn(s: State, len: usize, kept: &[u8; MAX_BYTES], sheet: &[u8], ready: b
     stepping::onward(s, sheet, ready)
 }
 
-// One call on the part that steps, under a kept sheet.
+// One call on a stepper with a kept sheet; refuses with 21, 22, 27 or 20, as `turn` does.
 pub fn move_stepper(
     b: Stepper,
     len: usize,
@@ -125,7 +131,7 @@ pub fn move_stepper(
 ) -> Moved
     ensures { λ m. ⌜ movedIs m ≡ stepperOf b len (now (kept .entry)) (now (sheet .entry)) ready ⌝ }
 {
-    // Field by field: a copy of the whole carries the bytes between its fields through every branch.
+    // The state is copied field by field, since a copy of the whole carries its padding through every branch.
     let before = State {
         position: b.state.position,
         lock_polls: b.state.lock_polls,
@@ -143,7 +149,7 @@ pub fn move_stepper(
     }
 }
 
-// One call on a runner, answering what steps alone: the kept sheet stays where it is.
+// One call on a runner; returns only the stepping part, since the kept sheet does not change.
 fn next_stepper(r: Runner, sheet: &[u8], ready: bool) -> Moved
     ensures { λ m. ⌜ movedIs m ≡ stepperOf (r .stepper) (r .len) (r .kept) (now (sheet .entry)) ready ⌝ }
 {
@@ -152,7 +158,7 @@ fn next_stepper(r: Runner, sheet: &[u8], ready: bool) -> Moved
     move_stepper(old, len, &r.kept, sheet, ready)
 }
 
-// One call, by value.
+// One call on a runner by value; refuses with 21, 22, 27 or 20, as `turn` does.
 pub fn advance(r: Runner, sheet: &[u8], ready: bool) -> Stepped
     ensures { λ s. ⌜ steppedIs s ≡ advanceOf r (now (sheet .entry)) ready ⌝ }
 {
@@ -170,7 +176,7 @@ pub fn advance(r: Runner, sheet: &[u8], ready: bool) -> Stepped
     }
 }
 
-// The same in place: answers, and leaves the runner after the call. Only what steps is stored.
+// One call on a runner in place; refuses with 21, 22, 27 or 20. It stores only the stepping part.
 pub fn poll(r: &mut Runner, sheet: &[u8], ready: bool) -> Reply
     ensures { λ a. ⌜ outcome (replyIs a) (now (r .exit)) ≡ advanceOf (now (r .entry)) (now (sheet .entry)) ready ⌝ }
 {
@@ -179,7 +185,7 @@ pub fn poll(r: &mut Runner, sheet: &[u8], ready: bool) -> Reply
     m.reply
 }
 
-// What is kept of a sheet: its bytes, and zeros past them.
+// The kept form of a sheet: its bytes, followed by zeros.
 fn keep(sheet: &[u8]) -> [u8; MAX_BYTES]
     requires { ⌜ length (now sheet) ≤ maxBytes ⌝ }
     ensures { λ r. ⌜ r ≡ padded (now (sheet .entry)) ⌝ }
@@ -189,7 +195,7 @@ fn keep(sheet: &[u8]) -> [u8; MAX_BYTES]
     kept
 }
 
-// A start, by value: takes the sheet and makes the runner fresh, or refuses with 20.
+// A start by value: makes the runner fresh with the sheet; refuses with 20 a length that no sheet has.
 pub fn restarted(r: Runner, sheet: &[u8]) -> Opened
     ensures { λ o. ⌜ openedIs o ≡ startOf r (now (sheet .entry)) ⌝ }
 {
@@ -209,7 +215,7 @@ pub fn restarted(r: Runner, sheet: &[u8]) -> Opened
     }
 }
 
-// The same in place.
+// A start in place; refuses with 20 a length that no sheet has, and then changes nothing.
 pub fn start(r: &mut Runner, sheet: &[u8]) -> Opening
     ensures { λ a. ⌜ begun (openingIs a) (now (r .exit)) ≡ startOf (now (r .entry)) (now (sheet .entry)) ⌝ }
 {
@@ -218,7 +224,7 @@ pub fn start(r: &mut Runner, sheet: &[u8]) -> Opening
     o.reply
 }
 
-// The frequency that a runner holds for a clock, by the clock's number.
+// The frequency in Hz that a runner holds for a clock, by the number of the clock.
 fn freq(r: Runner, clock: usize) -> u32
     requires { ⌜ clock < 10 ⌝ }
     ensures { λ hz. ⌜ hz ≡ freqOf r clock ⌝ }
@@ -227,60 +233,70 @@ fn freq(r: Runner, clock: usize) -> u32
     s.freqs[clock]
 }
 
+// The stored frequency of the ring oscillator, in Hz.
 pub fn rosc_freq(r: Runner) -> u32
     ensures { λ hz. ⌜ hz ≡ freqOf r 0 ⌝ }
 {
     freq(r, 0)
 }
 
+// The stored frequency of the crystal oscillator, in Hz.
 pub fn xosc_freq(r: Runner) -> u32
     ensures { λ hz. ⌜ hz ≡ freqOf r 1 ⌝ }
 {
     freq(r, 1)
 }
 
+// The stored frequency of the system PLL, in Hz.
 pub fn pll_sys_freq(r: Runner) -> u32
     ensures { λ hz. ⌜ hz ≡ freqOf r 2 ⌝ }
 {
     freq(r, 2)
 }
 
+// The stored frequency of the USB PLL, in Hz.
 pub fn pll_usb_freq(r: Runner) -> u32
     ensures { λ hz. ⌜ hz ≡ freqOf r 3 ⌝ }
 {
     freq(r, 3)
 }
 
+// The stored frequency of the reference clock, in Hz.
 pub fn clk_ref_freq(r: Runner) -> u32
     ensures { λ hz. ⌜ hz ≡ freqOf r 4 ⌝ }
 {
     freq(r, 4)
 }
 
+// The stored frequency of the system clock, in Hz.
 pub fn clk_sys_freq(r: Runner) -> u32
     ensures { λ hz. ⌜ hz ≡ freqOf r 5 ⌝ }
 {
     freq(r, 5)
 }
 
+// The stored frequency of the peripheral clock, in Hz.
 pub fn clk_peri_freq(r: Runner) -> u32
     ensures { λ hz. ⌜ hz ≡ freqOf r 6 ⌝ }
 {
     freq(r, 6)
 }
 
+// The stored frequency of the USB clock, in Hz.
 pub fn clk_usb_freq(r: Runner) -> u32
     ensures { λ hz. ⌜ hz ≡ freqOf r 7 ⌝ }
 {
     freq(r, 7)
 }
 
+// The stored frequency of the ADC clock, in Hz.
 pub fn clk_adc_freq(r: Runner) -> u32
     ensures { λ hz. ⌜ hz ≡ freqOf r 8 ⌝ }
 {
     freq(r, 8)
 }
 
+// The stored frequency of the RTC clock, in Hz; the RP235x has none and stores 0.
 pub fn clk_rtc_freq(r: Runner) -> u32
     ensures { λ hz. ⌜ hz ≡ freqOf r 9 ⌝ }
 {

@@ -1,4 +1,4 @@
-// The step at the position, and what it leaves of the state and the frequencies.
+// One step: the step at the position, and the state and the frequencies after it.
 use crate::Reply;
 use crate::State;
 use crate::Turned;
@@ -12,6 +12,7 @@ ghost use Rattle.step.specs.Sheet.{maxSteps};
 ghost use Rattle.runner.specs.Run.{outcome, replyIs, turnedIs, isWait, oneMore, unready, takeStep, onwardOf};
 ghost use Rattle.runner.specs.Run.{HandsFormed, freqsAfter};
 
+// Whether a kind of step is a wait.
 fn is_wait(of: u8) -> bool
     ensures { λ r. ⌜ r ≡ isWait of ⌝ }
 {
@@ -22,13 +23,14 @@ fn is_wait(of: u8) -> bool
         | (of == kind::WAIT_LOCK)
 }
 
-// One more, up to the top of 32 bits.
+// The total plus one, saturating at 32 bits.
 fn one_more(total: u32) -> u32
     ensures { λ r. ⌜ r ≡ oneMore total ⌝ }
 {
     if total < 4294967295 { total + 1 } else { total }
 }
 
+// A refusal with the state unchanged.
 pub(crate) fn refused(unmoved: State, number: u8) -> Turned
     ensures { λ t. ⌜ turnedIs t ≡ outcome (refusal number) unmoved ⌝ }
 {
@@ -38,6 +40,7 @@ pub(crate) fn refused(unmoved: State, number: u8) -> Turned
     }
 }
 
+// A wait that is not ready: waiting, or at the last lock poll refusal 22, which stops the runner.
 fn wait_unready(s: State, wait: u8) -> Turned
     requires { ⌜ s .«lock_polls» < 1000000 ⌝ }
     ensures { λ t. ⌜ turnedIs t ≡ unready s wait ⌝ }
@@ -64,6 +67,7 @@ fn wait_unready(s: State, wait: u8) -> Turned
     }
 }
 
+// The answer at a step: a wait is passed or waits; any other step is handed out.
 fn take_step(s: State, step: Step, ready: bool) -> Turned
     requires { ⌜ (s .position ≤ maxSteps) × (s .«lock_polls» < 1000000) ⌝ }
     ensures { λ t. ⌜ turnedIs t ≡ takeStep s step ready ⌝ }
@@ -87,7 +91,8 @@ fn take_step(s: State, step: Step, ready: bool) -> Turned
     }
 }
 
-// Past the last step done, else the step. A store that is handed out is left to the caller.
+// Answers done past the last step, else takes the step, or refuses with 20 where it cannot be read. The caller
+// applies a store.
 pub(crate) fn onward(s: State, sheet: &[u8], ready: bool) -> Turned
     requires { ⌜ (s .position ≤ maxSteps) × (s .«lock_polls» < 1000000) ⌝ }
     ensures { λ t. ⌜ turnedIs t ≡ onwardOf s (now (sheet .entry)) ready ⌝ }
@@ -105,7 +110,7 @@ pub(crate) fn onward(s: State, sheet: &[u8], ready: bool) -> Turned
     }
 }
 
-// The frequencies after an answer: a store that is handed out sets its clock's.
+// The frequencies after an answer: a store that is handed out sets the frequency of its clock.
 pub(crate) fn freqs_after(reply: Reply, freqs: [u32; 10]) -> [u32; 10]
     requires { ⌜ HandsFormed (replyIs reply) ⌝ }
     ensures { λ x. ⌜ x ≡ freqsAfter (replyIs reply) freqs ⌝ }

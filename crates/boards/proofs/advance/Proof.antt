@@ -1,4 +1,5 @@
--- `boards::advance` meets its contract.
+-- `boards::advance` meets its contract: a number over 7 is refused (`over-seven`); else the outcome of `move_stepper`
+-- replaces the board (`of-moved`).
 use borrow.Author.Needs.{needs}
 use native.Mathlib.Omega.{arith}
 use Rattle.boards.proofs.{Benches.over-seven, Benches.of-moved, advance.Statement.statement}

@@ -1,4 +1,5 @@
--- `boards::clock_freq` meets its contract.
+-- `boards::clock_freq` meets its contract: the comparisons of the board with 7 and of the clock with 9 decide the tests
+-- of `boardHz`.
 use borrow.{Author.Needs.needs, Author.Tests.lt-ltb, Author.Tests.le-ltb}
 use Rattle.boards.specs.Bench.{boardHz}
 use Rattle.boards.proofs.clock_freq.Statement.{statement}

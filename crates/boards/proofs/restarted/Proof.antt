@@ -1,4 +1,5 @@
--- `boards::restarted` meets its contract.
+-- `boards::restarted` meets its contract: the start of a new runner decides: its refusal leaves the bench
+-- (`all-refused`), and its kept sheet with the boards of a new bench is the started bench (`all-built`).
 use borrow.Author.Needs.{needs}
 use mathlib.Core.Path.{ap}
 use Rattle.runner.proofs.Starts.{start-taken, start-turned}

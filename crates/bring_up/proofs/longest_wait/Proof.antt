@@ -1,4 +1,5 @@
--- `bring_up::longest_wait` meets its contract.
+-- `bring_up::longest_wait` meets its contract: the comparison with 1000000 decides the test of `longestWait`, and below
+-- it the sum fits 32 bits.
 use Prim.Native.Nat.{_≤_, _<_}
 use native.Mathlib.Omega.{arith}
 use borrow.{Author.Needs.needs, Author.Tests.lt-ltb, Author.Tests.le-ltb}

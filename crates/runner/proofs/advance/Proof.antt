@@ -1,4 +1,4 @@
--- `runner::advance` meets its contract.
+-- `runner::advance` meets its contract: the outcome of `next_stepper` is put back into the runner, which keeps its sheet.
 use borrow.Author.Needs.{needs}
 use mathlib.Core.Path.{ap}
 use Rattle.runner.specs.declared.Stepper.{Stepper}

@@ -1,4 +1,5 @@
--- `runner::keep` meets its contract.
+-- `runner::keep` meets its contract: `copy` overwrites the first bytes of a zero buffer, which leaves the sheet
+-- followed by zeros (`over-zeros`).
 use borrow.Author.Needs.{needs}
 use mathlib.Core.Path.{_∙_}
 use Rattle.runner.proofs.{Starts.over-zeros, keep.Statement.statement}

@@ -1,4 +1,5 @@
--- `runner::move_stepper` meets its contract.
+-- `runner::move_stepper` meets its contract: the state is that of `turn` and the frequencies those of `freqs_after`,
+-- which requires a well-formed step, as every call hands out (`turn-formed`).
 use borrow.Author.Needs.{needs}
 use mathlib.Core.Path.{ap}
 use Rattle.runner.specs.declared.State.{State}

@@ -1,4 +1,5 @@
--- `runner::next_stepper` meets its contract.
+-- `runner::next_stepper` meets its contract: it passes the fields of the runner to `move_stepper`, whose equation is
+-- the result.
 use borrow.Author.Needs.{needs}
 use Rattle.runner.proofs.next_stepper.Statement.{statement}
 use Rattle.runner.proofs.next_stepper.Tie as tie

@@ -1,4 +1,5 @@
--- `runner::restarted` meets its contract.
+-- `runner::restarted` meets its contract: `bad_size` decides the refusal; a good length fits the kept buffer
+-- (`size-fits`), and `keep` and `new` give the parts of the started runner (`start-built`).
 use mathlib.Core.Path.{refl, sym, ap, _∙_}
 use borrow.Author.Needs.{needs}
 use Rattle.step.proofs.Sizes.{size-fits}

@@ -1,4 +1,5 @@
--- `runner::turn` meets its contract: each way out is one of the rules of a call.
+-- `runner::turn` meets its contract: the tests for 21, 22 and 27 in order pick the case of `turnOf`, and `onward`
+-- gives the rest.
 use borrow.{Author.Needs.needs, Author.Tests.not-true, Author.Tests.not-false}
 use mathlib.Core.{Bool.false, Path._≡_, Path.sym, Path._∙_}
 use native.Mathlib.Omega.{arith}

@@ -1,4 +1,4 @@
--- `boards::Bench::new` meets its contract.
+-- `boards::Bench::new` meets its contract: `Stepper::new` gives the fresh stepper of each board.
 use borrow.Author.Needs.{needs}
 use Rattle.boards.proofs.Bench.new.Statement.{statement}
 use Rattle.boards.proofs.Bench.new.Tie as tie

@@ -1,4 +1,4 @@
--- `runner::Runner::new` meets its contract.
+-- `runner::Runner::new` meets its contract: `Stepper::new` gives the fresh stepper, and the kept sheet is empty.
 use borrow.Author.Needs.{needs}
 use Rattle.runner.proofs.Runner.new.Statement.{statement}
 use Rattle.runner.proofs.Runner.new.Tie as tie

@@ -1,4 +1,5 @@
--- `runner::stepping::freqs_after` meets its contract.
+-- `runner::stepping::freqs_after` meets its contract: only a store that is handed out changes a frequency, and a
+-- well-formed store names one of the ten clocks and fits 32 bits (`store-fits`).
 use borrow.{Author.Needs.needs, Author.Tests.eq-eqb, Author.Tests.ne-eqb}
 use denote.Enum.Declared.{tagOf}
 use mathlib.Core.{List.List, List.[], List._∷_, Path._≡_, Path.refl}
@@ -12,7 +13,7 @@ use Rattle.runner.proofs.Reply as reply
 use Rattle.runner.proofs.{Steps.store-fits, stepping.freqs_after.Statement.statement}
 use Rattle.runner.proofs.stepping.freqs_after.Tie as tie
 
--- only a step that is handed out stores
+-- only a step that is handed out changes a frequency
 unchanged : (x : Reply) (freqs : List ℕ) → OneOf (0 ∷ 2 ∷ 3 ∷ 4 ∷ []) (tagOf reply.the-type x)
     → freqs ≡ freqsAfter (replyIs x) freqs
 unchanged Done freqs k = refl

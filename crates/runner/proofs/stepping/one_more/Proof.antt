@@ -1,4 +1,4 @@
--- `runner::stepping::one_more` meets its contract.
+-- `runner::stepping::one_more` meets its contract: the comparison with the 32-bit maximum decides the test of `oneMore`.
 use borrow.{Author.Needs.needs, Author.Tests.lt-ltb, Author.Tests.le-ltb}
 use Rattle.runner.specs.Run.{oneMore}
 use Rattle.runner.proofs.stepping.one_more.Statement.{statement}

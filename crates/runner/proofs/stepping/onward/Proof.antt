@@ -1,4 +1,5 @@
--- `runner::stepping::onward` meets its contract: each way out is one of the rules of a call.
+-- `runner::stepping::onward` meets its contract: the comparison with the sheet's length decides done, else `read`
+-- gives the step or its refusal.
 use borrow.Author.Needs.{needs}
 use mathlib.Core.Path.{sym, ap, _∙_}
 use native.Mathlib.Omega.{arith}

@@ -1,4 +1,5 @@
--- `runner::stepping::take_step` meets its contract.
+-- `runner::stepping::take_step` meets its contract: whether the step is a wait (`is_wait`), and for a wait the ready
+-- flag, pick the case of `takeStep`.
 use borrow.Author.Needs.{needs}
 use mathlib.Core.Path.{sym, _∙_}
 use Rattle.runner.specs.Run.{takeStep}

@@ -1,4 +1,5 @@
--- `runner::stepping::wait_unready` meets its contract.
+-- `runner::stepping::wait_unready` meets its contract: whether the wait is for lock, and whether one poll more is still
+-- under 1000000, pick the case of `unready`; `one_more` gives the total.
 use borrow.{Author.Needs.needs, Author.Tests.lt-ltb, Author.Tests.le-ltb, Author.Tests.eq-eqb, Author.Tests.ne-eqb}
 use Prim.Native.Nat.{_+_}
 use native.Mathlib.Omega.{arith}
