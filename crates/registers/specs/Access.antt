@@ -1,4 +1,5 @@
--- What a step does to the chip: docs/FORMAT.md, Kinds of steps, the column "what it does", as a register, its bits and a value.
+-- The register access of each kind of step: the column "what it does" of docs/FORMAT.md, Kinds of steps, as an
+-- address, a mask and a value.
 use mathlib.Core.{Bool.Bool, Bool._&&_, Bool.not, List.List, List.[], List._∷_}
 use Prim.Native.Nat.{ℕ, _+_, _*_, _%_, _^_}
 use lib.{Dec.eqb, ListN.getD}
@@ -22,7 +23,7 @@ use Rattle.registers.specs.Map.{OSCILLATOR-ON, CRYSTAL-RANGE, DELAY, STA
 use Rattle.registers.specs.Map.{PD, DSMPD, POSTDIVPD, VCOPD}
 use Rattle.registers.specs.Map.{VSEL, VSEL-235, BOD-EN, POWMAN-PASSWORD, CYCLES, TICK-ENABLE, TICKS-ENABLE}
 
--- no register
+-- no access
 abbrev pub nothing : Access
 nothing = record { op = 0; address = 0; mask = 0; value = 0 }
 
@@ -30,19 +31,19 @@ nothing = record { op = 0; address = 0; mask = 0; value = 0 }
 abbrev pub write : ℕ → ℕ → Access
 write a v = record { op = 1; address = a; mask = whole; value = v }
 
--- the register's bits in the mask become the value's, the others stay
+-- the bits in the mask become those of the value, the others stay
 abbrev pub change : ℕ → ℕ → ℕ → Access
 change a m v = record { op = 2; address = a; mask = m; value = v }
 
--- wait until the register's bits in the mask are the value
+-- wait until the bits in the mask equal the value
 abbrev pub await : ℕ → ℕ → ℕ → Access
 await a m v = record { op = 3; address = a; mask = m; value = v }
 
--- let so many processor cycles pass
+-- let this many processor cycles pass
 abbrev pub pause : ℕ → Access
 pause cycles = record { op = 4; address = 0; mask = 0; value = cycles }
 
--- each kind's access, from kind 0, which no step has; c is the chip, s the step
+-- the access of each kind, from kind 0, which no step has; c is the chip, s the step
 unfoldable pub rows : List (Chip → Step → Access)
 rows =
     (λ c s. nothing)  -- no step
@@ -101,20 +102,20 @@ has Rp235x k =
     && (not (eqb k kind.voltage) && (not (eqb k kind.brownout) && (not (eqb k kind.tick) && (not (eqb k kind.sys-divider)
     && (not (eqb k kind.rtc-divider) && not (eqb k kind.rtc-control))))))
 
--- what a step does on a chip; 20 where the chip has no step of this kind
+-- the access of a step on a chip; refusal 20 where the chip has no step of this kind
 unfoldable pub accessOf : Chip → Step → Answer Access
 accessOf c s = pick (has c (s .kind)) (value (getD rows (s .kind) (λ c s. nothing) c s)) (refusal 20)
 
--- what the step of an answer does
+-- the access of the step of an answer
 abbrev pub accessFor : Chip → Answer Step → Answer Access
 accessFor c (value s) = accessOf c s
 accessFor c (refusal n) = refusal n
 
--- what the step at a position of a sheet does; 20 where there is none
+-- the access of the step at a position of a sheet; refusal 20 where there is no step of this chip
 unfoldable pub accessAt : Chip → List ℕ → ℕ → Answer Access
 accessAt c sheet position = accessFor c (readAt sheet (8 * position))
 
--- the code's answers
+-- the code's answers as answers of the definitions
 abbrev pub accessedIs : Accessed → Answer Access
 accessedIs (Accessed.Does a) = value a
 accessedIs (Accessed.Refused n) = refusal n

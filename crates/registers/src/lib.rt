@@ -1,5 +1,5 @@
-// What a step does to the chip, as data: the register, its bits and the value. Whoever reads and writes registers goes by
-// this alone: targets/firmware/execute.c.
+// The register access of a step, as data: the address, the mask and the value. The code that touches registers uses
+// only this (targets/firmware/execute.c).
 mod place;
 mod row;
 
@@ -10,8 +10,8 @@ use step::kind;
 ghost use mathlib.Core.Path.{_≡_};
 ghost use Rattle.registers.specs.Access.{has, accessOf, accessAt, accessedIs};
 
-// What to do: 0 nothing, 1 write the value to the whole register, 2 change the register's bits in the mask to the value's,
-// 3 wait until the register's bits in the mask are the value, 4 let as many processor cycles pass as the value says.
+// An access, by its op: 0 does nothing, 1 writes the value to the whole register, 2 sets the bits in the mask to
+// those of the value, 3 waits until the bits in the mask equal the value, 4 lets `value` processor cycles pass.
 pub struct Access {
     pub op: u8,
     pub address: u32,
@@ -19,6 +19,7 @@ pub struct Access {
     pub value: u32,
 }
 
+// An access, or the number of a refusal.
 pub enum Accessed {
     Does(Access),
     Refused(u8),
@@ -41,7 +42,7 @@ fn has(chip: Chip, kind: u8) -> bool
     }
 }
 
-// What a step does on a chip. Refusal 20: the chip has no step of this kind.
+// Answers the access of a step on a chip; refuses with 20 a kind that the chip does not have.
 pub fn access_of(chip: Chip, s: Step) -> Accessed
     ensures { λ r. ⌜ accessedIs r ≡ accessOf chip s ⌝ }
 {
@@ -51,7 +52,7 @@ pub fn access_of(chip: Chip, s: Step) -> Accessed
     Accessed::Does(row::row(chip, s))
 }
 
-// What the step at a position of a sheet does. Refusal 20: no step stands there, or none of this chip.
+// Answers the access of the step at a position of a sheet; refuses with 20 where no valid step of this chip is there.
 pub fn access_at(chip: Chip, sheet: &[u8], position: u32) -> Accessed
     ensures { λ r. ⌜ accessedIs r ≡ accessAt chip (now (sheet .entry)) position ⌝ }
 {

@@ -1,4 +1,4 @@
--- Steps that are pushed one by one are the listed ones.
+-- The steps that the code appends one by one are the lists `sleepSteps` and `wakeSteps`.
 use Prim.Native.Nat.{ℕ}
 use mathlib.Core.{Path._≡_, Path.refl, Path.ap, Path._∙_, Bool.Bool, Bool.true, Bool.false, List.List}
 use Rattle.sleep.specs.declared.steps.Step.the-variants.{RingStable, CrystalStable, Locked}
@@ -32,7 +32,7 @@ module _ (ws : List ℕ) where
   wake-gathered false false true = record { list = refl; exact = refl }
   wake-gathered false false false = record { list = refl; exact = refl }
 
-  -- the same, call by call
+  -- the same from the equation of each call
   pub wake-built : (crystal usb sys : Bool) (s0 s1 s2 s3 s4 s5 s6 s7 : Steps) → s0 ≡ empty → s1 ≡ put s0 10
       → s2 ≡ pushedIf crystal (put s1 9) CrystalStable → s3 ≡ pushedIf usb (put s2 8) (Locked 1)
       → s4 ≡ pushedIf sys (put s3 7) (Locked 0) → s5 ≡ put (put (put s4 6) 5) 3 → s6 ≡ put (put (put s5 4) 2) 1

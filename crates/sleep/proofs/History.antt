@@ -1,4 +1,5 @@
--- After any history, a wake puts back the words of the last sleep in its slot.
+-- After any history, a wake restores the words of the last sleep in its slot, since only a sleep changes a slot, and
+-- only its own.
 use Prim.Native.Nat.{ℕ, zero, suc, _<_, _≤_}
 use native.Mathlib.Omega.{arith}
 use mathlib.Core.{Path._≡_, Path.refl, Path.sym, Path.ap, Path._∙_, Bool.Bool, Bool.true, Bool.false}
@@ -14,7 +15,7 @@ use Rattle.sleep.proofs.Replay.{either-way, length-replayed, wake-resto
 
 -- ---- a call
 
--- a sleep changes its own slot alone
+-- a sleep changes only its own slot
 sleep-slot : (slots : List Slot) (at slot : ℕ) (ws : List ℕ) → length slots ≡ 4 → slot < 4
     → slotAt (sleepOf slots at ws .slots) slot ≡ pick (eqb at slot) (saved ws) (slotAt slots slot)
 unfolding sleepOf
@@ -37,7 +38,7 @@ wake-slots slots at ws =
 
 -- ---- a history
 
--- what a slot holds after its last sleep
+-- the contents of a slot after its last sleep
 abbrev holding : Option (List ℕ) → Slot
 holding (some ws) = saved ws
 holding none = unsaved
@@ -78,7 +79,7 @@ module _ (registers : List ℕ) (n : length registers ≡ 11) where
       ∙ stay-eleven h
   stay-eleven (writes i v ∷ h) = length-set (boardAfter registers h .registers) i v ∙ stay-eleven h
 
-  -- each slot holds what its last sleep saved
+  -- each slot holds the words that its last sleep saved
   held : (h : List SleepEvent) (slot : ℕ) → slot < 4 → slotAt (boardAfter registers h .slots) slot ≡ holding (lastSleep h slot)
   unfolding boardAfter happens lastSleep
   held [] slot k = fresh-slot slot k

@@ -1,4 +1,4 @@
--- The writes of an answer lead from the words handed in to the words answered, in the order of docs/SLEEP.md.
+-- The writes of an answer turn any registers into the words of the outcome, in the order of docs/SLEEP.md.
 use Prim.Native.Nat.{ℕ, suc}
 use native.Mathlib.Omega.{arith}
 use mathlib.Core.{Path._≡_, Path.refl, Path._∙_, Bool.Bool, Bool.true, Bool.false, List.List, List.[], List._∷_, List._++_}
@@ -10,7 +10,7 @@ use Rattle.sleep.specs.{Bits.pllRuns, Bits.crystalRuns, Words.wordIn, Wo
 use Rattle.sleep.specs.Sleep.{answerSteps, waitIf, sleepSteps, wakeStepsBy, wakeSteps, slotAt, sleepOf, wakeOf}
 use Rattle.sleep.specs.History.{written, replayed, order, waitSteps}
 
--- a test, either way
+-- a case split on a test
 pub either-way : {C : Type 0} (t : Bool) → (t ≡ true → C) → (t ≡ false → C) → C
 either-way true f g = f refl
 either-way false f g = g refl
@@ -36,7 +36,7 @@ module _ (P : List ℕ → Type 0) where
   last [] e p = p
   last (a ∷ t) e p = absurd (omega arith)
 
--- a list of eleven, taken apart
+-- a list of eleven words, element by element
 apart : (P : List ℕ → Type 0) (ws : List ℕ) → length ws ≡ 11
     → ((a b c d e f g h i j k : ℕ) → P (a ∷ b ∷ c ∷ d ∷ e ∷ f ∷ g ∷ h ∷ i ∷ j ∷ k ∷ [])) → P ws
 apart P w0 n0 p =
@@ -61,14 +61,14 @@ eleven ws =
 all-eleven : (ws : List ℕ) → length ws ≡ 11 → eleven ws ≡ ws
 all-eleven ws n = apart (λ w. eleven w ≡ w) ws n (λ a b c d e f g h i j k. refl)
 
--- ---- whatever stood in the registers, the steps write each word
+-- ---- the steps write each word, whatever the registers held
 
 sleep-writes : (ws registers : List ℕ) → length registers ≡ 11 → replayed (sleepSteps ws) registers ≡ eleven ws
 unfolding sleepSteps
 sleep-writes ws registers n =
     apart (λ w. replayed (sleepSteps ws) w ≡ eleven ws) registers n (λ a b c d e f g h i j k. refl)
 
--- of a wake's steps something holds whatever it waits for
+-- a property of the steps of a wake holds if it holds for each choice of the waits
 waits-apart : (P : Bool → Bool → Bool → Type 0) (x y z : Bool)
     → P true true true → P true true false → P true false true → P true false false
     → P false true true → P false true false → P false false true → P false false false → P x y z
@@ -101,7 +101,7 @@ module _ (slots : List Slot) (slot : ℕ) (ws : List ℕ) (n : length ws ≡ 11)
   unfolding sleepOf asleep
   sleep-replays = either-way (ltb 3 slot) (λ t. rw t) (λ t. rw t (sleep-writes (asleep ws) ws n))
 
-  -- what is saved are eleven words
+  -- the saved words are eleven
   pub wake-replays : length (slotAt slots slot .words) ≡ 11
       → replayed (answerSteps (wakeOf slots slot ws .answer)) ws ≡ wakeOf slots slot ws .words
   unfolding wakeOf
@@ -128,7 +128,7 @@ module _ (ws : List ℕ) where
   unfolding sleepSteps
   sleep-waits = refl
 
-  -- a wake only for what was running
+  -- a wake waits only for what was running
   pub wake-waits :
       waitSteps (wakeSteps ws)
       ≡ waitIf (crystalRuns (wordIn ws 9)) CrystalStable

@@ -1,4 +1,4 @@
--- Shifts and masks of a 32-bit word as `*`, `/`, `%` and `+`.
+-- Shifts and masks of a 32-bit word are expressed by `*`, `/`, `%` and `+`.
 use mathlib.Core.Path.{_≡_, ap, _∙_}
 use Prim.Native.Nat.{ℕ, _+_, _-_, _*_, _/_, _%_, _^_, _<_}
 use native.Mathlib.{Nat.one-mul, Nat.mod-lt, Omega.arith}
@@ -35,7 +35,7 @@ module _ (low size v w : ℕ) (inside : low + size < 32) (small : v < 2 ^ size) 
       let n : 2 ^ above ≡ 2 ^ size * 2 ^ low = ap (λ (k : ℕ). 2 ^ k) (omega arith) ∙ pow-add 2 size low in
       rw n (digits-lt small (mod-lt w (pow-pos low)))
 
-  -- a word stays a word
+  -- the result fits 32 bits
   pub word-fits : withField low size v w < 4294967296
   word-fits =
       let n : 32 ≡ (32 - above) + above = omega arith in

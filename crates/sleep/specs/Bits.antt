@@ -1,4 +1,4 @@
--- The bits of a register: a field, and those that say what was running (docs/SLEEP.md).
+-- Fields of a register word, and the fields that show whether a PLL or the crystal runs (docs/SLEEP.md).
 use Prim.Native.Nat.{ℕ, _+_, _*_, _/_, _%_, _^_}
 use mathlib.Core.Bool.{Bool, _&&_, not}
 use lib.Dec.{eqb}

@@ -1,4 +1,4 @@
--- What stands in the registers and the slots after any history of sleeps, wakes and other writes.
+-- The registers and the slots after any history of sleeps, wakes and other register writes (docs/SLEEP.md).
 use Prim.Native.Nat.{ℕ, _<_}
 use mathlib.Core.{Path._≡_, List.List, List.[], List._∷_, Option.Option, Option.none, Option.some}
 use lib.{Dec.ltb, Dec.eqb, ListN.length, ListN.set}
@@ -50,7 +50,7 @@ pub data SleepEvent : Type 0 where
   wakes : ℕ → List ℕ → SleepEvent
   writes : ℕ → ℕ → SleepEvent
 
--- a call leaves its slots, and its steps are carried out
+-- the board after a call: the slots are those of the outcome, and its steps are carried out
 abbrev pub moved : Board → SleepOutcome → Board
 moved b o = record { slots = o .slots; registers = replayed (answerSteps (o .answer)) (b .registers) }
 
@@ -71,13 +71,13 @@ lastSleep (sleeps at ws ∷ h) slot = pick (eqb at slot) (some ws) (lastSleep h 
 lastSleep (wakes at ws ∷ h) slot = lastSleep h slot
 lastSleep (writes i v ∷ h) slot = lastSleep h slot
 
--- a wake after it
+-- the outcome of a wake after the last sleep in its slot
 abbrev pub wakeFrom : Option (List ℕ) → List Slot → List ℕ → SleepOutcome
 wakeFrom (some ws) slots handed = woken slots ws
 wakeFrom none slots handed = refusedCall slots handed 30
 
--- Whatever was written, slept or woken before, also in this slot, and whatever words a wake is handed: it answers the
--- words of the last sleep in its slot, and they stand in the registers after it. It is refused where there was none.
+-- After any history, and for any words handed in, a wake answers the words of the last sleep in its slot, and the
+-- registers hold them after it. It is refused with 30 where there was no sleep, and with 29 for a slot over 3.
 pub record Restores (registers : List ℕ) (h : List SleepEvent) (slot : ℕ) (handed : List ℕ) : Type 0 where
   pub answers :
       wakeOf (boardAfter registers h .slots) slot handed

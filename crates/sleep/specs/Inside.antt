@@ -1,4 +1,4 @@
--- Inside: steps gathered one by one.
+-- Internal definitions: the code appends the steps one by one.
 use Prim.Native.Nat.{_+_}
 use mathlib.Core.Bool.{Bool}
 use lib.{Dec.ltb, ListN.set, ListN.replicate}
@@ -12,7 +12,7 @@ item s = record { step = s }
 abbrev pub empty : Steps
 empty = record { items = replicate 14 (item RingStable); len = 0 }
 
--- one step more; a full list stays as it is
+-- the list with a step appended; a full list stays as it is
 unfoldable pub stepPushed : Steps → Step → Steps
 stepPushed s x = pick (ltb (s .len) 14) (record { items = set (s .items) (s .len) (item x); len = s .len + 1 }) s
 

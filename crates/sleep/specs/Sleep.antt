@@ -1,4 +1,4 @@
--- What sleep and wake answer, and the words and slots after them.
+-- Sleep and wake (docs/SLEEP.md): their answers, and the words and slots after them.
 use Prim.Native.Nat.{ℕ, zero, suc, min}
 use mathlib.Core.{Path._≡_, Bool.Bool, Bool.true, Bool.false, List.List, List.[], List._∷_, List._++_}
 use lib.{Dec.ltb, ListN.length, ListN.getD, ListN.set, ListN.replicate}
@@ -9,20 +9,20 @@ use Rattle.sleep.specs.declared.{steps.Item.Item, steps.Steps.Steps, Slo
 use Rattle.sleep.specs.declared.{Answer.the-variants.Done, Answer.the-variants.Refused, Change.Change}
 use Rattle.sleep.specs.{Bits.pllRuns, Bits.crystalRuns, Words.wordIn, Words.asleep}
 
--- a call: its steps or a refusal, and the words and slots after it
+-- the outcome of a call: its steps or a refusal, and the words and slots after it
 pub record SleepOutcome : Type 0 where
   pub answer : Answer (List Step)
   pub words : List ℕ
   pub slots : List Slot
 
--- ---- what the code's answer means
+-- ---- the code's answers as outcomes
 
 -- the first n items
 abbrev pub firstSteps : List Item → ℕ → List Step
 firstSteps items zero = []
 firstSteps items (suc n) = firstSteps items n ++ (getD items n (record { step = Write 0 0 }) .step ∷ [])
 
--- there are fourteen
+-- the steps of a list of at most fourteen
 abbrev pub stepList : Steps → List Step
 stepList s = firstSteps (s .items) (min (s .len) 14)
 
@@ -38,13 +38,13 @@ abbrev pub answerSteps : Answer (List Step) → List Step
 answerSteps (value steps) = steps
 answerSteps (refusal n) = []
 
--- as many steps as the list has, and these; the items past the length are open
+-- the list holds exactly the steps xs; the items past the length are unspecified
 pub record StepsAre (s : Steps) (xs : List Step) : Type 0 where
   pub list : stepList s ≡ xs
   pub exact : s .len ≡ length xs
 
--- what a call promises of all that it answers: no step but those of the outcome, and none after a refusal; the items past
--- the length are open
+-- the contract of a call: it answers the outcome, with exactly its steps and none after a refusal; the items past the
+-- length are unspecified
 pub record Changed (c : Change) (o : SleepOutcome) : Type 0 where
   pub outcome : changeIs c ≡ o
   pub exact : c .steps .len ≡ length (answerSteps (o .answer))
@@ -54,13 +54,13 @@ pub record Changed (c : Change) (o : SleepOutcome) : Type 0 where
 abbrev pub write : List ℕ → ℕ → Step
 write ws i = Write i (wordIn ws i)
 
--- to sleep: from the first register to the last; the ring is stable before anything runs from it
+-- into sleep: from the first register to the last; the ring is stable before any clock runs from it
 unfoldable pub sleepSteps : List ℕ → List Step
 sleepSteps ws =
     write ws 0 ∷ write ws 1 ∷ write ws 2 ∷ write ws 3 ∷ write ws 4 ∷ RingStable
     ∷ write ws 5 ∷ write ws 6 ∷ write ws 7 ∷ write ws 8 ∷ write ws 9 ∷ write ws 10 ∷ []
 
--- a wait, where there is something to wait for
+-- a wait, if what it waits for was running
 abbrev pub waitIf : Bool → Step → List Step
 waitIf running wait = pick running (wait ∷ []) []
 
@@ -73,11 +73,11 @@ wakeStepsBy ws crystal usb sys =
     ++ (write ws 7 ∷ (waitIf sys (Locked 0)
     ++ (write ws 6 ∷ write ws 5 ∷ write ws 3 ∷ write ws 4 ∷ write ws 2 ∷ write ws 1 ∷ write ws 0 ∷ []))))))
 
--- what was running is waited for, and nothing else
+-- a wake waits exactly for what was running
 abbrev pub wakeSteps : List ℕ → List Step
 wakeSteps ws = wakeStepsBy ws (crystalRuns (wordIn ws 9)) (pllRuns (wordIn ws 8)) (pllRuns (wordIn ws 7))
 
--- ---- the calls, with the four slots, a slot's number and the words handed in
+-- ---- the calls: they take the four slots, the number of a slot and the words handed in
 
 abbrev pub unsaved : Slot
 unsaved = record { saved = false; words = replicate 11 0 }
@@ -88,7 +88,7 @@ saved ws = record { saved = true; words = ws }
 abbrev pub freshSlots : List Slot
 freshSlots = replicate 4 unsaved
 
--- past the last slot there is nothing
+-- the slot with this number; the filler past the fourth is never read
 abbrev pub slotAt : List Slot → ℕ → Slot
 slotAt slots i = getD slots i (record { saved = false; words = [] })
 
@@ -103,7 +103,7 @@ slept slots slot ws =
 unfoldable pub sleepOf : List Slot → ℕ → List ℕ → SleepOutcome
 sleepOf slots slot ws = pick (ltb 3 slot) (refusedCall slots ws 29) (slept slots slot ws)
 
--- the words saved come back, and stay saved
+-- the saved words come back, and stay saved
 abbrev pub woken : List Slot → List ℕ → SleepOutcome
 woken slots ws = record { answer = value (wakeSteps ws); words = ws; slots = slots }
 

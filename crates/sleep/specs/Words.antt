@@ -8,7 +8,7 @@ use Rattle.sleep.specs.Bits.{withField, pllOff}
 abbrev pub wordIn : List ℕ → ℕ → ℕ
 wordIn ws i = getD ws i 0
 
--- the words of a sleeping chip: the fields that sleep sets, from their lowest bit, by size and value
+-- the words of a sleeping chip: each field that sleep sets, by its lowest bit, its size and its value
 unfoldable pub asleep : List ℕ → List ℕ
 asleep ws =
     withField 11 1 0 (wordIn ws 0)  -- CLK_ADC_CTRL: ENABLE 0

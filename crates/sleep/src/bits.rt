@@ -1,4 +1,4 @@
-// The bits of a register: a field, and those that say what was running (RP2040 datasheet, register tables).
+// Fields of a register word, and the fields that show whether a PLL or the crystal runs (RP2040 datasheet, register tables).
 ghost use mathlib.Core.Path.{_≡_};
 ghost use Prim.Native.Nat.{_+_, _^_, _<_};
 ghost use Rattle.sleep.specs.Bits.{field, withField, pllOff, pllRuns, crystalRuns};
@@ -11,7 +11,7 @@ fn field(word: u32, low: u32, size: u32) -> u32
     (word >> low) & ((1u32 << size) - 1)
 }
 
-// The word with that field set to a value.
+// The word with the field of `size` bits from bit `low` up set to a value.
 pub(crate) fn with_field(word: u32, low: u32, size: u32, value: u32) -> u32
     requires { ⌜ (low + size < 32) × (value < 2 ^ size) ⌝ }
     ensures { λ r. ⌜ r ≡ withField low size value word ⌝ }

@@ -1,5 +1,5 @@
-// Sleep and wake over eleven register words of the RP2040, the register part of the Rust's `dormant_sleep`.
-// Four slots keep the words handed to a sleep; a wake restores them (docs/SLEEP.md).
+// Sleep and wake over eleven register words of the RP2040 (docs/SLEEP.md), the register part of the Rust's
+// `dormant_sleep`. Four slots keep the words handed to a sleep; a wake restores them.
 mod bits;
 pub mod steps;
 
@@ -9,18 +9,19 @@ ghost use mathlib.Core.Path.{_≡_};
 ghost use Rattle.sleep.specs.Words.{asleep};
 ghost use Rattle.sleep.specs.Sleep.{Changed, freshSlots, refusedCall, sleepOf, wakeOf};
 
-// Whether a sleep was saved here, and the words handed to the last one.
+// A slot: whether it holds a sleep, and the words handed to the last one.
 pub struct Slot {
     pub saved: bool,
     pub words: [u32; 11],
 }
 
+// Whether a call was carried out, or the number of its refusal.
 pub enum Answer {
     Done,
     Refused(u8),
 }
 
-// What a call answers: its steps or a refusal, and the words and slots after it.
+// The result of a call: its steps or a refusal, and the words and slots after it.
 pub struct Change {
     pub answer: Answer,
     pub steps: Steps,
@@ -39,6 +40,7 @@ pub fn fresh_slots() -> [Slot; 4]
     [none; 4]
 }
 
+// A refusal: no steps, and words and slots unchanged.
 fn refused(slots: [Slot; 4], words: [u32; 11], number: u8) -> Change
     ensures { λ r. ⌜ Changed r (refusedCall slots words number) ⌝ }
 {
@@ -50,7 +52,7 @@ fn refused(slots: [Slot; 4], words: [u32; 11], number: u8) -> Change
     }
 }
 
-// The words of a sleeping chip: the fields that sleep sets, by their bits.
+// The words of a sleeping chip: sleep sets these fields and keeps the other bits.
 fn asleep(words: [u32; 11]) -> [u32; 11]
     ensures { λ r. ⌜ r ≡ asleep words ⌝ }
 {
@@ -70,7 +72,7 @@ fn asleep(words: [u32; 11]) -> [u32; 11]
     ]
 }
 
-// Saves the words in the slot, and puts the chip to sleep.
+// Saves the words in a slot and answers the steps into sleep; refuses with 29 a slot over 3.
 pub fn sleep(slots: [Slot; 4], slot: u8, words: [u32; 11]) -> Change
     ensures { λ r. ⌜ Changed r (sleepOf slots slot words) ⌝ }
 {
@@ -89,8 +91,8 @@ pub fn sleep(slots: [Slot; 4], slot: u8, words: [u32; 11]) -> Change
     }
 }
 
-// Restores the words of the last sleep saved in the slot, which keeps them. The words handed in are answered with a
-// refusal alone.
+// Answers the steps back to the words of the last sleep in a slot, which keeps them; refuses with 29 a slot over 3,
+// and with 30 a slot that holds no sleep. The words handed in come back only with a refusal.
 pub fn wake(slots: [Slot; 4], slot: u8, handed: [u32; 11]) -> Change
     ensures { λ r. ⌜ Changed r (wakeOf slots slot handed) ⌝ }
 {

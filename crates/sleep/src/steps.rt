@@ -1,4 +1,4 @@
-// The steps of a sleep or a wake, in order.
+// The steps of a sleep or a wake, in the order of docs/SLEEP.md.
 use crate::bits;
 ghost use mathlib.Core.Path.{_≡_};
 ghost use Prim.Native.Nat.{_<_};
@@ -6,6 +6,7 @@ ghost use Rattle.sleep.specs.Sleep.{StepsAre, write, sleepSteps, wakeSte
 ghost use Rattle.sleep.specs.Inside.{empty, stepPushed, pushedIf};
 ghost use Rattle.sleep.specs.declared.steps.Step.the-variants.{Write};
 
+// A step: a register write or a wait.
 pub enum Step {
     // Write the value to one of the eleven registers.
     Write { register: u8, value: u32 },
@@ -17,17 +18,18 @@ pub enum Step {
     Locked(u8),
 }
 
-// An array in a struct holds structs.
+// A step wrapped in a struct, since an array within a struct holds structs only.
 pub struct Item {
     pub step: Step,
 }
 
-// The first `len` of the items are the steps; those after them are open.
+// A list of at most 14 steps: the first `len` items. The items after them are unspecified.
 pub struct Steps {
     pub items: [Item; 14],
     pub len: usize,
 }
 
+// The empty list.
 pub(crate) fn none() -> Steps
     ensures { λ r. ⌜ r ≡ empty ⌝ }
 {
@@ -41,7 +43,7 @@ pub(crate) fn none() -> Steps
 }
 
 impl Steps {
-    // One step more; a full list stays as it is.
+    // Appends a step; a full list stays as it is.
     fn push(self, step: Step) -> Steps
         ensures { λ r. ⌜ r ≡ stepPushed self step ⌝ }
     {
@@ -55,13 +57,14 @@ impl Steps {
         self
     }
 
+    // Appends a write.
     fn write(self, register: u8, value: u32) -> Steps
         ensures { λ r. ⌜ r ≡ stepPushed self (Write register value) ⌝ }
     {
         self.push(Step::Write { register, value })
     }
 
-    // Three of the words, to their registers.
+    // Appends the writes of three of the words to their registers.
     fn write3(self, words: [u32; 11], i: u8, j: u8, k: u8) -> Steps
         requires { ⌜ (i < 11) × (j < 11) × (k < 11) ⌝ }
         ensures { λ r. ⌜ r ≡ stepPushed (stepPushed (stepPushed self (write words i)) (write words j)) (write words k) ⌝ }
@@ -71,7 +74,7 @@ impl Steps {
             .write(k, words[k as usize])
     }
 
-    // A word back, with a wait where it says that what it controls was running.
+    // Appends the write of a saved word, followed by the wait if what it controls was running.
     fn restore(self, register: u8, word: u32, running: bool, wait: Step) -> Steps
         ensures { λ r. ⌜ r ≡ pushedIf running (stepPushed self (Write register word)) wait ⌝ }
     {
@@ -83,7 +86,7 @@ impl Steps {
     }
 }
 
-// The steps to the words of a sleeping chip.
+// The steps into sleep, which write the words of a sleeping chip.
 pub(crate) fn to_sleep(words: [u32; 11]) -> Steps
     ensures { λ r. ⌜ StepsAre r (sleepSteps words) ⌝ }
 {
@@ -95,7 +98,7 @@ pub(crate) fn to_sleep(words: [u32; 11]) -> Steps
         .write3(words, 8, 9, 10)
 }
 
-// The steps back to the words of a chip that was awake.
+// The steps of a wake, which write the saved words back.
 pub(crate) fn to_wake(words: [u32; 11]) -> Steps
     ensures { λ r. ⌜ StepsAre r (wakeSteps words) ⌝ }
 {

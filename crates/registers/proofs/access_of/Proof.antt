@@ -1,4 +1,4 @@
--- `registers::access_of` meets its contract.
+-- `registers::access_of` meets its contract: `has` decides the refusal, and `row` gives the access.
 use borrow.Author.Tests.{not-true, not-false}
 use Rattle.registers.specs.Access.{accessOf}
 use borrow.Author.Needs.{needs}

@@ -1,4 +1,4 @@
--- `registers::has` meets its contract.
+-- `registers::has` meets its contract: the chip picks the case of `has`, and `in_range` gives the range of its kinds.
 use Rattle.registers.specs.Access.{has}
 use borrow.Author.Needs.{needs}
 use Rattle.registers.proofs.has.Statement.{statement}

@@ -1,4 +1,5 @@
--- `sleep::asleep` meets its contract.
+-- `sleep::asleep` meets its contract: each of the eleven words is the result of `with_field` or `pll_off`, and the list
+-- is equal word by word.
 use mathlib.Core.{List.[], List._∷_, Path.ap, Path._∙_}
 use Rattle.sleep.specs.{Bits.withField, Words.asleep}
 use borrow.Author.Needs.{needs}

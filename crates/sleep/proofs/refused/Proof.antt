@@ -1,4 +1,4 @@
--- `sleep::refused` meets its contract.
+-- `sleep::refused` meets its contract: the fields are those of `refusedCall`, and `none` has length 0.
 use mathlib.Core.Path.{refl}
 use borrow.Author.Needs.{needs}
 use Rattle.sleep.proofs.refused.Statement.{statement}

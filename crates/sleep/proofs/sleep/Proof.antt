@@ -1,4 +1,5 @@
--- `sleep::sleep` meets its contract.
+-- `sleep::sleep` meets its contract: the comparison with 3 decides refusal 29; else the words are those of `asleep` and
+-- the steps those of `to_sleep`.
 use borrow.{Author.Needs.needs, Author.Tests.lt-ltb, Author.Tests.le-ltb}
 use Rattle.sleep.specs.Sleep.{sleepOf}
 use Rattle.sleep.proofs.sleep.Statement.{statement}

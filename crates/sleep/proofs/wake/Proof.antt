@@ -1,4 +1,5 @@
--- `sleep::wake` meets its contract.
+-- `sleep::wake` meets its contract: the comparison with 3 decides refusal 29 and the saved mark refusal 30; else the
+-- words are the slot's and the steps those of `to_wake`.
 use borrow.{Author.Needs.needs, Author.Tests.lt-ltb, Author.Tests.le-ltb}
 use Rattle.sleep.specs.Sleep.{wakeOf}
 use Rattle.sleep.proofs.wake.Statement.{statement}

@@ -1,4 +1,4 @@
--- `sleep::bits::crystal_runs` meets its contract.
+-- `sleep::bits::crystal_runs` meets its contract: `field` gives the ENABLE field, whose comparison is `crystalRuns`.
 use borrow.Author.Needs.{needs}
 use Rattle.sleep.proofs.bits.crystal_runs.Statement.{statement}
 use Rattle.sleep.proofs.bits.crystal_runs.Tie as tie

@@ -1,4 +1,5 @@
--- `sleep::bits::field` meets its contract.
+-- `sleep::bits::field` meets its contract: `one-shl` makes the mask 2 to the power of the size less 1, and masking by
+-- it is the remainder (`low-bits`).
 use borrow.Author.Needs.{needs}
 use Prim.Native.Nat.{_/_, _^_}
 use native.Mathlib.Omega.{arith}

@@ -1,4 +1,4 @@
--- `sleep::bits::pll_off` meets its contract.
+-- `sleep::bits::pll_off` meets its contract: the two calls of `with_field` set PD and VCOPD in turn.
 use borrow.Author.Needs.{needs}
 use Rattle.sleep.proofs.bits.pll_off.Statement.{statement}
 use Rattle.sleep.proofs.bits.pll_off.Tie as tie

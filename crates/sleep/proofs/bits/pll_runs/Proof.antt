@@ -1,4 +1,4 @@
--- `sleep::bits::pll_runs` meets its contract.
+-- `sleep::bits::pll_runs` meets its contract: the two calls of `field` give the bits of `pllRuns`.
 use borrow.Author.Needs.{needs}
 use Rattle.sleep.proofs.bits.pll_runs.Statement.{statement}
 use Rattle.sleep.proofs.bits.pll_runs.Tie as tie

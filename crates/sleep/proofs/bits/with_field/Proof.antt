@@ -1,4 +1,5 @@
--- `sleep::bits::with_field` meets its contract.
+-- `sleep::bits::with_field` meets its contract: neither shift loses a bit (`high-exact`, `value-exact`), and the parts
+-- above, in and below the field add up to a 32-bit word (`word-fits`).
 use borrow.Author.Needs.{needs}
 use native.Mathlib.{Nat.div-one, Omega.arith}
 use Rattle.sleep.proofs.{Words.high-exact, Words.value-exact, Words.word-fits, bits.with_field.Statement.statement}

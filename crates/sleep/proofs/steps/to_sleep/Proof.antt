@@ -1,4 +1,5 @@
--- `sleep::steps::to_sleep` meets its contract.
+-- `sleep::steps::to_sleep` meets its contract: the equations of the appending calls compose to a list whose steps are
+-- `sleepSteps` (`sleep-gathered`).
 use Rattle.sleep.proofs.{Gathered.sleep-gathered, steps.to_sleep.Statement.statement}
 use borrow.Author.Needs.{needs}
 use Rattle.sleep.proofs.steps.to_sleep.Tie as tie

@@ -1,4 +1,5 @@
--- `sleep::steps::to_wake` meets its contract.
+-- `sleep::steps::to_wake` meets its contract: the equations of the appending calls compose to a list whose steps are
+-- `wakeSteps`, for each of the three running flags (`wake-built`).
 use Rattle.sleep.proofs.{Gathered.wake-built, steps.to_wake.Statement.statement}
 use borrow.Author.Needs.{needs}
 use Rattle.sleep.proofs.steps.to_wake.Tie as tie

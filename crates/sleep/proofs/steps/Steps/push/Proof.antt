@@ -1,4 +1,4 @@
--- `sleep::steps::Steps::push` meets its contract.
+-- `sleep::steps::Steps::push` meets its contract: the comparison of the length with 14 decides the test of `stepPushed`.
 use borrow.{Author.Tests.lt-ltb, Author.Tests.le-ltb, Author.Needs.needs}
 use Rattle.sleep.specs.Inside.{stepPushed}
 use Rattle.sleep.proofs.steps.Steps.push.Statement.{statement}

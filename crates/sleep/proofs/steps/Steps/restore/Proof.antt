@@ -1,4 +1,5 @@
--- `sleep::steps::Steps::restore` meets its contract.
+-- `sleep::steps::Steps::restore` meets its contract: `write` appends the word, and the flag decides whether `push`
+-- appends the wait.
 use Rattle.sleep.specs.Inside.{pushedIf}
 use borrow.Author.Needs.{needs}
 use Rattle.sleep.proofs.steps.Steps.restore.Statement.{statement}

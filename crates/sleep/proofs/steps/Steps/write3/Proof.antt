@@ -1,4 +1,4 @@
--- `sleep::steps::Steps::write3` meets its contract.
+-- `sleep::steps::Steps::write3` meets its contract: the equations of the three calls of `write` compose.
 use borrow.Author.Needs.{needs}
 use Rattle.sleep.proofs.steps.Steps.write3.Statement.{statement}
 use Rattle.sleep.proofs.steps.Steps.write3.Tie as tie
