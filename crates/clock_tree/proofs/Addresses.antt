@@ -1,4 +1,4 @@
--- Which addresses steps may change, and that all others keep their values.
+-- The addresses that steps may change; all others keep their values.
 use mathlib.Core.{Bool.Bool, Bool.true, Bool.false, Bool._&&_, Bool._||_, Path._≡_, Path.refl, Path.sym, Path.ap, Path._∙_}
 use mathlib.Core.List.{List, [], _∷_, _++_}
 use Prim.Native.Nat.{ℕ}
@@ -43,7 +43,7 @@ outside x (z ∷ xs) ys h k =
     let both = both-true (member z ys) (within xs ys) h in
     rw (differ z x ys (both .0) k, outside x xs ys (both .1) k)
 
--- what an access may change: its register; at RESET the PLLs' PWR too
+-- the addresses that an access may change: its register, and at RESET also PWR of the PLLs
 abbrev reaches : Chip → Answer Access → List ℕ
 reaches c (value a) =
     pick (eqb (a .op) 1 || eqb (a .op) 2)

@@ -1,4 +1,4 @@
--- Every step of a sheet is one that its chip carries out: part by part.
+-- Every step of a sheet is one that its chip carries out, since this holds of each part.
 use mathlib.Core.{Bool.true, Path._≡_, Path.refl, List.List, List.[], List._∷_, List._++_}
 use Prim.Native.Nat.{ℕ}
 use Rattle.base.proofs.Bools.{both-true}

@@ -1,4 +1,4 @@
--- What the registers' values give: each source and each divider that the parts set is read back.
+-- The values that the parts write give back each source and each divider of the settings.
 use mathlib.Core.{Bool.true, Bool.false, Path._≡_, Path.refl, Path.ap, Path.ap₂, Path._∙_}
 use mathlib.Core.List.{[], _∷_}
 use Prim.Native.Nat.{ℕ, zero, suc, _+_, _/_, _%_, _≤_, _<_}

@@ -1,4 +1,5 @@
--- The parts of a sheet: each step is one of the chip, and a part changes no register but its own. Each by its kinds alone.
+-- In each part of a sheet every step is one of the chip, and the part changes only its own registers; both follow
+-- from the kinds of its steps.
 use mathlib.Core.{Bool.Bool, Bool.true, Bool.false, Path._≡_, Path.refl, List.List, List.[], List._∷_, List._++_}
 use Prim.Native.Nat.{ℕ}
 use lib.Dec.{eqb}
@@ -27,7 +28,7 @@ pub record On (c : Chip) (own : List ℕ) (xs : List Step) : Type 0 where
   pub all : carries c xs ≡ true
   pub inside : within (reach c xs) own ≡ true
 
--- a part without a wait: whatever is asked at waits holds
+-- a part without a wait, for which any test at waits holds
 pub record Calm (c : Chip) (own : List ℕ) (xs : List Step) : Type 0 where
   pub on : On c own xs
   pub calm : (test : Access → (ℕ → ℕ) → Bool) (file : ℕ → ℕ) → allWaits c test xs file ≡ true

@@ -1,5 +1,5 @@
--- The registers after the crystal presets' sheets at reading 11, whatever they held before: every register that a sheet of the
--- preset touches, by its address.
+-- The registers after the sheets of the crystal presets at reading 11, from any values before: every register that
+-- the sheet touches, by its address.
 use mathlib.Core.{Path._≡_, Path.refl, List.List, List.[], List._∷_, List.map}
 use Prim.Native.Nat.{ℕ}
 use Rattle.chip.specs.declared.Chip.{Chip}
@@ -17,7 +17,7 @@ use Rattle.clock_tree.specs.Machine.{carriedOut}
 abbrev pub presetLeaves : Chip → (ℕ → ℕ) → List ℕ → List ℕ
 presetLeaves c before = map (carriedOut c (stepsOf 11 (settingsOf (crystalPlan c 12000000) 11)) before)
 
--- 125 MHz of 12 MHz
+-- the RP2040: 125 MHz from 12 MHz
 pub crystal-2040 : (before : ℕ → ℕ)
     → presetLeaves Rp2040 before
     (0x4000C000  -- RESET
@@ -46,7 +46,7 @@ unfolding startupSum cyclesPerUs settlingCycles dividedHz settlingStep pllHz sou
     crystalPart switchSteps sysPart periPart auxPart rtcPart clocksPart stepsOf has rows accessOf releaseMask
 crystal-2040 before = refl
 
--- 150 MHz of 12 MHz
+-- the RP235x: 150 MHz from 12 MHz
 pub crystal-235x : (before : ℕ → ℕ)
     → presetLeaves Rp235x before
     (0x40020000  -- RESET

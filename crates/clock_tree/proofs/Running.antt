@@ -1,5 +1,5 @@
--- What runs from part to part, up to the crystal's: the ring from the start, the crystal and the PLLs that the plan has from
--- their part on.
+-- The sources that run after each part, up to the crystal's part: the ring runs from the start, the crystal and the
+-- PLLs of the plan from their part on.
 use mathlib.Core.{Bool.Bool, Bool.true, Bool.false, Bool._&&_, Bool.not, Path._≡_, Path.refl, Path.ap, Path._∙_}
 use mathlib.Core.List.{[], _∷_}
 use Prim.Native.Nat.{ℕ, zero, suc}
@@ -24,7 +24,7 @@ use Rattle.clock_tree.proofs.Walk.{Walk, keeps}
 use Rattle.clock_tree.proofs.Set.{range-on, PllSet, CrystalSet, crystal-sets}
 use Rattle.clock_tree.proofs.{Hz.pll-on, Times.held-none, Waits.sys-cleared, Waits.ref-cleared}
 
--- ---- what holds of the file between the parts
+-- ---- the file between the parts
 
 pub record Awake (c : Chip) (file : ℕ → ℕ) : Type 0 where
   pub ring : oscillates (file (ROSC-CTRL c)) ≡ true
@@ -57,7 +57,7 @@ unfolding accessOf has rows
 mark Rp2040 = record { walk = λ file p. (refl, p) }
 mark Rp235x = record { walk = λ file p. (refl, record { ring = p .ring; reference = p .reference }) }
 
--- a source that ran runs on where its PLL is out of reset
+-- a source that ran still runs if its PLL is out of reset
 runs-on : (m n : ℕ) (ring xosc p q u v h : Bool)
     → getD (ring ∷ getD ((p && ((q && (u && not h)) && v)) ∷ []) n false ∷ xosc ∷ []) m false ≡ true
     → getD (ring ∷ getD ((p && ((q && (u && true)) && v)) ∷ []) n false ∷ xosc ∷ []) m false ≡ true
@@ -158,7 +158,7 @@ crystal-quiet Rp235x delay (OptionPll.Some p) OptionPll.None file = refl
 crystal-quiet Rp235x delay OptionPll.None (OptionPll.Some q) file = refl
 crystal-quiet Rp235x delay OptionPll.None OptionPll.None file = refl
 
--- and keeps the ring and RESET
+-- the crystal's part keeps the ring and RESET
 crystal-apart : (c : Chip) → (member (ROSC-CTRL c) (crystalOwn c) ≡ false) × (member (RESET c) (crystalOwn c) ≡ false)
 crystal-apart Rp2040 = (refl, refl)
 crystal-apart Rp235x = (refl, refl)

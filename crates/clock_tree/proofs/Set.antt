@@ -1,4 +1,4 @@
--- What each part sets: by its steps, for either chip, from any file.
+-- The registers after each part, by its steps, for either chip and from any file.
 use mathlib.Core.{Bool.Bool, Bool.true, Bool.false, Path._≡_, Path.refl, Path.ap, Path._∙_}
 use Prim.Native.Nat.{ℕ, _+_, _-_, _%_}
 use native.Mathlib.Omega.{arith}
@@ -46,7 +46,7 @@ ring-sets Rp2040 pass (OptionRosc.Some r) file = ap (λ (on : Bool). pick on (r 
 ring-sets Rp235x pass (OptionRosc.Some r) file = ap (λ (on : Bool). pick on (r .hz) 0) (range-on (r .range))
 ring-sets c pass OptionRosc.None file = zero-hz (oscillates (carriedOut c (ringPart pass OptionRosc.None) file (ROSC-CTRL c)))
 
--- a PLL's registers hold what its setting asks; one that is absent has no power
+-- the registers of a PLL hold its setting; an absent PLL has no power
 abbrev pub PllSet : Chip → ℕ → OptionPll → (ℕ → ℕ) → Type 0
 PllSet c w (OptionPll.Some p) file =
     (file (PLL-PWR c w) ≡ 4)
@@ -55,7 +55,7 @@ PllSet c w (OptionPll.Some p) file =
     × (file (PLL-PRIM c w) ≡ POSTDIV1 (p .«post_div1») + POSTDIV2 (p .«post_div2»))
 PllSet c w OptionPll.None file = file (PLL-PWR c w) ≡ 0x2D
 
--- from one file to another that agrees
+-- the same for another file that agrees on these registers
 pub pll-moves : (c : Chip) (w : ℕ) (o : OptionPll) (f g : ℕ → ℕ) → f (PLL-PWR c w) ≡ g (PLL-PWR c w)
     → f (PLL-CS c w) ≡ g (PLL-CS c w) → f (PLL-FBDIV-INT c w) ≡ g (PLL-FBDIV-INT c w) → f (PLL-PRIM c w) ≡ g (PLL-PRIM c w)
     → PllSet c w o g → PllSet c w o f

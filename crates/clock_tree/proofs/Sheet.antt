@@ -1,4 +1,4 @@
--- A sheet is its parts one after another, and the last part that has a register says what it holds.
+-- A sheet is its parts one after another, and the last part that has a register decides its value.
 use mathlib.Core.{Bool.false, Path._≡_, Path.refl, Path.sym, Path.ap, Path._∙_}
 use mathlib.Core.List.{List, [], _∷_, _++_}
 use Prim.Native.Nat.{ℕ, zero, suc}
@@ -45,7 +45,7 @@ parts-keep c (o ∷ os) (p ∷ ps) all x h file =
     ∙ parts-keep c os ps (all .1) x (both .1) (carriedOut c p file)
     ∙ steps-keep c p file x (outside x (reach c p) o (all .0 .inside) (both .0))
 
--- what part k leaves in a register that no later part has
+-- a register that no later part has keeps the value of part k
 wins : (c : Chip) (k : ℕ) (os : List (List ℕ)) (ps : List (List Step)) → All c os ps
     → (x : ℕ) → member x (joined (drop (suc k) os)) ≡ false → (file : ℕ → ℕ)
     → carriedOut c (joined ps) file x ≡ carriedOut c (getD ps k []) (carriedOut c (joined (take k ps)) file) x
@@ -125,7 +125,7 @@ all-parts reading s =
 abbrev pub upTo : ℕ → ℕ → Settings → (ℕ → ℕ) → (ℕ → ℕ)
 upTo n reading s before = carriedOut (s .board .chip) (joined (take n (partsOf reading s))) before
 
--- a register that no part from k + 1 to n has holds what part k left
+-- a register that no part from k + 1 to n has keeps the value of part k
 pub holds : (n k reading : ℕ) (s : Settings) (before : ℕ → ℕ) (x : ℕ)
     → member x (joined (drop (suc k) (take n (owns (s .board .chip))))) ≡ false
     → upTo n reading s before x
@@ -136,7 +136,7 @@ holds n k reading s before x h =
     wins c k (take n (owns c)) (take n (partsOf reading s)) (all-take c n (owns c) (partsOf reading s) (all-parts reading s))
     x h before
 
--- and one that none of them has is as it was
+-- a register that none of them has is unchanged
 pub stays : (n reading : ℕ) (s : Settings) (before : ℕ → ℕ) (x : ℕ)
     → member x (joined (take n (owns (s .board .chip)))) ≡ false → upTo n reading s before x ≡ before x
 stays n reading s before x h =

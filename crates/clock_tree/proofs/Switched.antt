@@ -1,4 +1,5 @@
--- The source that a clock is switched to runs: an accepted plan's reference and system clock have no source of 0 Hz.
+-- The source that a clock is switched to runs, since the reference and system clocks of an accepted plan have no
+-- source of 0 Hz.
 use mathlib.Core.{Bool.Bool, Bool.true, Bool.false, Bool._&&_, Path._≡_, Path.refl, Path.ap}
 use Prim.Native.Nat.{ℕ, _+_, _*_, _/_}
 use native.Mathlib.{Nat.div-le-self, Omega.arith}
@@ -41,7 +42,7 @@ unfolding accessOf has rows
 moved Rp2040 f stored r file p = record { ring = p .ring; xosc = p .xosc; sys = p .sys; usb = p .usb }
 moved Rp235x f stored r file p = record { ring = p .ring; xosc = p .xosc; sys = p .sys; usb = p .usb }
 
--- and its source runs
+-- the source of the reference clock runs
 ref-runs : (c : Chip) (f : Sources) (stored div : ℕ) (src : RefClkSrc) → NonZero (refSource f src)
     → Walk c (sourceRuns c) (Running c f) (Referred c f) (refPart c stored (record { src = src; div = div }))
 unfolding accessOf has rows

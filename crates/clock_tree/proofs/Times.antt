@@ -1,4 +1,5 @@
--- The times are true: for each register of the clock tree the last part that has it, then what its value gives.
+-- The stored frequencies are true: the last part that writes a register of the clock tree fixes its value, and that
+-- value gives the stored frequency.
 use mathlib.Core.{Bool.Bool, Bool.false, Bool._||_, Path._≡_, Path.refl, Path.ap, Path._∙_}
 use mathlib.Core.List.{List, [], _∷_}
 use Prim.Native.Nat.{ℕ, suc, _≤_}
@@ -165,7 +166,7 @@ sources-are reading s before ok =
     ∙ ring-sets c (factsOf c .pass) (s .rosc) (upTo 2 reading s before))
     (crystal-ends reading s before)
 
--- ---- the clocks that may be absent: what the part of each says of its registers, by whether the plan has it
+-- ---- the clocks that may be absent: the registers after the part of each, by whether the plan has it
 
 divider-same : (c : Chip) (f g : ℕ → ℕ) → f CLK-PERI-DIV ≡ g CLK-PERI-DIV → periDivider c f ≡ periDivider c g
 divider-same Rp2040 f g e = refl
@@ -236,7 +237,7 @@ rtc-runs Rp235x source hz (OptionRtc.Some r) f file before after one typed good 
 rtc-runs c source hz OptionRtc.None f file before after one typed good e0 e1 e2 =
     e0 ∙ rtc-absent c hz file CLK-RTC-CTRL ∙ e2
 
--- ---- all of them, over the sources that the sheet stores
+-- ---- all clocks, over the sources that the sheet stores
 
 true-of : (reading : ℕ) (s : Settings) (before : ℕ → ℕ) → refusalOf s reading ≡ 0 → Typed s → RtcOf (s .board .chip) (s .board .rtc)
     → (now : Sources) → now ≡ sourcesIn s

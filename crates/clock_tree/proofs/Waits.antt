@@ -1,5 +1,5 @@
--- No wait is for something that cannot come: part by part. From the head on nothing is in reset, which the PLLs and the last
--- release need; all else a wait asks for is set in its own part.
+-- No wait of a sheet is endless, since this holds of each part. From the head on nothing is in reset, which the PLLs
+-- and the last release need; every other condition of a wait is set in its own part.
 use mathlib.Core.{Bool.Bool, Bool.true, Bool.false, Bool._&&_, Bool.not, Path._≡_, Path.refl, Path.ap, Path._∙_}
 use mathlib.Core.List.{List, [], _∷_, _++_}
 use Prim.Native.Nat.{ℕ, _+_, _-_, _%_, _^_}
@@ -38,14 +38,14 @@ use Rattle.clock_tree.proofs.Parts.{Calm, ringOwn, voltageOwn, crystalS
 use Rattle.clock_tree.proofs.Walk.{Walk, _then_, Any, calmly, keeps}
 use Rattle.clock_tree.proofs.Set.{last-sets}
 
--- where nothing is in reset
+-- nothing is in reset
 record Released (c : Chip) (file : ℕ → ℕ) : Type 0 where
   reset : file (RESET c) ≡ 0
 
 abbrev Comes : Chip → ℕ → List Step → Type 0
 Comes c hz xs = Walk c (canCome c hz) (Released c) (Released c) xs
 
--- a part without a wait, whose registers RESET is not among
+-- a part without a wait that does not write RESET
 still : {c : Chip} {own : List ℕ} {xs : List Step} (hz : ℕ) → Calm c own xs → member (RESET c) own ≡ false → Comes c hz xs
 still {c} {own} {xs} hz h apart =
     record {
@@ -105,7 +105,7 @@ pll-locks c w hz p file v on power e0 e1 =
     let vco = range-true vcoMin vcoMax (vcoOf p hz) (v .vco .0) (v .vco .1) in
     rw (on, power, refdiv, fbdiv, reference, vco)
 
--- what comes before the wait for lock
+-- the steps before the wait for lock
 abbrev powered : ℕ → PllConfig → List Step
 powered w p =
     stepOf kind.pll-power w 1 1 1 1
@@ -115,7 +115,7 @@ powered w p =
     ∷ stepOf kind.pll-power w 0 0 1 1
     ∷ []
 
--- and the crystal oscillates
+-- nothing is in reset, and the crystal oscillates
 record Lit (c : Chip) (file : ℕ → ℕ) : Type 0 where
   reset : file (RESET c) ≡ 0
   on : oscillates (file (XOSC-CTRL c)) ≡ true
@@ -162,7 +162,7 @@ plls : (c : Chip) (hz : ℕ) (a b : OptionPll) → pllInvalid hz a ≡ false →
     → Walk c (canCome c hz) (Lit c) (Lit c) (pllSteps 0 a ++ pllSteps 1 b)
 plls c hz a b e u = pll c false hz a e then pll c true hz b u
 
--- what comes before the PLLs
+-- the steps before the PLLs
 abbrev started : ℕ → List Step
 started delay = step1 kind.startup delay ∷ step0 kind.crystal-on ∷ step0 kind.wait-stable ∷ []
 
@@ -190,7 +190,7 @@ crystal c r OptionCrystal.None e u = record { walk = λ file p. (refl, p) }
 
 -- ---- the clocks
 
--- the source that was written is the one that is waited for
+-- the wait is for the source that was written
 ref-selected : (k : ℕ) → (eqb (2 ^ (k % 4)) (2 ^ bitsAt 0 2 (REF-SRC k)) && true) ≡ true
 ref-selected k =
     let same : k % 4 ≡ bitsAt 0 2 (REF-SRC k) = omega arith in

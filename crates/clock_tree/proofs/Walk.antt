@@ -1,4 +1,4 @@
--- A walk over steps: from a file of which P holds the test holds at each wait, and Q holds of the file after them.
+-- A walk over steps: from a file with property P, the test holds at each wait, and the file after the steps has property Q.
 use mathlib.Core.{Bool.Bool, Bool.true, Bool.false, Path._≡_, Path.sym, Path.subst, List.List, List.[], List._∷_, List._++_}
 use Prim.Native.Nat.{ℕ}
 use Rattle.base.proofs.Bools.{both-true}

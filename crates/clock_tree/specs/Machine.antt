@@ -1,4 +1,4 @@
--- What carrying steps out leaves in the registers. A register file gives each address its value.
+-- The registers after the steps of a sheet are carried out. A register file gives each address its value.
 use mathlib.Core.{Bool.Bool, Bool._&&_, Bool._||_, List.List, List.[], List._∷_}
 use Prim.Native.Nat.{ℕ, _+_, _-_, _/_, _%_, _^_}
 use lib.{Dec.eqb, Bits.bitAnd}
@@ -13,11 +13,11 @@ use Rattle.registers.specs.Map.{on, RESET, PLL-PWR}
 abbrev pub bitsAt : ℕ → ℕ → ℕ → ℕ
 bitsAt low width v = v / 2 ^ low % 2 ^ width
 
--- the accesses that change a register: 1 writes it all, 2 the mask's bits
+-- whether an access changes the register at an address: op 1 writes all of it, op 2 the bits in the mask
 abbrev pub writes : Access → ℕ → Bool
 writes a address = (eqb (a .op) 1 || eqb (a .op) 2) && eqb (a .address) address
 
--- and its value after them
+-- the value of the register after such an access
 abbrev pub written : Access → ℕ → ℕ
 written a before = pick (eqb (a .op) 1) (a .value) (before - bitAnd before (a .mask) + a .value)
 
@@ -25,7 +25,7 @@ written a before = pick (eqb (a .op) 1) (a .value) (before - bitAnd before (a .m
 abbrev pub held : Chip → ℕ → ℕ → Bool
 held c w reset = eqb (bitsAt (on c 12 14 + w) 1 reset) 1
 
--- A PLL that goes into reset is powered down: 0x2D is PWR's value after a reset. No clock asks for its other registers then
+-- a reset powers a PLL down: 0x2D is the reset value of PWR; no clock depends on its other registers then
 abbrev pub powersDown : Chip → ℕ → ℕ → Bool
 powersDown c address reset =
     (eqb (PLL-PWR c 0) address && held c 0 reset) || (eqb (PLL-PWR c 1) address && held c 1 reset)
@@ -37,7 +37,7 @@ done c (value a) file = λ address.
     (pick (writes a address) (written a (file address)) (file address))
 done c (refusal n) file = file
 
--- after all of the steps
+-- the file after all steps
 abbrev pub carriedOut : Chip → List Step → (ℕ → ℕ) → (ℕ → ℕ)
 carriedOut c [] file = file
 carriedOut c (s ∷ ss) file = carriedOut c ss (done c (accessOf c s) file)

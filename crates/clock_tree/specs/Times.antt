@@ -1,5 +1,5 @@
--- The times are true: after a sheet's steps, from any register file, each clock that the plan has runs at the frequency that
--- the sheet stores of it, and the control of one that it lacks is as it was.
+-- The stored frequencies are true: after the steps of a sheet, from any register values, each clock of the plan runs
+-- at the frequency that the sheet stores for it, and the control of an absent clock is unchanged.
 use mathlib.Core.{Bool.Bool, Bool.true, Bool.false, Path._≡_}
 use Prim.Native.Nat.{ℕ}
 use Rattle.chip.specs.declared.Chip.{Chip}
@@ -25,13 +25,13 @@ abbrev pub hasRtc : OptionRtc → Bool
 hasRtc (OptionRtc.Some r) = true
 hasRtc OptionRtc.None = false
 
--- it runs at what is stored; one that the plan lacks: the register, its control, holds what it held
+-- a clock of the plan runs at the stored frequency; the control register of an absent clock keeps its value
 abbrev pub Runs : Bool → ℕ → ℕ → ℕ → (ℕ → ℕ) → (ℕ → ℕ) → Type 0
 Runs true hz stored control before after = hz ≡ stored
 Runs false hz stored control before after = after control ≡ before control
 
--- what the registers give after the steps, and what the sheet stores: f. The peripheral clock of the RP235x has a divider that
--- no step touches: its time is true where that is 1, as after a reset
+-- the frequencies that the registers give after the steps are those that the sheet stores, f. No step touches the
+-- peripheral divider of the RP235x: that clock's frequency is true where the divider is 1, as after a reset
 pub record AllTrue (s : Settings) (f : Frequencies) (c : Chip) (now : Sources) (before after : ℕ → ℕ) : Type 0 where
   pub sources : now ≡ f .sources
   pub reference : refAt c now after ≡ f .reference
@@ -42,7 +42,7 @@ pub record AllTrue (s : Settings) (f : Frequencies) (c : Chip) (now : Sources) (
   pub adc : Runs (hasAux (s .adc)) (adcAt c now after) (f .adc) (CLK-ADC-CTRL c) before after
   pub rtc : Runs (hasRtc (s .board .rtc)) (rtcAt now after) (f .rtc) CLK-RTC-CTRL before after
 
--- of settings at a reading: ring and crystal oscillate at the Hz that the plan says of them
+-- the same for settings at a reading; ring and crystal oscillate at the frequencies that the plan gives
 abbrev pub TrueAfter : Settings → ℕ → (ℕ → ℕ) → Type 0
 TrueAfter s reading before =
     let c = s .board .chip in

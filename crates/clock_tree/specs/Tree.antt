@@ -1,6 +1,7 @@
--- The clock tree of the datasheets: the frequency of each clock in Hz, by the values of its registers. Whole hertz come about as
--- in the stores: a PLL's are rounded down at its reference and at its output (pll/specs/Setting, `outputHz`), a divided clock's
--- once (divider/specs/Clock, `dividedHz`). A clock that is off has 0 Hz, and so has a source that no plan can name: an input pin.
+-- The clock tree of the datasheets: the frequency of each clock in Hz, from the values of its registers. Rounding is
+-- that of the stored values: a PLL is rounded down at its reference and at its output (pll/specs/Setting,
+-- `outputHz`), a divided clock once (divider/specs/Clock, `dividedHz`). A clock that is off has 0 Hz, and so has a
+-- source that no plan can name, which is an input pin.
 use mathlib.Core.{Bool.Bool, Bool._&&_, Bool.not, List.[], List._∷_}
 use Prim.Native.Nat.{ℕ, _+_, _/_, _^_}
 use lib.{Dec.eqb, ListN.getD}
@@ -17,11 +18,11 @@ use Rattle.clock_tree.specs.Machine.{bitsAt, held}
 
 -- ---- sources
 
--- an oscillator's CTRL has the code that turns it on
+-- CTRL of an oscillator has the code that turns it on
 abbrev pub oscillates : ℕ → Bool
 oscillates ctrl = eqb (bitsAt 12 12 ctrl) 0xFAB
 
--- of PLL w: 0 system, 1 USB; its dividers REFDIV, FBDIV_INT, POSTDIV1, POSTDIV2
+-- the dividers of PLL w, 0 system and 1 USB: REFDIV, FBDIV_INT, POSTDIV1, POSTDIV2
 abbrev pub pllAt : Chip → ℕ → (ℕ → ℕ) → PllConfig
 pllAt c w file =
     record {
@@ -31,21 +32,21 @@ pllAt c w file =
       «post_div2» = bitsAt 12 3 (file (PLL-PRIM c w));
     }
 
--- PWR powers the PLL and its VCO, PD and VCOPD are 0, and it is out of reset
+-- the PLL and its VCO have power, PD and VCOPD of PWR being 0, and the PLL is out of reset
 abbrev pub vcoOn : Chip → ℕ → (ℕ → ℕ) → Bool
 vcoOn c w file =
     eqb (bitsAt 0 1 (file (PLL-PWR c w))) 0
     && (eqb (bitsAt 5 1 (file (PLL-PWR c w))) 0 && not (held c w (file (RESET c))))
 
--- and its post dividers too: POSTDIVPD is 0
+-- its post dividers have power too: POSTDIVPD is 0
 abbrev pub pllOn : Chip → ℕ → (ℕ → ℕ) → Bool
 pllOn c w file = vcoOn c w file && eqb (bitsAt 3 1 (file (PLL-PWR c w))) 0
 
--- its reference is the crystal
+-- the output of a PLL, whose reference is the crystal
 abbrev pub pllFrom : Chip → ℕ → ℕ → (ℕ → ℕ) → ℕ
 pllFrom c w crystal file = pick (pllOn c w file) (outputHz (pllAt c w file) crystal) 0
 
--- the sources, where ring and crystal oscillate at so many Hz while they are on
+-- the frequencies of the sources, given those of ring and crystal while they are on
 abbrev pub sourcesAt : Chip → ℕ → ℕ → (ℕ → ℕ) → Sources
 sourcesAt c ring crystal file =
     let xosc = pick (oscillates (file (XOSC-CTRL c))) crystal 0 in
@@ -58,13 +59,13 @@ sourcesAt c ring crystal file =
 
 -- ---- dividers
 
--- of reference, USB and ADC: two bits on the RP2040, on the RP235x the clock's width; 0 counts as one more than the greatest
+-- of reference, USB and ADC: two bits on the RP2040, `width` bits on the RP235x; 0 counts as one more than the greatest
 abbrev pub intFrom : Chip → ℕ → ℕ → ℕ
 intFrom c width div =
     let n = bitsAt (on c 8 16) (on c 2 width) div in
     pick (eqb n 0) (2 ^ on c 2 width) n
 
--- with a fraction, of 8 bits under 24 on the RP2040, of 16 under 16 on the RP235x; a whole part of 0 counts as 65536
+-- with a fraction: 24 whole and 8 fraction bits on the RP2040, 16 and 16 on the RP235x; a whole part of 0 counts as 65536
 abbrev pub dividedFrom : Chip → ℕ → ℕ → ℕ
 dividedFrom Rp2040 source div = dividedHz 256 source (gpoutWhole (bitsAt 8 24 div)) (bitsAt 0 8 div)
 dividedFrom Rp235x source div = dividedHz 65536 source (gpoutWhole (bitsAt 16 16 div)) (bitsAt 0 16 div)
@@ -83,11 +84,11 @@ sysFrom c f reference ctrl div =
     let aux = getD (f .«pll_sys» ∷ f .«pll_usb» ∷ f .rosc ∷ f .xosc ∷ []) (bitsAt 5 3 ctrl) 0 in
     dividedFrom c (getD (reference ∷ aux ∷ []) (bitsAt 0 1 ctrl) 0) div
 
--- the other clocks run where CTRL has ENABLE, and not KILL below it
+-- the other clocks run where CTRL has ENABLE set and KILL, the bit below it, clear
 abbrev pub enabled : ℕ → Bool
 enabled ctrl = eqb (bitsAt 10 2 ctrl) 2
 
--- the RP235x has a divider of the peripheral clock too, in bits 16 and 17 of CLK_PERI_DIV; no step touches it, and a reset sets it to 1
+-- the peripheral divider of the RP235x, bits 16 and 17 of CLK_PERI_DIV; no step touches it, and a reset sets it to 1
 abbrev pub CLK-PERI-DIV : ℕ
 CLK-PERI-DIV = 0x40010000 + 0x4C
 
@@ -106,7 +107,7 @@ abbrev pub auxFrom : Sources → ℕ → ℕ
 auxFrom f ctrl =
     pick (enabled ctrl) (getD (f .«pll_usb» ∷ f .«pll_sys» ∷ f .rosc ∷ f .xosc ∷ []) (bitsAt 5 3 ctrl) 0) 0
 
--- ---- of a file
+-- ---- the clocks of a register file
 
 abbrev pub refAt : Chip → Sources → (ℕ → ℕ) → ℕ
 refAt c f file = refFrom c f (file (CLK-REF-CTRL c)) (file (CLK-REF-DIV c))
@@ -123,6 +124,6 @@ usbAt c f file = auxFrom f (file (CLK-USB-CTRL c)) / intFrom c 4 (file (CLK-USB-
 abbrev pub adcAt : Chip → Sources → (ℕ → ℕ) → ℕ
 adcAt c f file = auxFrom f (file (CLK-ADC-CTRL c)) / intFrom c 4 (file (CLK-ADC-DIV c))
 
--- of the RP2040 alone
+-- only on the RP2040
 abbrev pub rtcAt : Sources → (ℕ → ℕ) → ℕ
 rtcAt f file = dividedFrom Rp2040 (auxFrom f (file CLK-RTC-CTRL)) (file CLK-RTC-DIV)

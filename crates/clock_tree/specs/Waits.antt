@@ -1,4 +1,4 @@
--- No wait is for something that cannot come: at each wait of a sheet what was set before it brings its condition about.
+-- No wait is endless: at each wait of a sheet the registers written before it bring its condition about.
 use mathlib.Core.{Bool.Bool, Bool.true, Bool.false, Bool._&&_, Path._≡_, List.List, List.[], List._∷_}
 use Prim.Native.Nat.{ℕ, _^_}
 use lib.{Dec.eqb, Bits.bitAnd, ListN.getD}
@@ -16,7 +16,7 @@ use Rattle.registers.specs.Map.{XOSC-CTRL, XOSC-STATUS, ROSC-CTRL, PLL-CS}
 use Rattle.sheet_steps.specs.Steps.{stepsOf}
 use Rattle.clock_tree.specs.{Machine.bitsAt, Machine.done, Tree.oscillates, Tree.pllAt, Tree.vcoOn, Tree.pllOn}
 
--- a PLL locks that is powered, whose crystal oscillates, and whose dividers give a reference and a VCO within their ranges
+-- a PLL locks if it has power, its crystal oscillates, and its dividers give a reference and a VCO within their ranges
 abbrev pub locks : Chip → ℕ → ℕ → (ℕ → ℕ) → Bool
 locks c w crystal file =
     oscillates (file (XOSC-CTRL c))
@@ -24,7 +24,7 @@ locks c w crystal file =
     && (inRange referenceMin referenceMax (referenceOf (pllAt c w file) crystal)
     && inRange vcoMin vcoMax (vcoOf (pllAt c w file) crystal)))
 
--- what a wait waits for, by the register that it reads; a wait for another register would be for nothing that is set
+-- whether a wait can end, by the register that it reads; a wait on any other register cannot
 abbrev pub canCome : Chip → ℕ → Access → (ℕ → ℕ) → Bool
 canCome c crystal a file =
     pick (eqb (a .address) (RESET-DONE c)) (eqb (bitAnd (file (RESET c)) (a .mask)) 0)
@@ -34,7 +34,7 @@ canCome c crystal a file =
     (pick (eqb (a .address) (PLL-CS c 0)) (locks c 0 crystal file)
     (pick (eqb (a .address) (PLL-CS c 1)) (locks c 1 crystal file) false)))))
 
--- the test holds at each wait, of its access and the registers at that moment
+-- the test holds at each wait, for its access and the registers at that moment
 abbrev pub atWait : (Access → (ℕ → ℕ) → Bool) → Answer Access → (ℕ → ℕ) → Bool
 atWait test (value a) file = pick (eqb (a .op) 3) (test a file) true
 atWait test (refusal n) file = false
@@ -50,20 +50,20 @@ NoEndlessWait =
     let c = s .board .chip in
     allWaits c (canCome c (sourcesIn s .xosc)) (stepsOf reading s) before ≡ true
 
--- ---- and the source that a clock is switched to runs, without which its SELECTED never changes
+-- ---- the source that a clock is switched to runs, without which its SELECTED never changes
 
--- a PLL is on, and its crystal
+-- a PLL and its crystal are on
 abbrev pub pllRuns : Chip → ℕ → (ℕ → ℕ) → Bool
 pllRuns c w file = oscillates (file (XOSC-CTRL c)) && pllOn c w file
 
--- the source that CLK_REF_CTRL selects
+-- the source that CLK_REF_CTRL selects runs
 abbrev pub refRuns : Chip → (ℕ → ℕ) → Bool
 refRuns c file =
     let ctrl = file (CLK-REF-CTRL c) in
     let aux = getD (pllRuns c 1 file ∷ []) (bitsAt 5 2 ctrl) false in
     getD (oscillates (file (ROSC-CTRL c)) ∷ aux ∷ oscillates (file (XOSC-CTRL c)) ∷ []) (bitsAt 0 2 ctrl) false
 
--- the source that CLK_SYS_CTRL selects
+-- the source that CLK_SYS_CTRL selects runs
 abbrev pub sysRuns : Chip → (ℕ → ℕ) → Bool
 sysRuns c file =
     let ctrl = file (CLK-SYS-CTRL c) in
@@ -76,7 +76,7 @@ sourceRuns c a file =
     pick (eqb (a .address) (CLK-SYS-SELECTED c)) (sysRuns c file)
     (pick (eqb (a .address) (CLK-REF-SELECTED c)) (refRuns c file) true)
 
--- where the ring and the reference clock run before, as after a reset of the chip
+-- provided that the ring and the reference clock run before, as after a reset of the chip
 abbrev pub SourcesRun : Type 0
 SourcesRun =
     (p : ClockConfig) (reading : ℕ) → Accepted p reading → (before : ℕ → ℕ)
