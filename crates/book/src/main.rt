@@ -1,4 +1,5 @@
-// Prints the book: output, feedback divider, post 1 and post 2 on a line.
+// Program `book` (docs/PROGRAMS.md, Program book): prints the 1988 lines of the book, each with output, feedback
+// divider, post 1 and post 2.
 use libc::STDOUT_FILENO;
 
 fn main() {

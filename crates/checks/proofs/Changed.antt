@@ -1,4 +1,4 @@
--- The types of the functions that lend a runner or a bench of their own, as `Lent` goes by them.
+-- The types of the functions that lend a local runner or bench, in the form that `Lent` takes.
 use mathlib.Core.Path.{refl}
 use denote.Struct.Laws as LL
 use Rattle.base.proofs.Solid.{Returned, two}

@@ -1,4 +1,4 @@
--- A function that lends a local to a function which changes it in place, a walk of its MIR:
+-- A function that lends a local to a function g, which changes it in place; the proof follows the MIR of
 --     let mut own = r; let q = g(&mut own, xs ..); S { q, own }
 -- The struct is copied into the local, which is lent to g for a lifetime of the call and comes back as g left it. It is
 -- stated over the types and the contract of g, as base's `InPlace` is.

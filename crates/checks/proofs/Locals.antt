@@ -1,5 +1,5 @@
--- The locals of the parameters that a walked function hands on, where it has their lifetime alone: base's `HandedLocals`,
--- in which their lifetime is the second.
+-- The locals of the parameters that a function passes on, where their lifetime is its only one; in base's
+-- `HandedLocals` it is the second.
 -- Assumes `Given`.
 use mathlib.Core.{Path._≡_, Path.refl, Path.subst, Path.ap, List.List, List.[], List._∷_}
 use Prim.Native.Nat.{ℕ, suc}
@@ -62,7 +62,7 @@ pub past : (Xs : List Handed) (bs : Places Xs) (E : Frame) (k : ℕ)
 past [] bs E k = refl
 past (X ∷ Xs) bs E k = past Xs (bs .1) E k
 
--- as the callee has them, behind the lifetime of what it changes
+-- as the callee has them, after the lifetime of what it changes
 module _ (κs : Lfts 1) (ν : Lft) where
   abbrev pub up : (Xs : List Handed) → Denots (rows theirs κs Xs) → Denots (rows ours (ν, κs) Xs)
   up [] a = tt

@@ -1,6 +1,6 @@
-// Takes the sheet of the `crystal` preset of 12000000 at reading 11 through a runner and through two boards of a bench,
-// which each call changes in place, not ready at first at each wait. It prints the steps, the unready polls and the ten
-// frequencies of each, and what a board over 7 answers (docs/FORMAT.md, Runner).
+// Runs the sheet of the `crystal` preset of 12000000 at reading 11 on a runner and on two boards of a bench, which
+// each call changes in place; the first poll of each wait is not ready. It prints the steps, the unready polls and
+// the ten frequencies of each, and the answer for a board over 7 (docs/FORMAT.md, Runner).
 use base::Length;
 use base::Number;
 use boards::AllOpened;
@@ -21,7 +21,7 @@ ghost use lib.ListN.{length};
 ghost use Rattle.runner.specs.Run.{steppedIs, advanceOf, openedIs, startOf};
 ghost use Rattle.boards.specs.Bench.{benchedIs, benchOf, allOpenedIs, startAllOf};
 
-// A name, a space, a number and a newline, and their length.
+// Puts a name, a space, a number and a newline, and answers their length.
 fn put_line(out: &mut [u8], name: &[u8], n: u64) -> usize
     ensures { λ r. ⌜ r ≤ length (now (out .exit)) ⌝ }
 {
@@ -31,13 +31,14 @@ fn put_line(out: &mut [u8], name: &[u8], n: u64) -> usize
     text::put_byte(out, at, b'\n')
 }
 
+// Prints a name and a number on a line.
 fn show(name: &[u8], n: u64) {
     let mut line = [0u8; 32];
     let size = put_line(&mut line, name, n);
     io::write_all(STDOUT_FILENO, &line[..size]);
 }
 
-// A start of a runner of its own, which is changed in place.
+// Starts a copy of the runner in place.
 fn started(r: Runner, sheet: &[u8]) -> Opened
     ensures { λ s. ⌜ openedIs s ≡ startOf r (now (sheet .entry)) ⌝ }
 {
@@ -46,7 +47,7 @@ fn started(r: Runner, sheet: &[u8]) -> Opened
     Opened { reply, runner: own }
 }
 
-// One call, the same.
+// Makes one call on a copy of the runner in place.
 fn polled(r: Runner, sheet: &[u8], ready: bool) -> Stepped
     ensures { λ s. ⌜ steppedIs s ≡ advanceOf r (now (sheet .entry)) ready ⌝ }
 {
@@ -55,7 +56,7 @@ fn polled(r: Runner, sheet: &[u8], ready: bool) -> Stepped
     Stepped { reply, runner: own }
 }
 
-// A start of a bench, and one call for a board, the same.
+// Starts a copy of the bench in place.
 fn bench_started(b: Bench, sheet: &[u8]) -> AllOpened
     ensures { λ s. ⌜ allOpenedIs s ≡ startAllOf b (now (sheet .entry)) ⌝ }
 {
@@ -64,6 +65,7 @@ fn bench_started(b: Bench, sheet: &[u8]) -> AllOpened
     AllOpened { reply, bench: own }
 }
 
+// Makes one call for a board on a copy of the bench in place.
 fn bench_polled(b: Bench, board: u8, sheet: &[u8], ready: bool) -> Benched
     ensures { λ s. ⌜ benchedIs s ≡ benchOf b board (now (sheet .entry)) ready ⌝ }
 {
@@ -86,7 +88,7 @@ fn is_waiting(reply: Reply) -> bool {
     }
 }
 
-// A runner that is started with a sheet, until it answers done; ready after an answer that it waits.
+// Runs a sheet until done; a call is ready after the answer waiting.
 fn run(sheet: &[u8]) -> Runner {
     let opened = started(Runner::new(), sheet);
     let mut runner = opened.runner;
@@ -105,7 +107,7 @@ fn run(sheet: &[u8]) -> Runner {
     runner
 }
 
-// So many calls for a board; ready after an answer that it waits.
+// Makes `calls` calls for a board; a call is ready after the answer waiting.
 fn run_board(b: Bench, board: u8, sheet: &[u8], calls: usize) -> Bench {
     let mut bench = b;
     let mut ready = false;
@@ -163,7 +165,7 @@ fn show_refusal(reply: Reply) {
     }
 }
 
-// Board 2 takes the whole sheet, board 5 all before the store of `ref`. There is no clock 10 and no board 8.
+// Board 2 runs the whole sheet, board 5 the steps before the store of `ref`. There is no clock 10 and no board 8.
 fn show_bench(sheet: &[u8]) {
     let opened = bench_started(Bench::new(), sheet);
     let fresh = opened.bench;
@@ -186,6 +188,7 @@ fn show_sheet(sheet: &[u8]) {
     show_bench(sheet);
 }
 
+// Prints the results of the runner and of the bench.
 pub(crate) fn show_all() {
     let mut bytes = [0u8; MAX_BYTES];
     match sheet::init(ClockConfig::crystal(Chip::Rp2040, 12000000), 11, &mut bytes) {

@@ -1,24 +1,28 @@
-// What programs `clocks` and `load` print at the edges of their input.
+// The output of the programs `clocks` and `load` at the limits of their input.
 use libc::STDOUT_FILENO;
 
+// Prints the output of `clocks` for an input of which the first n bytes are given.
 fn show(start: &[u8; 11], n: usize) {
     let mut out = [0u8; 256];
     let size = report::report(start, n, &mut out);
     io::write_all(STDOUT_FILENO, &out[..size]);
 }
 
+// Prints the output of `load` for an input of which the first n bytes are given.
 fn show_load(start: &[u8; 22], n: usize) {
     let mut out = [0u8; 80012];
     let size = trial::load(start, n, &mut out);
     io::write_all(STDOUT_FILENO, &out[..size]);
 }
 
+// Prints the refusal of an input that cannot be read.
 fn show_unread() {
     let mut out = [0u8; 11];
     let size = replies::put_unread(&mut out);
     io::write_all(STDOUT_FILENO, &out[..size]);
 }
 
+// Prints the output of both programs for inputs at their limits.
 pub(crate) fn show_all() {
     // The end of the input closes the line as a newline does.
     show(b"125000000..", 9);

@@ -1,4 +1,5 @@
-// Reads a target in Hz from standard input, and prints the stored values of its sheet.
+// Program `clocks` (docs/PROGRAMS.md, Program clocks): reads a target in Hz from standard input and prints the stored
+// values of its sheet.
 use input::Line;
 use libc::STDOUT_FILENO;
 

@@ -1,4 +1,4 @@
-// Reads a seed and a count from standard input, and prints both trials.
+// Program `load` (docs/PROGRAMS.md, Program load): reads a seed and a count from standard input and prints both trials.
 use input::Line;
 use libc::STDOUT_FILENO;
 

@@ -1,4 +1,4 @@
--- The report of a plan, by what the writer answered.
+-- The report of a plan, by the answer of `init`: a length or a refusal.
 use mathlib.Core.{List.List, Path._≡_, Path.sym, Path.ap, Path._∙_}
 use Prim.Native.Nat.{ℕ, _*_, _/_, _≤_}
 use native.Mathlib.{Decide.ℕ-discrete, Omega.arith}
@@ -26,7 +26,7 @@ sheet-fits p =
     omega (arith, length-encoded (stepsOf reading (settingsOf p reading)), chip-few reading (settingsOf p reading))
 
 module _ (p : ClockConfig) (b b′ : List ℕ) (r : Length) (o : InitCall p reading b r b′) (n : ℕ) where
-  -- a length: the buffer's bytes up to it are the sheet, and its run has the numbers
+  -- a length: the bytes of the buffer up to it are the sheet, and its run has the numbers of the report
   pub written-fits : lengthIs r ≡ value n → n ≤ length b′
   written-fits e =
       let a = answered p reading b b′ r o n e in

@@ -13,7 +13,7 @@ use Rattle.sheet_steps.specs.Steps.{releaseMask}
 use Rattle.sheet.proofs.Examples.{crystal-steps}
 use Rattle.report.specs.{Lines.lineOf, Report.reading, Report.planReport, Report.reportOf}
 
--- each text closed by a newline
+-- the texts, each followed by a newline
 abbrev pub texts : List String → List ℕ
 texts [] = []
 texts (t ∷ ts) = ascii t ++ (10 ∷ texts ts)

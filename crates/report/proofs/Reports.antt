@@ -1,4 +1,5 @@
--- What holds of every report.
+-- Every report is eleven lines for an accepted plan or refusal 24; 11 bytes of the input decide it, and 256 bytes are
+-- enough for it.
 use mathlib.Core.{Bool.Bool, Bool.true, Bool.false, List.List, List.[], List._∷_, List._++_}
 use mathlib.Core.{Logic._⊎_, Logic.inl, Logic.inr, Path._≡_, Path.refl, Path.ap, Path._∙_}
 use Prim.Native.{Nat.ℕ, Nat._+_, Nat._≤_, String.String}

@@ -1,4 +1,4 @@
--- A run, call by call, and the numbers that the run of an accepted plan's sheet leaves.
+-- A run, call by call; after the run of the sheet of an accepted plan the numbers are those of the report.
 use mathlib.Core.{Bool.Bool, Bool.true, Bool.false, List.List, List.[], List._∷_, List._++_, List.map}
 use mathlib.Core.Path.{_≡_, refl, sym, ap, _∙_}
 use Prim.Native.Nat.{ℕ, zero, suc, _-_, _/_, _≤_, _<_}
@@ -23,7 +23,7 @@ use Rattle.bring_up.proofs.Run.{sheet-starts, sheet-answers, sheet-run}
 use Rattle.report.specs.Report.{printedNumbers}
 use Rattle.report.specs.Ran.{releasedIn, releasedBy, lastReleased, runs, ranOf, reportNumbers}
 
--- one call, then the others
+-- one call, then the rest
 pub runs-next : (sheet : List ℕ) (left : ℕ) (r : Runner) (mask : ℕ) (s : Stepped) → 0 < left
     → steppedIs s ≡ advanceOf r sheet true
     → runs sheet (left - 1) (s .runner) (releasedBy (replyIs (s .reply)) mask) ≡ runs sheet left r mask
@@ -73,7 +73,7 @@ answers-release [] mask = refl
 answers-release (x ∷ xs) mask =
     ap (lastReleased (map readyAnswer xs)) (ready-releases x mask) ∙ answers-release xs (releasedIn x mask)
 
--- one call more leaves the answers before it as they are
+-- one more call does not change the answers before it
 answers-first : (sheet : List ℕ) (n : ℕ) (r : Runner)
     → take n (answers r sheet (replicate (suc n) true)) ≡ answers r sheet (replicate n true)
 answers-first sheet zero r = refl
@@ -81,7 +81,7 @@ answers-first sheet (suc n) r =
     let call = advanceOf r sheet true in
     ap (λ (l : List (Answer Progress)). call .answer ∷ l) (answers-first sheet n (call .next))
 
--- an accepted plan's sheet, at any reading: after as many calls as there are steps the numbers are the report's
+-- the sheet of an accepted plan at any reading: after one call for each step the numbers are those of the report
 module _ (p : ClockConfig) (r : ℕ) (ok : Accepted p r) (t : Typed (settingsOf p r)) where
   started : startOf fresh (sheetBytes p r) .next ≡ startedWith (sheetBytes p r)
   started = ap (λ (x : Begun Runner). x .next) (sheet-starts p r fresh)

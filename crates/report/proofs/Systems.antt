@@ -24,7 +24,7 @@ use Rattle.refusals.specs.Rules.{dividerBad, referenceBad, wholeBad, periBad, a
 use Rattle.refusals.specs.Refusals.{refusalOf, Accepted}
 use Rattle.report.specs.Report.{reading}
 
--- undivided, a frequency stays as it is
+-- a divider of 1 keeps the frequency
 undivided : (hz : ℕ) → dividedHz 256 hz 1 0 ≡ hz
 unfolding dividedHz
 undivided hz = omega arith
@@ -53,7 +53,7 @@ unfolding settlingOver settlingStep cyclesPerUs settlingCycles
 settles true c = refl
 settles false c = refl
 
--- a target's plan: of the RP2040, accepted at the reading, with numbers of their types
+-- the plan of a target is one of the RP2040, is accepted at the reading, and its numbers fit their types
 pub record Served (hz : ℕ) (p : ClockConfig) : Type 0 where
   pub planned : systemPlan Rp2040 hz ≡ value p
   pub on : boardOf (p .chip) .chip ≡ Rp2040
@@ -94,7 +94,7 @@ system-accepted hz = go (eqb hz 125000000) refl
       },
     )
 
--- so each plan that a target has is of the RP2040
+-- so the plan of every target is one of the RP2040
 pub on-rp2040 : (hz : ℕ) (p : ClockConfig) → systemPlan Rp2040 hz ≡ value p → boardOf (p .chip) .chip ≡ Rp2040
 on-rp2040 hz p e =
     let served = system-accepted hz in

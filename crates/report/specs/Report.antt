@@ -1,4 +1,4 @@
--- The whole output of program `clocks`, for its input.
+-- The whole output of the program `clocks` for its input (docs/PROGRAMS.md, Program clocks).
 use mathlib.Core.List.{List, [], _∷_, _++_}
 use Prim.Native.Nat.{ℕ}
 use lib.{Count.ones, Dec.eqb}
@@ -14,7 +14,7 @@ use Rattle.sheet.specs.Writer.{refusalIn}
 use Rattle.replies.specs.Reply.{refusedLine}
 use Rattle.report.specs.Lines.{linesOf, reportNames}
 
--- the program's reading
+-- the voltage reading that the program uses
 abbrev pub reading : ℕ
 reading = 11
 
@@ -22,7 +22,7 @@ reading = 11
 abbrev pub printedNumbers : Settings → List ℕ
 printedNumbers s = tenOf s ++ (ones (releaseMask (s .board .chip) (s .peri) (s .usb) (s .adc) (s .board .rtc)) ∷ [])
 
--- a plan that is refused at the reading has no sheet
+-- the report of a plan: its eleven lines, or the line of its refusal at the reading
 unfoldable pub planReport : ClockConfig → List ℕ
 planReport p =
     pick (eqb (refusalIn p reading) 0) (linesOf reportNames (printedNumbers (settingsOf p reading)))
@@ -36,6 +36,6 @@ abbrev pub targetReport : Answer ℕ → List ℕ
 targetReport (value hz) = plannedReport (systemPlan Rp2040 hz)
 targetReport (refusal n) = refusedLine n
 
--- the number on the first line is the target of the RP2040's `system_freq` plan
+-- the number on the first line is the target of the RP2040 `system_freq` plan
 unfoldable pub reportOf : List ℕ → List ℕ
 reportOf input = targetReport (lineNumberOf input)

@@ -1,4 +1,4 @@
--- 80012 bytes are enough for every output: 8 for each target, 12 for the runner.
+-- 80012 bytes are enough for every output: 8 for each of at most 10000 targets, and 12 for the runner.
 use mathlib.Core.{Bool.Bool, Bool.true, Bool.false, List.List, Path._≡_, Path.refl}
 use Prim.Native.Nat.{ℕ, zero, suc, _+_, _*_, _≤_}
 use native.Mathlib.Omega.{arith}
@@ -90,7 +90,7 @@ counted-most seed count = go (ltb mostCount count) refl
     go true e = omega (arith, refused-most 1 31 (omega arith))
     go false e = trials-most seed count (ltb-false mostCount count e)
 
--- what holds of every value and of 24 holds of what is read
+-- a property of every value and of refusal 24 holds of every number that is read
 read : (P : Answer ℕ → Type 0) (cs : List ℕ) → ((n : ℕ) → P (value n)) → P (refusal 24) → P (numberOf cs)
 unfolding numberOf
 read P cs some none = both P (isNumber cs) _ _ (some _) none

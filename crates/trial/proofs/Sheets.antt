@@ -1,4 +1,4 @@
--- The sheet of the runner trial: the preset is accepted, so the writer answers its length.
+-- The preset of the runner trial is accepted, so `init` writes its sheet and answers its length.
 use mathlib.Core.{List.List, Path._≡_}
 use Prim.Native.Nat.{ℕ, _≤_}
 use native.Mathlib.Omega.{arith}

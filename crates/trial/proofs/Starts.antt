@@ -1,4 +1,4 @@
--- 22 bytes of the input are enough to read.
+-- The first 22 bytes of an input decide its output.
 use mathlib.Core.{List.List, Logic.inl, Logic.inr, Path._≡_}
 use Prim.Native.Nat.{ℕ, _+_, _-_, _≤_}
 use native.Mathlib.Omega.{arith}

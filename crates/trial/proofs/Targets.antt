@@ -1,4 +1,4 @@
--- One draw on.
+-- The target trial after one more draw.
 use mathlib.Core.{List._++_, Path._≡_, Path.ap, Path._∙_}
 use Prim.Native.Nat.{ℕ, suc, _+_}
 use native.Mathlib.Numerals.{add-one}

@@ -1,4 +1,4 @@
--- The runner trial, one draw on.
+-- The runner trial: the runner after its start and after one more draw.
 use mathlib.Core.{Bool.Bool, Bool.false, List.List, Path._≡_, Path.sym, Path.ap, Path.ap₂, Path._∙_}
 use Prim.Native.Nat.{ℕ, suc, _+_}
 use native.Mathlib.{Nat.zero-add, Numerals.add-one}
@@ -24,12 +24,12 @@ module _ (seed i : ℕ) where
       (ap (λ (x : Outcome Runner). x .next) call
       ∙ ap₂ (λ (q : Runner) (b : Bool). advanceOf q sheet b .next) before flag)
 
--- a start with the sheet comes before the first call
+-- before the first call the runner is started with the sheet
 pub begins : (sheet : List ℕ) (r : Runner) (o : Opened) → badSize (length sheet) ≡ false → openedIs o ≡ startOf r sheet
     → o .runner ≡ startedWith sheet
 begins sheet r o good e = ap (λ (x : Begun Runner). x .next) (e ∙ sym (start-kept r sheet good))
 
--- where the count stands
+-- the index of the first space is the length of the text before it
 pub space-at : (s : List ℕ) → indexFrom s 0 32 ≡ length (upTo 32 s)
 unfolding indexFrom
 space-at s = zero-add (length (upTo 32 s))

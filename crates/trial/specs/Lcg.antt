@@ -1,13 +1,13 @@
--- The draws of a trial, from a 32-bit seed.
+-- The draws of a trial are those of a linear congruential generator modulo 2 to the power of 32, from a 32-bit seed.
 use Prim.Native.Nat.{ℕ, zero, suc, _+_, _*_, _%_, _^_}
 use mathlib.Core.Bool.{Bool}
 use lib.Dec.{leb}
 
--- one step
+-- the draw after x
 unfoldable pub drawOf : ℕ → ℕ
 drawOf x = (1664525 * x + 1013904223) % 2 ^ 32
 
--- the number after n steps: a trial's first draw comes after one
+-- the number after n steps; the first draw of a trial is that after one step
 unfoldable pub drawn : ℕ → ℕ → ℕ
 drawn seed zero = seed
 drawn seed (suc n) = drawOf (drawn seed n)

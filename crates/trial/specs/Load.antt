@@ -1,4 +1,4 @@
--- The whole output of program `load`, for its input (docs/PROGRAMS.md, Program load).
+-- The whole output of the program `load` for its input (docs/PROGRAMS.md, Program load).
 use mathlib.Core.{Bool.Bool, List.List, List.[], List._∷_, List._++_}
 use Prim.Native.Nat.{ℕ, suc, _+_}
 use lib.{Dec.ltb, ListN.length, ListN.drop}
@@ -12,7 +12,8 @@ use Rattle.runner.specs.declared.Runner.{Runner}
 use Rattle.bring_up.specs.Wait.{runnerAfter}
 use Rattle.trial.specs.{Lcg.drawn, Lcg.topBit, Targets.line, Targets.targetLines}
 
--- runner trial: over the crystal preset's 12 MHz sheet at reading 11 each call hears the top bit of a draw
+-- the runner trial: calls over the 12 MHz sheet of the crystal preset at reading 11; the ready flag of each is the
+-- top bit of a draw
 abbrev pub trialSheet : List ℕ
 trialSheet = sheetBytes (crystalPlan Rp2040 12000000) 11
 
@@ -26,20 +27,20 @@ trialRunner seed count = runnerAfter trialSheet (flags seed) count
 unfoldable pub runnerLine : Runner → List ℕ
 runnerLine r = line (rowText (r .stepper .state .position) (r .stepper .state .total ∷ []))
 
--- each trial draws afresh from the seed
+-- each trial starts its draws at the seed
 unfoldable pub trials : ℕ → ℕ → List ℕ
 trials seed count = targetLines seed count ++ runnerLine (trialRunner seed count)
 
 abbrev pub mostCount : ℕ
 mostCount = 10000
 
--- 24 for what is no number, then 31 for a count over 10000
+-- refusal 24 for text that is no number, then 31 for a count over 10000
 abbrev pub loadWith : Answer ℕ → Answer ℕ → List ℕ
 loadWith (refusal n) count = refusedLine n
 loadWith (value seed) (refusal n) = refusedLine n
 loadWith (value seed) (value count) = pick (ltb mostCount count) (refusedLine 31) (trials seed count)
 
--- the seed stands up to the first space, the count behind it up to the newline or the end
+-- the seed is the text up to the first space, the count the text after it up to the newline or the end
 unfoldable pub loadOf : List ℕ → List ℕ
 loadOf input =
     let seed = upTo 32 input in

@@ -1,4 +1,4 @@
--- The lines of a target trial (docs/PROGRAMS.md, Program load).
+-- The lines of the target trial (docs/PROGRAMS.md, Program load): each draw is a target at 12 MHz.
 use mathlib.Core.List.{List, [], _∷_, _++_}
 use Prim.Native.Nat.{ℕ, zero, suc}
 use Rattle.replies.specs.Reply.{answerText, rowText}
@@ -6,7 +6,7 @@ use Rattle.pll.specs.declared.PllConfig.{PllConfig}
 use Rattle.pll.specs.Search.{searchOf}
 use Rattle.trial.specs.Lcg.{drawn}
 
--- a text closed by a newline
+-- a text followed by a newline
 abbrev pub line : List ℕ → List ℕ
 line text = text ++ (10 ∷ [])
 
@@ -14,7 +14,7 @@ line text = text ++ (10 ∷ [])
 abbrev pub dividers : PllConfig → List ℕ
 dividers p = rowText (p .fbdiv) (p .«post_div1» ∷ p .«post_div2» ∷ [])
 
--- target trial: a draw is a target at 12 MHz
+-- the line of a target: its setting at 12 MHz
 unfoldable pub targetLine : ℕ → List ℕ
 targetLine x = line (answerText dividers (searchOf 12000000 x))
 

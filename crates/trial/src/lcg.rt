@@ -1,4 +1,5 @@
-// The draws of a trial from its seed, and the target trial: each draw is a target of the search at 12 MHz.
+// The draws of a trial, from a linear congruential generator, and the target trial, where each draw is a target of
+// the search at 12 MHz.
 use pll::Found;
 ghost use mathlib.Core.Path.{_≡_};
 ghost use Prim.Native.Nat.{_*_, _%_, _^_};
@@ -15,7 +16,7 @@ fn low_product(a: u32, b: u32) -> u32
     ((a as u64 * b as u64) % 4294967296) as u32
 }
 
-// One draw on.
+// The draw after x.
 pub fn draw(x: u32) -> u32
     ensures { λ r. ⌜ r ≡ drawOf x ⌝ }
 {
@@ -29,7 +30,7 @@ pub fn top_bit(x: u32) -> bool
     2147483648 <= x
 }
 
-// The setting for a target, on a line. At 12 MHz every target has one.
+// Puts the setting for a target on a line. At 12 MHz every target has one.
 fn put_target(out: &mut [u8], at: usize, x: u32) -> usize
     ensures { λ r. ⌜ Placed (now (out .entry)) at (targetLine x) r (now (out .exit)) ⌝ }
 {
@@ -41,7 +42,7 @@ fn put_target(out: &mut [u8], at: usize, x: u32) -> usize
     text::put_byte(out, at, b'\n')
 }
 
-// The setting for each of `count` drawn targets, a line each.
+// Puts the setting for each of `count` drawn targets, a line each, and answers the length.
 pub fn put_targets(out: &mut [u8], seed: u32, count: u32) -> usize
     ensures { λ r. ⌜ Placed (now (out .entry)) 0 (targetLines seed count) r (now (out .exit)) ⌝ }
 {

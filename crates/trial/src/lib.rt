@@ -1,4 +1,5 @@
-// The whole output of the program `load` for its input: the same two trials on each machine.
+// The whole output of the program `load` for its input (docs/PROGRAMS.md, Program load): two trials that give the
+// same output on every machine.
 mod lcg;
 
 use base::Length;
@@ -22,13 +23,13 @@ ghost use Rattle.trial.specs.Load.{trials, loadWith, loadOf};
 // The crystal of the runner trial.
 const CRYSTAL_HZ: u32 = 12000000;
 
-// The regulator's reading: 1.10 V.
+// The voltage reading of the regulator, as a code: 1.10 V.
 const READING: u8 = 11;
 
-// The largest count that is served.
+// The largest count that is not refused.
 const MOST_COUNT: u32 = 10000;
 
-// A runner that is started with a sheet: each call hears the top bit of a draw.
+// Starts a runner with a sheet and makes `count` calls; the ready flag of each is the top bit of a draw.
 fn run(sheet: &[u8], seed: u32, count: u32) -> Runner
     requires { ⌜ badSize (length (now sheet)) ≡ false ⌝ }
     ensures { λ r. ⌜ r ≡ runnerAfter (now (sheet .entry)) (flags seed) count ⌝ }
@@ -46,7 +47,7 @@ fn run(sheet: &[u8], seed: u32, count: u32) -> Runner
     runner
 }
 
-// The preset is accepted, and its sheet finds room.
+// The runner trial over the sheet of the crystal preset. The preset is accepted and its sheet fits, so `init` never refuses.
 fn trial_runner(seed: u32, count: u32) -> Runner
     ensures { λ r. ⌜ r ≡ trialRunner seed count ⌝ }
 {
@@ -61,6 +62,7 @@ fn trial_runner(seed: u32, count: u32) -> Runner
     run(&bytes[..n], seed, count)
 }
 
+// Puts the position and the total of unready polls of a runner on a line.
 fn put_runner(out: &mut [u8], at: usize, r: Runner) -> usize
     ensures { λ e. ⌜ Placed (now (out .entry)) at (runnerLine r) e (now (out .exit)) ⌝ }
 {
@@ -69,6 +71,7 @@ fn put_runner(out: &mut [u8], at: usize, r: Runner) -> usize
     text::put_byte(out, at, b'\n')
 }
 
+// Puts the lines of both trials.
 fn put_trials(out: &mut [u8], seed: u32, count: u32) -> usize
     ensures { λ r. ⌜ Placed (now (out .entry)) 0 (trials seed count) r (now (out .exit)) ⌝ }
 {
@@ -76,7 +79,7 @@ fn put_trials(out: &mut [u8], seed: u32, count: u32) -> usize
     put_runner(out, at, trial_runner(seed, count))
 }
 
-// The output for a seed, with the count still to be looked at.
+// Puts the output for a seed and a count that may be refused; a count over 10000 gives the line of refusal 31.
 fn put_counted(out: &mut [u8], seed: u32, count: Number) -> usize
     ensures { λ r. ⌜ Placed (now (out .entry)) 0 (loadWith (value seed) (numberIs count)) r (now (out .exit)) ⌝ }
 {
@@ -91,7 +94,7 @@ fn put_counted(out: &mut [u8], seed: u32, count: Number) -> usize
     }
 }
 
-// The output for an input, and its length.
+// Puts the output for an input and answers its length.
 fn put_load(input: &[u8], out: &mut [u8]) -> usize
     requires { ⌜ length (now input) ≤ 22 ⌝ }
     ensures { λ r. ⌜ Placed (now (out .entry)) 0 (loadOf (now (input .entry))) r (now (out .exit)) ⌝ }
@@ -105,8 +108,8 @@ fn put_load(input: &[u8], out: &mut [u8]) -> usize
     }
 }
 
-// Writes the output for an input of which the first n bytes are known: all that it has, or as many as start holds, which
-// decide. Answers the output's length.
+// Writes the output for an input and answers its length. `start` holds the first n bytes of the input: all of them,
+// or 22, which decide the output.
 pub fn load(start: &[u8; 22], n: usize, out: &mut [u8; 80012]) -> usize
     ensures { λ e. ⌜ Printed loadOf (now (start .entry)) n (now (out .entry)) e (now (out .exit)) ⌝ }
 {

@@ -1,4 +1,5 @@
--- `book::main` meets its contract: the loop ends, and a line fits its buffer.
+-- `book::main` meets its contract: the loop ends after 1988 entries, and the length that `put_line` answers is within
+-- its buffer.
 use mathlib.Core.Path.{sym}
 use Prim.Native.Nat.{_-_, _≤_}
 use borrow.Author.Needs.{needs}

@@ -1,4 +1,5 @@
--- `load::main` meets its contract.
+-- `load::main` meets its contract: the lengths that `load` and `put_unread` answer are within their buffers, so both
+-- slices are in bounds.
 use mathlib.Core.Path.{sym}
 use borrow.Author.Needs.{needs}
 use lib.Seq.{length-take-le}

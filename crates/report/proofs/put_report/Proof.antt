@@ -1,4 +1,5 @@
--- `report::put_report` meets its contract.
+-- `report::put_report` meets its contract: the equation of `line_number` decides between a target, whose report
+-- `put_target` puts, and the line of the refusal.
 use borrow.Author.Needs.{needs}
 use Rattle.report.specs.Report.{reportOf}
 use Rattle.report.proofs.put_report.Statement.{statement}

@@ -1,4 +1,4 @@
--- `report::put_target` meets its contract: the plan that `system_freq` gives is one of the RP2040, as `put_plan` asks.
+-- `report::put_target` meets its contract: the plan that `system_freq` gives is one of the RP2040, as `put_plan` requires.
 use mathlib.Core.Path.{sym, ap, _∙_}
 use borrow.Author.Needs.{needs}
 use Rattle.config.specs.Presets.{plannedIs}

@@ -1,4 +1,5 @@
--- `trial::load` meets its contract.
+-- `trial::load` meets its contract: `first` gives the known bytes; 22 bytes decide every output (`load-start`) and
+-- 80012 are enough for it (`load-most`), so what `put_load` puts is the whole output (`printed`).
 use native.Mathlib.Omega.{arith}
 use lib.ListN.{length-take}
 use borrow.Author.Needs.{needs}

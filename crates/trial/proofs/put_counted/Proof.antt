@@ -1,4 +1,5 @@
--- `trial::put_counted` meets its contract.
+-- `trial::put_counted` meets its contract: a refused count is its line, and the comparison with 10000 decides between
+-- refusal 31 and the trials.
 use Prim.Native.Nat.{_≤_, _<_}
 use native.Mathlib.Omega.{arith}
 use borrow.{Author.Needs.needs, Author.Tests.lt-ltb, Author.Tests.le-ltb}

@@ -1,4 +1,5 @@
--- `trial::put_load` meets its contract.
+-- `trial::put_load` meets its contract: the index of the space is the length of the seed's text (`space-at`), so the
+-- two calls of `number_up_to` read the seed and the count of `loadOf`.
 use mathlib.Core.Path.{_≡_, _∙_}
 use Prim.Native.Nat.{_+_}
 use borrow.Author.Needs.{needs}

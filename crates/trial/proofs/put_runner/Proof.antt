@@ -1,4 +1,4 @@
--- `trial::put_runner` meets its contract.
+-- `trial::put_runner` meets its contract: the row and the newline are appended (`placed-append`), which is `runnerLine`.
 use borrow.Author.Needs.{needs}
 use Rattle.base.proofs.Placing.{placed-append}
 use Rattle.trial.specs.Load.{runnerLine}

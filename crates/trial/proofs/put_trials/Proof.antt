@@ -1,4 +1,5 @@
--- `trial::put_trials` meets its contract.
+-- `trial::put_trials` meets its contract: the lines of the targets and the line of the runner are appended
+-- (`placed-append`), which is `trials`.
 use borrow.Author.Needs.{needs}
 use Rattle.base.proofs.Placing.{placed-append}
 use Rattle.trial.specs.Load.{trials}

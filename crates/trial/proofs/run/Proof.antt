@@ -1,5 +1,5 @@
--- `trial::run` meets its contract. Invariant: after i calls the runner and the last draw are those of the definitions.
--- Measure: how many calls are left.
+-- `trial::run` meets its contract: the loop keeps that after i calls the runner and the last draw are those of the
+-- definitions; the measure is the number of calls left.
 use mathlib.Core.Path.{_≡_, refl, ap, _∙_}
 use Prim.Native.Nat.{_-_, _≤_}
 use native.Mathlib.Omega.{arith}

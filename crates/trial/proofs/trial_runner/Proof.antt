@@ -1,4 +1,5 @@
--- `trial::trial_runner` meets its contract.
+-- `trial::trial_runner` meets its contract: the preset is accepted, so `init` does not refuse (`never-refused`), and
+-- the bytes that it wrote are the sheet of the trial (`written`).
 use mathlib.Core.{List.List, Path.refl, Path.sym, Path.ap, Path._∙_}
 use Prim.Native.Nat.{ℕ}
 use borrow.Author.Needs.{needs}

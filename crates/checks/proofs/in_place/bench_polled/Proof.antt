@@ -1,4 +1,5 @@
--- `checks::in_place::bench_polled` meets its contract: it lends a bench of its own to `poll`.
+-- `checks::in_place::bench_polled` meets its contract: it lends a local copy of the bench to `poll`, whose contract
+-- holds of the copy (`lent`).
 use mathlib.Core.{Path._≡_, List.[], List._∷_}
 use Rattle.base.proofs.HandedOn.{bytes, byte, flag}
 use Rattle.runner.specs.Run.{outcome, replyIs}

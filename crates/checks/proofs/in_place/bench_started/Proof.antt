@@ -1,4 +1,5 @@
--- `checks::in_place::bench_started` meets its contract: it lends a bench of its own to `start`.
+-- `checks::in_place::bench_started` meets its contract: it lends a local copy of the bench to `start`, whose contract
+-- holds of the copy (`lent`).
 use mathlib.Core.{Path._≡_, List.[], List._∷_}
 use Rattle.base.proofs.HandedOn.{bytes}
 use Rattle.runner.specs.Run.{begun, openingIs}

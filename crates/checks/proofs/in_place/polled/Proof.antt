@@ -1,4 +1,5 @@
--- `checks::in_place::polled` meets its contract: it lends a runner of its own to `poll`.
+-- `checks::in_place::polled` meets its contract: it lends a local copy of the runner to `poll`, whose contract holds
+-- of the copy (`lent`).
 use mathlib.Core.{Path._≡_, List.[], List._∷_}
 use Rattle.base.proofs.HandedOn.{bytes, flag}
 use Rattle.runner.specs.Run.{outcome, replyIs, steppedIs, advanceOf}

@@ -1,4 +1,4 @@
--- `checks::in_place::run` meets its contract: the loop ends. Measure: how many calls are left.
+-- `checks::in_place::run` meets its contract: the loop ends, since the number of calls left falls.
 use borrow.Author.Needs.{needs}
 use Rattle.checks.proofs.in_place.run.Statement.{statement}
 use Rattle.checks.proofs.in_place.run.Tie as tie

@@ -1,4 +1,4 @@
--- `checks::in_place::run_board` meets its contract: the loop ends. Measure: how many calls are left.
+-- `checks::in_place::run_board` meets its contract: the loop ends, since the number of calls left falls.
 use borrow.Author.Needs.{needs}
 use Rattle.checks.proofs.in_place.run_board.Statement.{statement}
 use Rattle.checks.proofs.in_place.run_board.Tie as tie

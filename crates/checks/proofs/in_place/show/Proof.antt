@@ -1,4 +1,5 @@
--- `checks::in_place::show` meets its contract.
+-- `checks::in_place::show` meets its contract: the length that `put_line` answers is within its buffer, so the slice is
+-- in bounds.
 use mathlib.Core.Path.{sym}
 use borrow.Author.Needs.{needs}
 use lib.Seq.{length-take-le}

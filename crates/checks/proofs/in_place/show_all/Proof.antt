@@ -1,4 +1,5 @@
--- `checks::in_place::show_all` meets its contract: the sheet's length is within the buffer.
+-- `checks::in_place::show_all` meets its contract: the length that `init` answers is within its buffer, so the slice
+-- is in bounds.
 use mathlib.Core.{List.List, Path._≡_, Path.sym}
 use Prim.Native.Nat.{ℕ, _≤_}
 use native.Mathlib.Omega.{arith}

@@ -1,4 +1,4 @@
--- `checks::in_place::show_board` meets its contract: the loop ends. Measure: how many clocks are left.
+-- `checks::in_place::show_board` meets its contract: the loop ends, since the number of clocks left falls.
 use Prim.Native.Nat.{_-_}
 use borrow.Author.Needs.{needs}
 use Rattle.checks.proofs.in_place.show_board.Statement.{statement}

@@ -1,4 +1,5 @@
--- `checks::programs::show` meets its contract.
+-- `checks::programs::show` meets its contract: the length that `report` answers is within its buffer, so the slice is
+-- in bounds.
 use mathlib.Core.Path.{sym}
 use borrow.Author.Needs.{needs}
 use lib.Seq.{length-take-le}

@@ -1,4 +1,5 @@
--- `checks::programs::show_load` meets its contract.
+-- `checks::programs::show_load` meets its contract: the length that `load` answers is within its buffer, so the slice
+-- is in bounds.
 use mathlib.Core.Path.{sym}
 use borrow.Author.Needs.{needs}
 use lib.Seq.{length-take-le}

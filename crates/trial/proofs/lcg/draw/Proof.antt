@@ -1,4 +1,5 @@
--- `trial::lcg::draw` meets its contract.
+-- `trial::lcg::draw` meets its contract: the sum of the reduced product, reduced again, is the definition's sum reduced
+-- once.
 use native.Mathlib.Omega.{arith}
 use borrow.Author.Needs.{needs}
 use Rattle.trial.specs.Lcg.{drawOf}

@@ -1,4 +1,5 @@
--- `trial::lcg::low_product` meets its contract.
+-- `trial::lcg::low_product` meets its contract: the product of two 32-bit numbers fits 64 bits (`product-fits`), so its
+-- remainder is exact.
 use borrow.Author.Needs.{needs}
 use Rattle.base.proofs.Products.{product-fits}
 use Rattle.trial.proofs.lcg.low_product.Statement.{statement}

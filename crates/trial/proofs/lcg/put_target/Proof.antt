@@ -1,4 +1,5 @@
--- `trial::lcg::put_target` meets its contract.
+-- `trial::lcg::put_target` meets its contract: at 12 MHz the search finds a setting for every target (`search-finds`),
+-- so the refusal cannot occur; the row and the newline are the line.
 use mathlib.Core.Path.{_≡_, _∙_}
 use Prim.Native.Nat.{ℕ}
 use native.Mathlib.Omega.{arith}

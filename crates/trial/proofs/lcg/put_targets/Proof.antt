@@ -1,5 +1,5 @@
--- `trial::lcg::put_targets` meets its contract. Invariant: after i draws the last draw and the lines written are those of the
--- definitions. Measure: how many draws are left.
+-- `trial::lcg::put_targets` meets its contract: the loop keeps that after i draws the last draw and the lines written
+-- are those of the definitions; the measure is the number of draws left.
 use mathlib.Core.Path.{_≡_, refl, _∙_}
 use Prim.Native.Nat.{_-_, _≤_}
 use native.Mathlib.Omega.{arith}
