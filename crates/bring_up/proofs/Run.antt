@@ -1,4 +1,5 @@
--- A plan's sheet starts any runner; that of an accepted plan, at any reading, runs to its end and leaves its stored values.
+-- Any runner starts with the sheet of a plan; the sheet of an accepted plan, at any reading, runs to its end, and the
+-- runner then holds its stored values.
 use mathlib.Core.{Bool.false, Path._≡_, Path.sym, Path._∙_, Path.ap}
 use Prim.Native.Nat.{ℕ}
 use lib.ListN.{length}

@@ -29,7 +29,7 @@ inOrder =
 abbrev pub meets : ℕ → ℕ → PllConfig → Bool
 meets input target c = permitted input c && exact input target c
 
--- the settings listed
+-- the settings that are listed
 unfoldable pub listOf : ℕ → ℕ → List PllConfig
 listOf input target = keep (meets input target) inOrder
 

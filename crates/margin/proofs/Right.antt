@@ -64,7 +64,7 @@ module _ (input target : ℕ) where
   at-target : (u : ℕ) → target ≤ u → u ≤ target → searchOf input u ≡ searchOf input target
   at-target u a b = let e : u ≡ target = omega arith in ap (searchOf input) e
 
-  -- every 32-bit target has it
+  -- for every 32-bit target `marginOf` is right
   pub margin-right : target < 4294967296 → RightMargin input target (marginOf input target)
   unfolding marginOf
   margin-right fits = go (searchOf input target) refl

@@ -33,7 +33,7 @@ found-tells input t d c r e s =
 pub refused-tells : (input t n : ℕ) (c : PllConfig) → searchOf input t ≡ refusal n → Tells input t c false
 refused-tells input t n c e = record { yes = λ y. no y; no = λ h. absurd (refused-not n c (sym e ∙ h)) }
 
--- at the loop's end low and high are one
+-- at the end of the loop low and high are equal
 pub lowest-end : (input target low high : ℕ) (c : PllConfig) → low ≡ high → high ≤ target → Has input c target
     → Has input c high → ((t : ℕ) → t < low → Has input c t → ⊥) → Lowest input target c low
 lowest-end input target low high c e h s t n =
@@ -76,7 +76,7 @@ higher-side input target high c (some g) s h e =
     )
 higher-side input target high c none s h e = λ t a b. h .up-to t a (omega (arith, h .fits)) ∙ sym s
 
--- the search refuses with 15 only
+-- the search refuses only with 15
 pub refused-15 : (input target n : ℕ) → searchOf input target ≡ refusal n
     → (n ≡ 15) × (searchOf input target ≡ refusal 15)
 refused-15 input target n e =

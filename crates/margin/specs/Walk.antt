@@ -9,7 +9,7 @@ use Rattle.pll.specs.declared.PllConfig.{PllConfig}
 abbrev pub Has : ℕ → PllConfig → ℕ → Type 0
 Has input c t = searchOf input t ≡ value c
 
--- r says whether it does
+-- r says whether the search gives c
 pub record Tells (input t : ℕ) (c : PllConfig) (r : Bool) : Type 0 where
   pub yes : r ≡ true → Has input c t
   pub no : Has input c t → r ≡ true
@@ -27,7 +27,7 @@ pub record Highest (input target : ℕ) (c : PllConfig) (r : ℕ) : Type 0 where
   pub above : (t : ℕ) → r < t → t < 4294967296 → Has input c t → ⊥
   pub up-to : (t : ℕ) → target ≤ t → t ≤ r → Has input c t
 
--- the number below x, none below 0; and the number above x, none above 32 bits
+-- the number below x, none below 0; then the number above x, none above 32 bits
 abbrev pub JustBelow : ℕ → Option ℕ → Type 0
 JustBelow x (some l) = l + 1 ≡ x
 JustBelow x none = x ≡ 0

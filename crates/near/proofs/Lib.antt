@@ -1,3 +1,3 @@
--- What holds of the search by whole hertz.
+-- The theorems about the search by whole hertz.
 pub mod Near
 pub mod UsbRows

@@ -144,7 +144,7 @@ sum-high x y t h k = omega arith
 high-sum : (x y t : ℕ) → x < y → t + t ≤ x + y → apart x t ≤ apart y t
 high-sum x y t h k = omega arith
 
--- what is as near at b as x, and no nearer at a target on its own side, is as near there
+-- an output that is as near to b as x, and not nearer to a target on its own side, is as near to that target
 as-near : (x y a b : ℕ) → apart x a ≤ apart y a → apart y b ≡ apart x b → (y < x) × (a ≤ b) → apart y a ≡ apart x a
 as-near x y a b k e h =
     let m : x + y ≤ a + a = sum-low x y a (h .0) k in
@@ -172,7 +172,7 @@ order x y = go (decLe x y)
     go (yes h) = ⊎-elim same above (eq-or-lt-of-le h)
     go (no h) = below (omega arith)
 
--- what is nearest at two targets is nearest at each between
+-- the nearest setting of two targets is the nearest of every target between them
 near-between : (input a b z : ℕ) (c : PllConfig) → a ≤ b → b ≤ z → NearestOutput input a c → NearestOutput input z c
     → NearestOutput input b c
 near-between input a b z c ab bz na nz =

@@ -1,2 +1,2 @@
--- What the theorems say.
+-- The statements of the theorems.
 pub mod Near

@@ -28,7 +28,7 @@ module _ (input : ℕ) where
         };
       }
 
-  -- a divider that is permitted, and one that is not
+  -- the test of a permitted divider, and of one that is not
   is-permitted : (fb : ℕ) → referenceMin ≤ input → VcoPermits input fb → permitted input (setting fb 1 1) ≡ true
   is-permitted fb least v =
       candidate-permitted input (setting fb 1 1)
@@ -91,7 +91,7 @@ module _ (input : ℕ) where
       go (no l) h = no (λ s. l (s .0))
       go (yes l) (no h) = no (λ s. h (s .1))
 
-  -- as the code tests it
+  -- the same from the test of the code
   pub test-served : (b : Bool) → b ≡ inRange referenceMin 100000000 input → b ≡ true → Served
   test-served b e t = in-range referenceMin 100000000 input (sym e ∙ t)
 
@@ -101,7 +101,7 @@ module _ (input : ℕ) where
       let z : _≡_ {A = ℕ} 0 1 = cc in
       omega arith
 
-  -- no other input has one
+  -- no other input has a permitted divider
   pub unserved : (Served → ⊥) → (fb : ℕ) → referenceMin ≤ input → VcoPermits input fb → ⊥
   unserved n fb least v = n (least, omega (arith, v .vco .high, mul-le-mul-left input (v .low)))
 
@@ -194,7 +194,7 @@ module _ (input : ℕ) where
   number (value n) = n
   number (refusal n) = n
 
-  -- an end that there is has its input served
+  -- an input that has an end is served
   pub end-served : (a : Answer ℕ) (fb : ℕ) → a ≡ value fb → ((Served → ⊥) → a ≡ refusal 15) → Served
   end-served a fb e none = go served
     where
@@ -202,7 +202,7 @@ module _ (input : ℕ) where
       go (yes s) = s
       go (no n) = absurd (let r = none n in let z : _≡_ {A = ℕ} 0 1 = cc in omega arith)
 
-  -- what is found is the highest, and the lowest
+  -- the divider that is found is the highest; then the lowest
   pub highest-right : (fb : ℕ) → highestOf input ≡ value fb → Served × HighestPermitted input fb
   highest-right fb e =
       let s = end-served (highestOf input) fb e highest-none in
@@ -226,7 +226,7 @@ module _ (input : ℕ) where
   between-permitted low high fb l h =
       permits-between low fb high (lowest-right low l .one) (highest-right high h .1 .one)
 
-  -- and none outside them is
+  -- no divider outside the ends is permitted
   pub outside-refused : (low high fb : ℕ) → lowestOf input ≡ value low → highestOf input ≡ value high
       → VcoPermits input fb → (low ≤ fb) × (fb ≤ high)
   outside-refused low high fb l h v = (lowest-right low l .last fb v, highest-right high h .1 .last fb v)

@@ -27,7 +27,7 @@ module _ (input target : ℕ) where
       go (value c) h = absurd (none c (h .candidate))
       go (refusal n) h = ap refusal (h .0)
 
-  -- where there is no end, no divider may be taken, so the walk cannot be entered, and the answer is 15
+  -- where an end is missing, no divider is permitted, so there is nothing to walk over, and the answer is 15
   pub none-to-walk : (n : ℕ) → (highestOf input ≡ refusal n) ⊎ (lowestOf input ≡ refusal n)
       → (n ≡ 15) × (searchOf input target ≡ refusal 15) × ((fb : ℕ) → referenceMin ≤ input → VcoPermits input fb → ⊥)
   none-to-walk n e = go (served input)
@@ -58,12 +58,12 @@ module _ (input target : ℕ) where
   pub search-refuses-high : 100000000 < input → searchOf input target ≡ refusal 15
   search-refuses-high l = refuses (λ c m. omega (arith, input-most c m))
 
-  -- what is handed out has a reference of 5 MHz or more, reference divider 1, feedback divider 16 to 320, and VCO and
-  -- post dividers in range
+  -- a setting of the search has a reference of 5 MHz or more, reference divider 1, feedback divider 16 to 320, and
+  -- VCO and post dividers in range
   pub found-candidate : (c : PllConfig) → searchOf input target ≡ value c → Candidate input c
   found-candidate c e = subst (RightAnswer input target) e (search-right input target) .candidate
 
-  -- and so it is valid
+  -- so a setting of the search is valid
   pub found-valid : (c : PllConfig) → searchOf input target ≡ value c → validOf c input ≡ true
   found-valid c e =
       let m = found-candidate c e in

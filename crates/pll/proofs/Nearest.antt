@@ -32,7 +32,7 @@ score-below v t p d hp l h hv m =
     let o : t ≤ v / d = le-div-iff-mul-le {k = d} {x = t} {y = v} (omega arith) .1 m in
     omega (arith, score-most v t d, far v t p hp (λ e. omega arith))
 
--- of the others the least
+-- of the other products the least has the lowest score
 score-above : (v t p d : ℕ) → 0 < d → d < p → p ≤ 49 → 2450 ≤ v → v < t * d → scoreOf v t d < scoreOf v t p
 score-above v t p d hd l h hv m =
     let g : v / p < v / d = gap v d p hd l h hv in

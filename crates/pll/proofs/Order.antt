@@ -85,7 +85,7 @@ module _ (by : PllConfig → ℕ) where
         (λ c d a b. ordered c d (a .0) (b .0) (omega (arith, a .1, b .1)))
         (g k) (flatMap g (rising n (suc k))) (one k (omega arith)) (lists-rising ordered n (suc k) (omega arith))
 
-  -- those that pass a test
+  -- the settings that pass a test
   module _ (test : PllConfig → Bool) where
     abbrev Passes : Kind → Kind
     Passes C c = C c × (test c ≡ true)
@@ -114,7 +114,7 @@ module _ (by : PllConfig → ℕ) where
             passed : (d : PllConfig) → Passes C d → d ≡ c → ⊥
             passed d m f = let z : _≡_ {A = ℕ} 0 1 = cc (m .1, ap test f, e) in omega arith
 
--- those of two lists that pass it
+-- the test over two lists
 pick-append : (b : Bool) (c : PllConfig) (xs ys : List PllConfig)
     → pick b (c ∷ (xs ++ ys)) (xs ++ ys) ≡ pick b (c ∷ xs) xs ++ ys
 pick-append true c xs ys = refl
@@ -127,7 +127,7 @@ keep-append test [] ys = refl
 keep-append test (c ∷ xs) ys =
     rw (keep-append test xs ys) (pick-append (test c) c (keep test xs) (keep test ys))
 
--- and of changed settings
+-- the test over changed settings
 pick-map : (b : Bool) (f : PllConfig → PllConfig) (c : PllConfig) (xs : List PllConfig)
     → pick b (f c ∷ map f xs) (map f xs) ≡ map f (pick b (c ∷ xs) xs)
 pick-map true f c xs = refl

@@ -19,7 +19,7 @@ module _ (input target : ℕ) where
   abbrev place : PllConfig → ℕ
   place c = distance input target c * keys + (keys - 1 - key c)
 
-  -- what holds of the nearest setting of C
+  -- the nearest setting of C, of equals the first
   abbrev NearestOf : Kind → Answer PllConfig → Type 0
   NearestOf C (value c) = C c × ((d : PllConfig) → C d → place c ≤ place d)
   NearestOf C (refusal n) = (n ≡ 15) × ((d : PllConfig) → C d → ⊥)

@@ -18,7 +18,7 @@ module _ (input target fb : ℕ) where
         min-cases best here _ (λ l e. inl e)
         (λ l e. ⊎-elim (λ n. inl (omega arith)) (λ f. inr (f .0, f .1, e ∙ f .2)) (found .one))
 
-    -- from the lowest rank below a feedback divider to that with it
+    -- the lowest rank below a feedback divider, and the ranks at it, give the lowest rank up to it
     pub walk-on : (r : ℕ) → LowestRank input target (CandidatesTo input (fb - 1)) now r
         → LowestRank input target (CandidatesTo input fb) best r
     walk-on r w =
@@ -40,7 +40,7 @@ module _ (input target fb : ℕ) where
         → LowestRank input target (CandidatesTo input fb) best now
     stop h = walk-on now (record { most = omega arith; one = inl refl; least = h })
 
-    -- as at a rank without a remainder
+    -- this holds at a rank without a remainder
     pub stop-exact : now < keys → keys ≤ best → LowestRank input target (CandidatesTo input fb) best now
     stop-exact n b =
         stop (λ c m. ⊎-elim (λ e. absurd (omega arith))
@@ -50,13 +50,13 @@ module _ (input target fb : ℕ) where
         omega (arith, f .2, f .1 .1, f .1 .0 .feedback-low, m .1, m .0 .post1-high, m .0 .post2-high))
         now-one)
 
-    -- and at the lowest that the VCO permits
+    -- this holds at the lowest divider that the VCO permits
     pub stop-last : (low : ℕ) → LowestPermitted input low → fb ≤ low → 0 < fb
         → LowestRank input target (CandidatesTo input fb) best now
     stop-last low l h s =
         stop (λ c m. absurd (omega (arith, l .last (c .fbdiv) (candidate-permits input c (m .0)), m .1)))
 
--- the walk from the highest that the VCO permits has looked at every candidate
+-- the walk from the highest divider that the VCO permits covers every candidate
 pub all-walked : (input target high best r : ℕ) → HighestPermitted input high
     → LowestRank input target (CandidatesTo input high) best r → LowestRank input target (Candidate input) best r
 all-walked input target high best r h w =

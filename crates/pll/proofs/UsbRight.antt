@@ -72,7 +72,7 @@ module _ (crystal : ℕ) where
               ⊎-elim (λ s. omega (arith, ap key s)) (λ s. omega arith) (l .1 (withReference 1 d) (fitting d u e)),
         )
 
-  -- and of those with the next n reference dividers
+  -- the first that fits of those with the next n reference dividers
   first-rising : (n r : ℕ) → n + r ≡ 64 → NoneBelow crystal r
       → UsbRight crystal
       (firstOr (refusal 25) (keep (usbFits crystal) (flatMap (λ r. map (withReference r) settings) (rising n r))))
@@ -97,7 +97,7 @@ module _ (crystal : ℕ) where
   unfolding usbOf usbSettings
   usb-right = first-rising 63 1 refl (λ d u l. omega (arith, valid d crystal (u .valid) .refdiv .0))
 
-  -- what is handed out is valid and gives 48 MHz
+  -- the setting that is answered is valid and gives 48 MHz
   pub usb-found : (c : PllConfig) → usbOf crystal ≡ value c → UsbSetting crystal c
   usb-found c e = subst (UsbRight crystal) e usb-right .setting
 

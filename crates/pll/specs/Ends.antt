@@ -5,16 +5,16 @@ use lib.Dec.{leb}
 use Rattle.base.specs.{Choice.pick, Answer.Answer, Answer.value, Answer.refusal}
 use Rattle.pll.specs.{Ranges.feedbackMax, Search.falling, Search.rising, Search.setting, Search.permitted}
 
--- the first of the list that is permitted, whatever the post dividers; 15 where none is
+-- the first permitted divider of the list, whatever the post dividers; refusal 15 where there is none
 unfoldable pub firstPermitted : ℕ → List ℕ → Answer ℕ
 firstPermitted input [] = refusal 15
 firstPermitted input (fb ∷ fbs) = pick (permitted input (setting fb 1 1)) (value fb) (firstPermitted input fbs)
 
--- the highest
+-- the highest permitted divider; refusal 15 where there is none
 unfoldable pub highestOf : ℕ → Answer ℕ
 highestOf input = firstPermitted input (falling feedbackMax)
 
--- the lowest
+-- the lowest permitted divider; refusal 15 where there is none
 unfoldable pub lowestOf : ℕ → Answer ℕ
 lowestOf input = firstPermitted input (rising feedbackMax 1)
 

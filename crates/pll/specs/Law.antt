@@ -1,4 +1,4 @@
--- The right answer of the search, stated declaratively (docs/PLL.md); `proofs/Right.antt` proves it of `searchOf`.
+-- The right answer of the search (docs/PLL.md, Search), stated declaratively; `proofs/Right.antt` proves it of `searchOf`.
 use mathlib.Core.{Path._≡_, Logic._⊎_, Logic._↔_}
 use Prim.Native.Nat.{ℕ, _*_, _≤_, _<_}
 use Rattle.base.specs.Answer.{Answer, value, refusal}
@@ -46,7 +46,7 @@ pub record Candidate (input : ℕ) (c : PllConfig) : Type 0 where
 abbrev pub Exact : ℕ → ℕ → PllConfig → Type 0
 Exact input target c = target * postsOf c ≡ vcoOf c input
 
--- no candidate does
+-- no candidate gives the target with no remainder
 abbrev pub NoneExact : ℕ → ℕ → Type 0
 NoneExact input target = (d : PllConfig) → Candidate input d → Exact input target d → ⊥
 

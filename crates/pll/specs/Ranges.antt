@@ -1,4 +1,4 @@
--- The ranges of a PLL's numbers, ends included.
+-- The ranges of the numbers of a PLL (docs/PLL.md, Valid PLLs), ends included.
 use Prim.Native.Nat.{ℕ}
 
 -- the reference frequency: 5 to 800 MHz
@@ -8,7 +8,7 @@ referenceMin = 5000000
 abbrev pub referenceMax : ℕ
 referenceMax = 800000000
 
--- the feedback divider
+-- the feedback divider: 16 to 320
 abbrev pub feedbackMin : ℕ
 feedbackMin = 16
 

@@ -1,4 +1,5 @@
--- The search for a setting: all candidates in order, the first with no remainder, else the first that is nearest.
+-- The search for a setting (docs/PLL.md, Search): of all candidates in order, the first with no remainder, else the
+-- first that is nearest.
 use mathlib.Core.{List.List, List.[], List._∷_, List.map, List.flatMap, Bool.Bool, Bool._&&_}
 use Prim.Native.Nat.{ℕ, zero, suc, _+_, _-_, _*_}
 use lib.Dec.{leb, eqb}
@@ -26,7 +27,7 @@ setting fb p1 p2 = record { refdiv = 1; fbdiv = fb; «post_div1» = p1; «post_d
 unfoldable pub settings : List PllConfig
 settings = flatMap (λ fb. flatMap (λ p1. map (setting fb p1) (falling p1)) (falling 7)) (falling feedbackMax)
 
--- those of the list that pass the test, in its order
+-- the settings of the list that pass the test, in its order
 unfoldable pub keep : (PllConfig → Bool) → List PllConfig → List PllConfig
 keep test [] = []
 keep test (c ∷ cs) = pick (test c) (c ∷ keep test cs) (keep test cs)
@@ -56,7 +57,7 @@ unlessNearer input target c (value d) =
     value (pick (leb (distance input target c) (distance input target d)) c d)
 unlessNearer input target c (refusal n) = value c
 
--- the nearest of the list, of equals the first; 15 where the list is empty
+-- the nearest of the list, of equals the first; refusal 15 where the list is empty
 unfoldable pub nearest : ℕ → ℕ → List PllConfig → Answer PllConfig
 nearest input target [] = refusal 15
 nearest input target (c ∷ cs) = unlessNearer input target c (nearest input target cs)

@@ -30,7 +30,7 @@ not-at-step s (value step) ready =
     tt
 not-at-step s (refusal n) ready = tt
 
--- a call is not done, or any call is
+-- a call does not answer done, or every call does
 either : (s : State) (len : ℕ) (kept sheet : List ℕ) (heard ready : Bool)
     → NotDone (turnOf s len kept sheet heard .answer) ⊎ (turnOf s len kept sheet ready ≡ outcome (value done) s)
 unfolding turnOf onwardOf
@@ -51,7 +51,7 @@ either s len kept sheet heard ready =
     go false false false true x y n = inr refl
     go false false false false x y n = inl n
 
--- a runner that answers done answers done at each call, whatever it hears, and stays as it is
+-- a runner that answers done answers done at each call, ready or not, and stays as it is
 pub done-stays : (r : Runner) (sheet : List ℕ) (heard ready : Bool) → advanceOf r sheet heard .answer ≡ value done
     → advanceOf r sheet ready ≡ outcome (value done) r
 unfolding advanceOf stepperOf

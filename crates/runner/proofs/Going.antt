@@ -19,7 +19,7 @@ use Rattle.runner.proofs.{Starts.kept-sheet, Calls.onward-done, Calls.o
 abbrev pub going : ℕ → ℕ → ℕ → State
 going p polls total = record { position = p; «lock_polls» = polls; total = total; stopped = false }
 
--- started with the sheet
+-- a runner that was started with the sheet, at a position
 abbrev pub standing : List ℕ → ℕ → ℕ → ℕ → List ℕ → Runner
 standing sheet p polls total freqs =
     withStepper (startedWith sheet) (record { state = going p polls total; freqs = freqs })
@@ -42,13 +42,13 @@ pub hands : (s : State) (step : Step) (ready : Bool) → isWait (step .kind) ≡
 unfolding takeStep
 hands s step ready w = simp w
 
--- a wait that hears ready is passed
+-- a wait with the ready flag is passed
 pub passes : (s : State) (step : Step) → isWait (step .kind) ≡ true
     → takeStep s step true ≡ outcome (value passed) (movedOn s 0)
 unfolding takeStep
 passes s step w = simp w
 
--- a wait that hears unready waits, with at most one lock poll more
+-- a wait that is not ready waits, with at most one more lock poll
 pub record Polled (p polls total : ℕ) (step : Step) : Type 0 where
   pub now : ℕ
   pub more : now ≤ polls + 1
@@ -89,7 +89,7 @@ module _ (sheet : List ℕ) (n : ℕ) (few : n ≤ maxSteps) (size : length shee
       sym (call-goes (going p polls total) (length sheet) (padded sheet) sheet ready (within p polls total h l) refl
       (rw (kept-sheet sheet) (same-refl sheet)))
 
-  -- past the last step
+  -- a call past the last step answers done
   pub done-at : (total : ℕ) (freqs : List ℕ) (ready : Bool)
       → advanceOf (standing sheet n 0 total freqs) sheet ready ≡ outcome (value done) (standing sheet n 0 total freqs)
   unfolding advanceOf stepperOf
@@ -97,7 +97,7 @@ module _ (sheet : List ℕ) (n : ℕ) (few : n ≤ maxSteps) (size : length shee
       rw (goes n 0 total ready (omega arith) (omega arith)
       ∙ sym (onward-done (going n 0 total) sheet ready (omega arith)))
 
-  -- at a step
+  -- a call at a step has the outcome of the step
   pub step-at : (step : Step) (p polls total : ℕ) (freqs : List ℕ) (ready : Bool) (x : Outcome State)
       → p < n → polls < 1000000 → readAt sheet (8 * p) ≡ value step → takeStep (going p polls total) step ready ≡ x
       → advanceOf (standing sheet p polls total freqs) sheet ready ≡ inRunner (startedWith sheet) (joined x freqs)

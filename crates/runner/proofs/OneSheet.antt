@@ -18,7 +18,7 @@ module _ (r : Runner) (sheet : List ℕ) (ready : Bool) (other : same (take (r .
   unfolding advanceOf stepperOf turnOf
   other-refused o t = simp (o, t, other)
 
-  -- and leaves the runner as it is
+  -- a call with another sheet leaves the runner as it is
   pub other-leaves : advanceOf r sheet ready .next ≡ r
   unfolding advanceOf stepperOf turnOf
   other-leaves = go (outside (r .stepper .state) (r .len)) refl (r .stepper .state .stopped) refl

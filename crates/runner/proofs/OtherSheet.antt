@@ -24,7 +24,7 @@ either : {A : Type 0} (P : A → Type 0) (b : Bool) (x y : A) → (b ≡ true �
 either P true x y p q = p refl
 either P false x y p q = q refl
 
--- at most past the last step, and before the timeout
+-- the position is at most that past the last step, and the lock polls are below the timeout
 abbrev InRange : ℕ → State → Type 0
 InRange len s = (8 * s .position ≤ len) × (s .«lock_polls» < 1000000)
 

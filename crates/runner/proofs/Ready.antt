@@ -38,7 +38,7 @@ module _ (sheet : List ℕ) (n : ℕ) (few : n ≤ maxSteps) (size : length shee
   ready-at step p freqs h read =
       step-at sheet n few size step p 0 0 freqs true _ h (omega arith) read (takes step p) ∙ rw (stores step freqs)
 
-  -- a runner with the steps ts before it takes them all, then is done
+  -- a runner before the steps ts takes all of them, then answers done
   record Through (p : ℕ) (freqs : List ℕ) (ts : List Step) : Type 0 where
     answered : answers (readyAt sheet p freqs) sheet (replicate (suc (length ts)) true)
         ≡ map readyAnswer ts ++ (value done ∷ [])
@@ -70,7 +70,7 @@ pub ready-answers : (xs : List Step) → AllFormed xs → length xs ≤ maxSteps
     → answers (startedWith (encoded xs)) (encoded xs) (replicate (length xs + 1) true) ≡ map readyAnswer xs ++ (value done ∷ [])
 ready-answers xs f few = rw add-one (all xs f few .answered)
 
--- after as many calls as there are steps the frequencies are what the sheet stores
+-- after one call for each step the frequencies are those that the sheet stores
 pub ready-stores : (xs : List Step) → AllFormed xs → length xs ≤ maxSteps
     → after (startedWith (encoded xs)) (encoded xs) (replicate (length xs) true)
     ≡ readyAt (encoded xs) (length xs) (storesOf xs (replicate 10 0))

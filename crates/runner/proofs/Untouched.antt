@@ -57,7 +57,7 @@ with-kept r x = go (x .answer) (x .next)
     go (refusal n) b (inl e) = inl (rw e)
     go (refusal n) b (inr (number, e)) = inr (number, rw e)
 
--- and so the runner, and its kept sheet always
+-- so a refusal leaves the runner unchanged, except at the lock timeout; the kept sheet never changes
 pub refusal-keeps : (r : Runner) (sheet : List ℕ) (ready : Bool) → Untouched r (timedOut r) (advanceOf r sheet ready)
 unfolding advanceOf
 refusal-keeps r sheet ready =

@@ -123,7 +123,7 @@ module _ (ws : List ℕ) where
       waits-apart (λ x y z. order (wakeStepsBy ws x y z) ≡ 10 ∷ 9 ∷ 8 ∷ 7 ∷ 6 ∷ 5 ∷ 3 ∷ 4 ∷ 2 ∷ 1 ∷ 0 ∷ [])
       (crystalRuns (wordIn ws 9)) (pllRuns (wordIn ws 8)) (pllRuns (wordIn ws 7)) refl refl refl refl refl refl refl refl
 
-  -- a sleep waits for the ring alone
+  -- a sleep waits only for the ring
   pub sleep-waits : waitSteps (sleepSteps ws) ≡ RingStable ∷ []
   unfolding sleepSteps
   sleep-waits = refl

@@ -11,7 +11,7 @@ field low size w = w / 2 ^ low % 2 ^ size
 abbrev pub withField : ℕ → ℕ → ℕ → ℕ → ℕ
 withField low size v w = w / 2 ^ (low + size) * 2 ^ (low + size) + v * 2 ^ low + w % 2 ^ low
 
--- PLL PWR: PD and VCOPD 1
+-- PLL PWR with PD and VCOPD set to 1
 abbrev pub pllOff : ℕ → ℕ
 pllOff w = withField 5 1 1 (withField 0 1 1 w)
 

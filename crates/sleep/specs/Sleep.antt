@@ -64,7 +64,7 @@ sleepSteps ws =
 abbrev pub waitIf : Bool → Step → List Step
 waitIf running wait = pick running (wait ∷ []) []
 
--- back: from the last register to the first, but ring control (3) before ring divider (4)
+-- out of sleep: from the last register to the first, but ring control (3) before ring divider (4)
 unfoldable pub wakeStepsBy : List ℕ → Bool → Bool → Bool → List Step
 wakeStepsBy ws crystal usb sys =
     write ws 10

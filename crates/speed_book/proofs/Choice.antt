@@ -20,7 +20,7 @@ high-least x y t h k = omega arith
 high-first : (x y t : ℕ) → t ≤ x → x ≤ y → apart y t ≡ apart x t → y ≡ x
 high-first x y t h k e = omega arith
 
--- x below the target and z from it on: the nearer by twice the target
+-- for x below the target and z from it on, the sum compared with twice the target decides which is nearer
 low-across : (x z t : ℕ) → x ≤ t → t ≤ z → t + t ≤ x + z → apart x t ≤ apart z t
 low-across x z t h k l = omega arith
 
@@ -48,7 +48,7 @@ below-within a j p w f = go (decLe j (a - 1))
     go (no l) = absurd (omega (arith, f .below (a - 1) (omega arith)))
 
 module _ (t a : ℕ) (fa : FirstFrom t a) where
-  -- from a on
+  -- the entries from a on
   high : (k : ℕ) → a ≤ k → k < 1988 → (t ≤ h a) × (h a ≤ h k) × (h k ≡ h a → q k ≤ q a)
   high k l b = let o = entry-order a k l b in (fa .from a (omega arith) (omega arith), o .0, o .1)
 
@@ -74,7 +74,7 @@ module _ (t a : ℕ) (fa : FirstFrom t a) where
     pub j-below : h j < t
     j-below = fa .below j j-within
 
-    -- below a
+    -- the entries below a
     low : (k : ℕ) → k < a → (h k ≤ h j) × (h k ≡ h j → q k ≤ q j)
     low k l = go (decLe j k)
       where
@@ -134,7 +134,7 @@ module _ (t a : ℕ) (fa : FirstFrom t a) where
         (λ k l d. let w = low k l in absurd (high-across-not (h k) (h a) t (omega (arith, y, w .0)) z
         (omega (arith, n, w .0)) d))
 
-    -- both are as near: the first in the order of the search
+    -- both are equally near, and the entry below is the first in the order of the search
     pub lower-first : a < 1988 → t + t ≡ h j + h a → q a < q j → searchOf crystal t ≡ value (entryOf j)
     lower-first i n f =
         let y : h j ≤ t = omega (arith, j-below) in

@@ -64,7 +64,7 @@ entry-candidate k h =
       post2-high = p .p2-high;
     }
 
--- and none is missing
+-- no candidate is missing
 pub entry-complete : (c : PllConfig) → Candidate crystal c → (k : ℕ) × (k < 1988) × (entryOf k ≡ c)
 unfolding book
 entry-complete c m =

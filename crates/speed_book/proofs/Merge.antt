@@ -105,11 +105,11 @@ keep-each t f [] = refl
 keep-each t f (k ∷ ks) =
     keep-append t (f k) (flatMap f ks) ∙ ap (λ (l : List PllConfig). keep t (f k) ++ l) (keep-each t f ks)
 
--- what each feedback divider has
+-- the settings with one feedback divider
 abbrev atFeedback : ℕ → List PllConfig
 atFeedback fb = flatMap (λ p1. map (setting fb p1) (falling p1)) (falling 7)
 
--- the book, by merging that
+-- the book, by merging the candidates of each feedback divider
 unfoldable pub merged : List PllConfig
 merged = mergeEach (λ fb. keep (permitted crystal) (atFeedback fb)) (falling 320)
 

@@ -23,7 +23,7 @@ walk-at t = and 0 walk-kinds.ps (is 0 walk-kinds.ps μ-walk t) walk.Pre
 abbrev walk-below : ℕ → In 0 walk-kinds.ps
 walk-below t = and 0 walk-kinds.ps (falls 0 walk-kinds.ps _<_ μ-walk t) walk.Pre
 
--- what each callee asks and gives
+-- the precondition and the postcondition of each callee
 abbrev claims : ℕ → walk-lts.Claims
 claims t = (best.Asked, best.Learnt, walk-below t, walk.Post)
 

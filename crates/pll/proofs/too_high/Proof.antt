@@ -1,5 +1,5 @@
--- `pll::too_high` meets its contract: a VCO frequency of at least target + d + 1 times the product gives a score above
--- d (`score-high`); no product overflows.
+-- `pll::too_high` meets its contract: (target + d + 1) * product ≤ vco gives a score above d (`score-high`), and no
+-- product overflows.
 use Prim.Native.Nat.{_+_}
 use native.Mathlib.{Omega.arith, Nat.mul-le-mul-left}
 use borrow.{Author.Needs.needs, Author.Tests.leb-true}

@@ -1,5 +1,5 @@
--- `pll::too_low` meets its contract: a VCO frequency under target - d times the product gives a score above d
--- (`score-low`); no product overflows.
+-- `pll::too_low` meets its contract: vco + d * product < target * product gives a score above d (`score-low`), and no
+-- product overflows.
 use native.Mathlib.{Omega.arith, Nat.mul-le-mul-left}
 use borrow.{Author.Needs.needs, Author.Tests.ltb-true}
 use Rattle.base.proofs.Products.{product-fits}

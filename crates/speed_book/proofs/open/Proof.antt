@@ -1,4 +1,5 @@
--- `speed_book::open` meets its contract: the table is the book, which antt computes by merging.
+-- `speed_book::open` meets its contract: the constant is the table of the merged book by evaluation, and the merged
+-- book is the book (`book-merged`).
 use mathlib.Core.{Path._≡_, Path.sym, Path.ap, List.map, List.flatMap}
 use Rattle.pll.specs.Search.{falling, keep}
 use Rattle.speed_book.specs.Book.{hertz, insert, byOutput, tableNumber, table}

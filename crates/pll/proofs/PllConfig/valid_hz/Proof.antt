@@ -8,7 +8,7 @@ use Rattle.pll.specs.Setting.{validOf}
 use Rattle.pll.proofs.{Valid.Valid, Valid.valid, PllConfig.valid_hz.Statement.statement}
 use Rattle.pll.proofs.PllConfig.valid_hz.Tie as tie
 
--- what is tested is that the setting is valid
+-- the test is that the setting is valid
 tested : (c : tie.After-in-range2)
     → (c .before .before .dividers-valid .result && c .before .in-range .result && c .in-range2 .result)
     ≡ validOf (c .before .before .before .before .before .before .args .self)

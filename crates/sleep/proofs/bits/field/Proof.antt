@@ -1,5 +1,5 @@
--- `sleep::bits::field` meets its contract: `one-shl` makes the mask 2 to the power of the size less 1, and masking by
--- it is the remainder (`low-bits`).
+-- `sleep::bits::field` meets its contract: the mask is 2 ^ size - 1 (`one-shl`), and masking by it is the remainder by
+-- 2 ^ size (`low-bits`).
 use borrow.Author.Needs.{needs}
 use Prim.Native.Nat.{_/_, _^_}
 use native.Mathlib.Omega.{arith}
