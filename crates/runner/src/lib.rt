@@ -104,7 +104,8 @@ impl Runner {
     }
 }
 
-// One call on the state, with the first `len` kept bytes as the sheet; refuses with 21, 22, 27 or 20, in this order.
+// One call on the state, with the first `len` kept bytes as the sheet; refuses with 21, 22, 27 or 20, in this order,
+// and with 22 at the lock timeout.
 pub fn turn(s: State, len: usize, kept: &[u8; MAX_BYTES], sheet: &[u8], ready: bool) -> Turned
     ensures { λ t. ⌜ turnedIs t ≡ turnOf s len (now (kept .entry)) (now (sheet .entry)) ready ⌝ }
 {
@@ -296,7 +297,7 @@ pub fn clk_adc_freq(r: Runner) -> u32
     freq(r, 8)
 }
 
-// The stored frequency of the RTC clock, in Hz; the RP235x has none and stores 0.
+// The stored frequency of the RTC clock, in Hz; it is 0 on the RP235x, which has no RTC clock.
 pub fn clk_rtc_freq(r: Runner) -> u32
     ensures { λ hz. ⌜ hz ≡ freqOf r 9 ⌝ }
 {
