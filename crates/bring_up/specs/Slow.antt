@@ -1,4 +1,4 @@
--- Internal definitions: the stream of ready flags that makes a runner wait longest.
+-- Inside: the stream of ready flags that makes a runner wait longest.
 use Prim.Native.Nat.{ℕ, zero, suc, _+_, _<_}
 use mathlib.Core.{Bool.Bool, Bool.false, Path._≡_, List.List}
 use lib.Dec.{leb}

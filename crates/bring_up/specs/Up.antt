@@ -1,4 +1,4 @@
--- Internal definitions: a runner that was started with the sheet of a plan, with every call ready.
+-- Inside: a runner that was started with the sheet of a plan, with every call ready.
 use mathlib.Core.{Bool.true, List.List, List.[], List._∷_, List._++_, List.map, Path._≡_}
 use Prim.Native.Nat.{ℕ, _+_}
 use lib.ListN.{length, replicate}

@@ -1,4 +1,4 @@
--- Internal definitions: the code writes the settings of one feedback divider after another.
+-- Inside: the code writes the settings of one feedback divider after another.
 use mathlib.Core.{Path._≡_, List.List, List.map, List.flatMap, Bool.Bool}
 use Prim.Native.Nat.{ℕ, _+_, _*_}
 use lib.{Dec.eqb, ListN.length, Seq.sets}

@@ -1,4 +1,4 @@
--- Internal definitions: the code finds the two sides by a bisection.
+-- Inside: the code finds the two sides by a bisection.
 use mathlib.Core.{Path._≡_, Bool.Bool, Bool.true, Option.Option, Option.none, Option.some}
 use Prim.Native.Nat.{ℕ, _+_, _≤_, _<_}
 use Rattle.base.specs.Answer.{value}

@@ -1,4 +1,4 @@
--- Internal definitions: the loop of the code over the reference dividers.
+-- Inside: the loop of the code over the reference dividers.
 use mathlib.Core.Path.{_≡_}
 use Prim.Native.Nat.{ℕ, _<_}
 use Rattle.base.specs.Answer.{Answer, value, refusal}

@@ -1,4 +1,4 @@
--- The parts of a sheet as the code reads them: a truncated value, and the steps after the part.
+-- Inside: the parts of a sheet as the code reads them: a truncated value, and the steps after the part.
 use mathlib.Core.{Path._≡_, List.List}
 use Prim.Native.Nat.{ℕ, _-_}
 use lib.ListN.{drop}

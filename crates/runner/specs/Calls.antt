@@ -1,4 +1,4 @@
--- Internal definitions: calls over one sheet, one for each ready flag, and the expected answers where all flags are ready.
+-- Inside: calls over one sheet, one for each ready flag, and the expected answers where all flags are ready.
 use Prim.Native.Nat.{ℕ}
 use mathlib.Core.{Bool.Bool, Bool.true, Bool.false, Logic._⊎_, Path._≡_, List.List, List.[], List._∷_}
 use Rattle.base.specs.{Answer.Answer, Answer.value, Answer.refusal, Choice.pick}

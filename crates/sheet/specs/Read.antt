@@ -1,4 +1,4 @@
--- The settings of a sheet's steps, read part by part in the order of the sheet. The definitions give settings for any list of
+-- Inside: the settings of a sheet's steps, read part by part in the order of the sheet. The definitions give settings for any list of
 -- steps; for the steps of a plan these are the plan's settings, as `settings-back` shows.
 use mathlib.Core.{Bool._&&_, List.List}
 use Prim.Native.Nat.{ℕ, _-_}

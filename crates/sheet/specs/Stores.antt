@@ -1,4 +1,4 @@
--- The stores of a sheet, which only the proofs of this crate use.
+-- Inside: the stores of a sheet, which only the proofs of this crate use.
 use Prim.Native.Nat.{ℕ, _+_}
 use mathlib.Core.List.{List, [], _∷_}
 use lib.Dec.{eqb}

@@ -1,4 +1,4 @@
--- Internal definitions: the code appends the steps one by one.
+-- Inside: the code appends the steps one by one.
 use Prim.Native.Nat.{_+_}
 use mathlib.Core.Bool.{Bool}
 use lib.{Dec.ltb, ListN.set, ListN.replicate}

@@ -1,4 +1,4 @@
--- Definitions that only the contracts of the crate's private functions use.
+-- Inside: definitions that only the contracts of the crate's private functions use.
 use mathlib.Core.{Path._≡_, List.List, List._++_}
 use Prim.Native.Nat.{ℕ, _+_, _≤_}
 use lib.ListN.{length, take, drop}
