@@ -1,9 +1,4 @@
 pub mod Bools
-pub mod HandedLocals
-pub mod HandedOn
-pub mod InPlace
 pub mod Placing
 pub mod Parts
 pub mod Products
-pub mod Solid
-pub mod Walk

@@ -1,5 +1,7 @@
 // What the crates share: answers, total division, saturating subtraction, a range test, the choice of a refusal's number, the
 // start of a slice, and numbers written into a row.
+#![tactic(auto)]
+
 ghost use Rattle.std.specs.Prelude.{[], ◌∷◌, ◌≡◌, ◌/◌, ◌-◌, ◌≤◌, min, take};
 ghost use Rattle.base.specs.Choice.{pick, bit, in_range};
 ghost use Rattle.base.specs.Placed.{Placed};

@@ -1,4 +1,6 @@
 // The format of a step: a 64-bit word of a kind and its fields, stored as 8 bytes, the most significant first.
+#![tactic(auto)]
+
 mod access;
 pub mod kind;
 mod packing;

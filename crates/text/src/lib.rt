@@ -1,4 +1,6 @@
 // Text for the programs: numbers and bytes written into a lent buffer, and lines and words read from one.
+#![tactic(auto)]
+
 ghost use Rattle.std.specs.Prelude.{◌≡◌, [], ◌∷◌, ◌-◌, ◌%◌, ◌≤◌, ◌<◌, max, length, drop};
 ghost use Rattle.base.specs.Answer.{number_is};
 ghost use Rattle.base.specs.Choice.{pick, in_range};

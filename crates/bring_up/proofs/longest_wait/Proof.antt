@@ -9,6 +9,6 @@ use Rattle.bring_up.proofs.longest_wait.Tie as tie
 
 pub longest_wait_spec : {M : Type 1} → statement M
 unfolding longest_wait
-longest_wait_spec = tie.close (tie.spec (λ c. search needs) (λ c. search needs) (λ c. search needs)
+longest_wait_spec = tie.close (tie.spec (λ c. search rules) (λ c. search rules) (λ c. search rules)
     (λ c. let under : c.before.args.k < 1000000 = omega arith in simp (lt-ltb _ _ under) (omega arith))
     (λ c. let over : 1000000 ≤ c.before.args.k = omega arith in simp (le-ltb _ _ over)))

@@ -6,7 +6,7 @@ use Rattle.clock_parts.proofs.put_switch.Tie as tie
 
 pub put_switch_spec : {M : Type 1} → statement M
 unfolding switch_steps
-put_switch_spec = tie.close (tie.spec (λ c. simp (eq-eqb _ _ c.if1.true)) (λ c κs. search needs)
-    (λ c κs. search needs)
+put_switch_spec = tie.close (tie.spec (λ c. simp (eq-eqb _ _ c.if1.true)) (λ c κs. search rules)
+    (λ c κs. search rules)
     (λ c. let add2 = c.before.before in
     rw (ne_eqb _ _ add2.before.before.if1.false, c.add1.ensures, add2.add2.ensures)))

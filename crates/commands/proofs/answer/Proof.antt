@@ -6,10 +6,10 @@ use Rattle.commands.proofs.answer.Tie as tie
 
 pub answer_spec : {M : Type 1} → statement M
 unfolding answer_of
-answer_spec = tie.close (tie.spec (λ c κs. search needs) (λ c κs. search needs) (λ c κs. search needs) (λ c κs.
-    search needs)
-    (λ c κs. search needs) (λ c κs. search needs) (λ c κs. search needs) (λ c κs. search needs)
-    (λ c. search needs)
+answer_spec = tie.close (tie.spec (λ c κs. search rules) (λ c κs. search rules) (λ c κs. search rules) (λ c κs.
+    search rules)
+    (λ c κs. search rules) (λ c κs. search rules) (λ c κs. search rules) (λ c κs. search rules)
+    (λ c. search rules)
     (λ c. let put = c.before.before in let picked = put.before.before in let command = picked.before in
     let first = command.before in rw (
       ← first.first_word.ensures,
@@ -17,7 +17,7 @@ answer_spec = tie.close (tie.spec (λ c κs. search needs) (λ c κs. search nee
       picked.match.keys1,
     )
     put.put-help.ensures)
-    (λ c. search needs)
+    (λ c. search rules)
     (λ c. let put = c.before.before in let picked = put.before.before in let command = picked.before in
     let first = command.before in rw (
       ← first.first_word.ensures,
@@ -25,7 +25,7 @@ answer_spec = tie.close (tie.spec (λ c κs. search needs) (λ c κs. search nee
       picked.match.keys2,
     )
     (rw first.before.index-from.ensures.0 at put.put-explain.ensures))
-    (λ c. search needs)
+    (λ c. search rules)
     (λ c. let put = c.before.before in let picked = put.before.before in let command = picked.before in
     let first = command.before in rw (
       ← first.first_word.ensures,
@@ -33,7 +33,7 @@ answer_spec = tie.close (tie.spec (λ c κs. search needs) (λ c κs. search nee
       picked.match.keys3,
     )
     (rw first.before.index-from.ensures.0 at put.put-list.ensures))
-    (λ c. search needs)
+    (λ c. search rules)
     (λ c. let put = c.before.before in let picked = put.before.before in let command = picked.before in
     let first = command.before in rw (
       ← first.first_word.ensures,
@@ -41,7 +41,7 @@ answer_spec = tie.close (tie.spec (λ c κs. search needs) (λ c κs. search nee
       picked.match.keys4,
     )
     (rw first.before.index-from.ensures.0 at put.put-check.ensures))
-    (λ c. search needs)
+    (λ c. search rules)
     (λ c. let put = c.before.before in let picked = put.before.before in let command = picked.before in
     let first = command.before in let rest = picked.match.rest in rw (
       ← first.first_word.ensures,

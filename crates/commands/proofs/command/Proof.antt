@@ -8,20 +8,20 @@ use Rattle.commands.proofs.command.Tie as tie
 pub command_spec : {M : Type 1} → statement M
 unfolding command_named
 command_spec = tie.close (tie.spec (λ c. rw (eq-eqb _ _ c.if1.true))
-    (λ c. search needs) (λ c κs. search needs)
+    (λ c. search rules) (λ c κs. search rules)
     (λ c. let t2 = c in let t1 = t2.before.before.before in
     rw (
       ne_eqb _ _ t1.if1.false,
       sym t2.before.same_bytes.ensures ∙ t2.if2.true,
     ))
-    (λ c. search needs) (λ c κs. search needs)
+    (λ c. search rules) (λ c κs. search rules)
     (λ c. let t3 = c in let t2 = t3.before.before.before in let t1 = t2.before.before.before in
     rw (
       ne_eqb _ _ t1.if1.false,
       sym t2.before.same_bytes.ensures ∙ t2.if2.false,
       sym t3.before.same-bytes2.ensures ∙ t3.if3.true,
     ))
-    (λ c. search needs) (λ c κs. search needs)
+    (λ c. search rules) (λ c κs. search rules)
     (λ c. let t4 = c in let t3 = t4.before.before.before in let t2 = t3.before.before.before in let t1 = t2.before.before.before in
     rw (
       ne_eqb _ _ t1.if1.left,
@@ -29,7 +29,7 @@ command_spec = tie.close (tie.spec (λ c. rw (eq-eqb _ _ c.if1.true))
       sym t3.before.same-bytes2.ensures ∙ t3.if3.false,
       sym t4.before.same-bytes3.ensures ∙ t4.if4.true,
     ))
-    (λ c. search needs) (λ c κs. search needs)
+    (λ c. search rules) (λ c κs. search rules)
     (λ c. let t5 = c in let t4 = t5.before.before.before in let t3 = t4.before.before.before in let t2 = t3.before.before.before in let t1 = t2.before.before.before in
     rw (
       ne_eqb _ _ t1.if1.left,

@@ -8,5 +8,5 @@ use Rattle.divider.proofs.cycles_per_us.Tie as tie
 
 pub cycles_per_us_spec : {M : Type 1} → statement M
 unfolding cycles_per_us
-cycles_per_us_spec = tie.close (tie.spec (λ c. search needs) (λ c. (rw (eq-eqb _ _ c.if1.true), omega arith))
+cycles_per_us_spec = tie.close (tie.spec (λ c. search rules) (λ c. (rw (eq-eqb _ _ c.if1.true), omega arith))
     (λ c. (rw (ne_eqb _ _ c.if1.false), omega arith)))

@@ -6,9 +6,9 @@ use Rattle.divider.proofs.gpout_freq.Tie as tie
 
 pub gpout_freq_spec : {M : Type 1} → statement M
 unfolding gpout_of
-gpout_freq_spec = tie.close (tie.spec (λ c κs. search needs)
-    (λ c. rw (← c.before.before.facts.ensures, lt-leb _ _ c.if1.true)) (λ c κs. search needs)
-    (λ c. search needs) (λ c. search needs) (λ c. search needs) (λ c κs. search needs)
+gpout_freq_spec = tie.close (tie.spec (λ c κs. search rules)
+    (λ c. rw (← c.before.before.facts.ensures, lt-leb _ _ c.if1.true)) (λ c κs. search rules)
+    (λ c. search rules) (λ c. search rules) (λ c. search rules) (λ c κs. search rules)
     (λ c. let known = c.before.before in let whole = known.before.before in
     rw (
       ← whole.before.before.facts.ensures,

@@ -9,7 +9,7 @@ use Rattle.lines.proofs.feed.Tie as tie
 
 pub feed_spec : {M : Type 1} → statement M
 unfolding fed fed_out
-feed_spec = tie.close (tie.spec (λ c κs. search needs) (λ c. search needs)
+feed_spec = tie.close (tie.spec (λ c κs. search rules) (λ c. search rules)
     (λ c. let put = c.before.before in let test = put.before.before.before.before in
     let newline = eq-eqb test.before.before.args.b 10 test.if1.true in
     let call = put.answer.ensures in record {
@@ -19,7 +19,7 @@ feed_spec = tie.close (tie.spec (λ c κs. search needs) (λ c. search needs)
       whole = λ room. rw newline (omega (arith, call.0.index, call.1));
       buffer = rw newline call.0.bytes;
     })
-    (λ c κs. search needs)
+    (λ c κs. search rules)
     (λ c. let test = c.before.before in let other = ne_eqb test.before.before.args.b 10 test.if1.false in
     record {
       held = rw other c.push.ensures;

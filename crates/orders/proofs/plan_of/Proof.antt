@@ -9,8 +9,8 @@ use Rattle.orders.proofs.plan_of.Tie as tie
 
 pub plan_of_spec : {M : Type 1} → statement M
 unfolding plan_in
-plan_of_spec = tie.close (tie.spec (λ c. rw (lt-ltb _ _ c.if1.true)) (λ c. simp length-take (omega arith)) (λ c κs. search needs)
-    (λ c. search needs) (λ c. search needs)
+plan_of_spec = tie.close (tie.spec (λ c. rw (lt-ltb _ _ c.if1.true)) (λ c. simp length-take (omega arith)) (λ c κs. search rules)
+    (λ c. search rules) (λ c. search rules)
     (λ c. let plan = c.before.before.before in
     rw (le-ltb _ _ plan.before.before.if1.false, ← plan.plan.ensures, c.before.plan2.given.1))
     (λ c. let plan = c.before.before in

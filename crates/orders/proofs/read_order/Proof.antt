@@ -7,11 +7,11 @@ use Rattle.orders.proofs.read_order.Tie as tie
 
 pub read_order_spec : {M : Type 1} → statement M
 unfolding order_of
-read_order_spec = tie.close (tie.spec (λ c κs. search needs) (λ c. search needs) (λ c κs. search needs)
-    (λ c κs. search needs) (λ c κs. search needs)
+read_order_spec = tie.close (tie.spec (λ c κs. search rules) (λ c. search rules) (λ c κs. search rules)
+    (λ c κs. search rules) (λ c κs. search rules)
     (λ c. let end = c.before in let test = end.before in let same = test.before in let word = same.before.before in
     rw (← word.word_after.ensures, sym same.same_bytes.ensures ∙ test.if1.true, ← end.end_after.ensures.0)
-    c.order-on.ensures) (λ c κs. search needs) (λ c κs. search needs)
+    c.order-on.ensures) (λ c κs. search rules) (λ c κs. search rules)
     (λ c. let other = c.before in let named = other.before in let test = named.before in let same = test.before in
     let word = same.before.before in
     rw (
@@ -19,7 +19,7 @@ read_order_spec = tie.close (tie.spec (λ c κs. search needs) (λ c. search nee
       sym same.same_bytes.ensures ∙ test.if1.false,
       ← named.named.ensures,
       eq-eqb _ _ other.if2.true,
-    ) c.sheet-order.ensures) (λ c κs. search needs)
+    ) c.sheet-order.ensures) (λ c κs. search rules)
     (λ c. let other = c.before in let named = other.before in let test = named.before in let same = test.before in
     let word = same.before.before in
     rw (

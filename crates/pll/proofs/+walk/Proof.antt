@@ -67,4 +67,4 @@ walk-returns-3 t c =
 pub +walk_spec : {M : Type 1} → statement M
 +walk_spec =
     close μ-walk λ t. walk-lts.spec (claims t) (walk_at t) walk.Post (walk-posts t)
-    (walk-returns t) (walk-returns-2 t) (λ c. search needs) (walk-requires t) (walk-returns-3 t)
+    (walk-returns t) (walk-returns-2 t) (λ c. search rules) (walk-requires t) (walk-returns-3 t)

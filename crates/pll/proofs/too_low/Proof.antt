@@ -9,5 +9,5 @@ use Rattle.pll.proofs.too_low.Tie as tie
 pub too_low_spec : {M : Type 1} → statement M
 too_low_spec = tie.close (tie.spec (λ c. omega (arith, mul-le-mul_left c.args.d c.requires.2))
     (λ c. omega (arith, mul-le-mul_left c.args.d c.requires.2))
-    (λ c. product-fits _ _ (search needs) (search needs))
+    (λ c. product-fits _ _ (search rules) (search rules))
     (λ c e. score-low _ _ _ _ c.requires.1 (ltb-true _ _ e)))

@@ -8,10 +8,10 @@ use Rattle.readback.proofs.gives.Tie as tie
 
 pub gives_spec : {M : Type 1} → statement M
 unfolding gives
-gives_spec = tie.close (tie.spec (λ c. search needs) (λ c κs. search needs) (λ c. search needs)
+gives_spec = tie.close (tie.spec (λ c. search rules) (λ c κs. search rules) (λ c. search rules)
     (λ c. let k = kept c.before.before.before.before.init.ensures _ c.before.n.given.1 in k.inside)
     (λ c. let n = c.before.before in let k = kept n.before.before.before.init.ensures _ n.n.given.1 in
-    k.whole) (λ c κs. search needs) (λ c. search needs)
+    k.whole) (λ c κs. search rules) (λ c. search rules)
     (λ c. let n = c.before.before.before in
     let k = kept n.before.before.before.init.ensures _ n.n.given.1 in
     rw (c.is-sheet.ensures, k.bytes, eq-eqb _ _ k.accepted))

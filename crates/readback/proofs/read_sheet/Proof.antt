@@ -7,9 +7,9 @@ use Rattle.readback.proofs.read_sheet.Tie as tie
 
 pub read_sheet_spec : {M : Type 1} → statement M
 unfolding plan_in read_of
-read_sheet_spec = tie.close (tie.spec (λ c κs. search needs)
-    (λ c. rw (← c.before.top-reading.ensures, lt-ltb _ _ c.if1.true)) (λ c κs. search needs)
-    (λ c κs. search needs) (λ c κs. search needs) (λ c κs. search needs)
+read_sheet_spec = tie.close (tie.spec (λ c κs. search rules)
+    (λ c. rw (← c.before.top-reading.ensures, lt-ltb _ _ c.if1.true)) (λ c κs. search rules)
+    (λ c κs. search rules) (λ c κs. search rules) (λ c κs. search rules)
     (λ c. let gives = c.before in let plan = gives.before in let settings = plan.before in
     let if1 = settings.before.before in
     rw (← if1.before.top-reading.ensures, le-ltb _ _ if1.if1.false, ← settings.before.steps_of.ensures)

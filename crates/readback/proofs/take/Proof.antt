@@ -7,10 +7,10 @@ use Rattle.readback.proofs.take.Tie as tie
 
 pub take_spec : {M : Type 1} → statement M
 unfolding taken_at
-take_spec = tie.close (tie.spec (λ c κs. search needs)
+take_spec = tie.close (tie.spec (λ c κs. search rules)
     (λ c. let end = c.before.if1.true in rw (c.no_step.ensures, step_past _ _ end, le-ltb _ _ end))
-    (λ c. search needs) (λ c κs. search needs) (λ c. search needs) (λ c. search needs) (λ c. search needs)
-    (λ c κs. search needs) (λ c. search needs)
+    (λ c. search rules) (λ c κs. search rules) (λ c. search rules) (λ c. search rules) (λ c. search rules)
+    (λ c κs. search rules) (λ c. search rules)
     (λ c. let r = c.before.before.before in let inside = r.before.if1.false in
     rw (step-inside _ _ inside, lt-ltb _ _ inside, ← r.read.ensures, c.before.s.given.1))
     (λ c. let r = c.before.before.before in let inside = r.before.if1.false in

@@ -22,12 +22,12 @@ slice-aggregate-same-bytes c =
 
 pub turn_spec : {M : Type 1} → statement M
 unfolding outside
-turn_spec = tie.close (tie.spec (λ c κs. search needs) (λ c κs. search needs)
+turn_spec = tie.close (tie.spec (λ c κs. search rules) (λ c κs. search rules)
     (λ c. let if1 = c.before in c.refused.ensures ∙ call-outside _ _ _ _ _ (rw if1.before.bad-size.ensures at
-    if1.if1.true)) (λ c κs. search needs)
+    if1.if1.true)) (λ c κs. search rules)
     (λ c. let if1 = c.before.before in c.refused2.ensures ∙ call-stopped _ _ _ _ _ (rw
     if1.before.bad-size.ensures at if1.if1.false) c.before.if2.true) slice-aggregate-same-bytes
-    (λ c κs. search needs) (λ c κs. search needs)
+    (λ c κs. search rules) (λ c κs. search rules)
     (λ c. let if2 = c.before.before.before.before.before in let if1 = if2.before in
     c.refused3.ensures ∙ call-differs _ _ _ _ _ (rw if1.before.bad-size.ensures at if1.if1.false)
     if2.if2.false (sym c.before.before.same_bytes.ensures ∙ not-true _ c.before.if3.true))

@@ -40,9 +40,9 @@ returns-3 c =
     (sym found.number_is ∙ fine.if1.false) whole.0)
 
 pub init_spec : {M : Type 1} → statement M
-init_spec = tie.close (tie.spec (λ c κs. search needs) (λ c κs. search needs)
+init_spec = tie.close (tie.spec (λ c κs. search rules) (λ c κs. search rules)
     (λ c. let examined = c.before.before in let found = seen examined in rw found.number_is (refused _ _ _
-    found.typed (λ z. c.if1.true (found.number_is ∙ z)))) (λ c κs. search needs) (λ c. (gathered c).room)
-    (λ c. sym (gathered c.before).count) (λ c κs. search needs) (λ c. search needs) returns-2
-    (λ c. omega (arith, (gathered c.before.before.before.before.before.before).few)) (λ c. search needs)
+    found.typed (λ z. c.if1.true (found.number_is ∙ z)))) (λ c κs. search rules) (λ c. (gathered c).room)
+    (λ c. sym (gathered c.before).count) (λ c κs. search rules) (λ c. search rules) returns-2
+    (λ c. omega (arith, (gathered c.before.before.before.before.before.before).few)) (λ c. search rules)
     returns-3)

@@ -6,7 +6,7 @@ use Rattle.sheet_steps.proofs.add5.Tie as tie
 
 pub add5_spec : {M : Type 1} → statement M
 unfolding pushed
-add5_spec = tie.close (tie.spec (λ c κs. search needs) (λ c κs. search needs) (λ c. search needs) (λ c. search needs)
-    (λ c. search needs)
+add5_spec = tie.close (tie.spec (λ c κs. search rules) (λ c κs. search rules) (λ c. search rules) (λ c. search rules)
+    (λ c. search rules)
     (λ c. rw (lt-ltb _ _ c.before.before.if1.true, c.turned.ensures, c.before.pack.ensures))
     (λ c. simp (le-ltb _ _ c.if1.false)))

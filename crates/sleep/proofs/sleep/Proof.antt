@@ -7,9 +7,9 @@ use Rattle.sleep.proofs.sleep.Tie as tie
 
 pub sleep_spec : {M : Type 1} → statement M
 unfolding sleep_of
-sleep_spec = tie.close (tie.spec (λ c κs. search needs)
-    (λ c. rw (lt-ltb _ _ c.before.if1.true) c.refused.ensures) (λ c. search needs) (λ c. search needs)
-    (λ c κs. search needs) (λ c κs. search needs)
+sleep_spec = tie.close (tie.spec (λ c κs. search rules)
+    (λ c. rw (lt-ltb _ _ c.before.if1.true) c.refused.ensures) (λ c. search rules) (λ c. search rules)
+    (λ c κs. search rules) (λ c κs. search rules)
     (λ c. let steps = c.to-sleep.ensures in
     rw (le-ltb _ _ c.before.before.if1.false, ← c.before.asleep.ensures)
     (record { outcome = rw steps.list; exact = steps.exact })))

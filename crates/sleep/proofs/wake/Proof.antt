@@ -7,12 +7,12 @@ use Rattle.sleep.proofs.wake.Tie as tie
 
 pub wake_spec : {M : Type 1} → statement M
 unfolding wake_of
-wake_spec = tie.close (tie.spec (λ c κs. search needs)
-    (λ c. rw (lt-ltb _ _ c.before.if1.true) c.refused.ensures) (λ c. search needs) (λ c. search needs)
-    (λ c κs. search needs)
+wake_spec = tie.close (tie.spec (λ c κs. search rules)
+    (λ c. rw (lt-ltb _ _ c.before.if1.true) c.refused.ensures) (λ c. search rules) (λ c. search rules)
+    (λ c κs. search rules)
     (λ c.
     let steps = c.to-wake.ensures in
     rw (le-ltb _ _ c.before.before.before.before.if1.false, c.before.before.if2.true)
     (record { outcome = rw steps.list; exact = steps.exact }))
-    (λ c κs. search needs)
+    (λ c κs. search rules)
     (λ c. rw (le-ltb _ _ c.before.before.before.if1.false, c.before.if2.false) c.refused2.ensures))

@@ -8,8 +8,8 @@ use Rattle.source_parts.proofs.put_voltage.Tie as tie
 
 pub put_voltage_spec : {M : Type 1} → statement M
 unfolding voltage_part
-put_voltage_spec = tie.close (tie.spec (λ c. rw (eq-eqb _ _ c.if1.true)) (λ c. search needs)
-    (λ c κs. search needs) (λ c κs. search needs) (λ c. search needs) (λ c κs. search needs)
+put_voltage_spec = tie.close (tie.spec (λ c. rw (eq-eqb _ _ c.if1.true)) (λ c. search rules)
+    (λ c κs. search rules) (λ c κs. search rules) (λ c. search rules) (λ c κs. search rules)
     (λ c. let put-settling = c.before.before.before in let put-code = put-settling.before.before in
     rw (
       ne_eqb _ _ put-code.before.before.before.if1.false,

@@ -4,5 +4,5 @@ use Rattle.speed_book.proofs.entry_at.Statement.{statement}
 use Rattle.speed_book.proofs.entry_at.Tie as tie
 
 pub entry_at_spec : {M : Type 1} → statement M
-entry_at_spec = tie.close (tie.spec (λ c. search needs) (λ c. search needs) (λ c. rw (le-ltb _ 1988 c.if1.true))
+entry_at_spec = tie.close (tie.spec (λ c. search rules) (λ c. search rules) (λ c. rw (le-ltb _ 1988 c.if1.true))
     (λ c. rw (lt-ltb _ 1988 c.before.if1.false)))

@@ -7,6 +7,6 @@ use Rattle.speed_book.proofs.entry_in.Tie as tie
 
 pub entry_in_spec : {M : Type 1} → statement M
 unfolding line_in
-entry_in_spec = tie.close (tie.spec (λ c. search needs) (λ c. search needs) (λ c κs. search needs)
+entry_in_spec = tie.close (tie.spec (λ c. search rules) (λ c. search rules) (λ c κs. search rules)
     (λ c. rw (c.setting-in.ensures, lt-ltb _ 1988 c.before.before.if1.true))
     (λ c. rw (le-ltb _ 1988 c.if1.false)))

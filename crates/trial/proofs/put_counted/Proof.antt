@@ -7,12 +7,12 @@ use Rattle.trial.proofs.put_counted.Statement.{statement}
 use Rattle.trial.proofs.put_counted.Tie as tie
 
 pub put_counted_spec : {M : Type 1} → statement M
-put_counted_spec = tie.close (tie.spec (λ c. search needs) (λ c κs. search needs) (λ c. search needs)
+put_counted_spec = tie.close (tie.spec (λ c. search rules) (λ c κs. search rules) (λ c. search rules)
     (λ c. let put = c.before.before in let told = put.before.before.before.before.count.given in
     let over : most_count < told.0.0 = omega arith in rw (told.1, lt-ltb _ _ over) put.put-refused-line.ensures)
-    (λ c κs. search needs) (λ c. search needs) (λ c κs. search needs) (λ c. search needs)
+    (λ c κs. search rules) (λ c. search rules) (λ c κs. search rules) (λ c. search rules)
     (λ c. let put = c.before.before in let told = put.before.before.before.before.count.given in
     let few : told.0.0 ≤ most_count = omega arith in rw (told.1, le-ltb _ _ few) put.put-trials.ensures)
-    (λ c. search needs)
+    (λ c. search rules)
     (λ c. let put = c.before.before in
     rw put.before.before.before.count2.given.1 put.put-refused-line2.ensures))

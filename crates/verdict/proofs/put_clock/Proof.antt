@@ -8,7 +8,7 @@ use Rattle.verdict.proofs.put_clock.Tie as tie
 
 pub put_clock_spec : {M : Type 1} → statement M
 unfolding clock_text
-put_clock_spec = tie.close (tie.spec (λ c κs. search needs)
+put_clock_spec = tie.close (tie.spec (λ c κs. search rules)
     (λ c. rw (eq-eqb _ _ c.before.if1.true) (record { index = omega (arith, c.least.ensures); bytes = refl }))
-    (λ c. search needs) (λ c. search needs) (λ c κs. search needs) (λ c. search needs)
+    (λ c. search rules) (λ c. search rules) (λ c κs. search rules) (λ c. search rules)
     (λ c. let put = c.before.before in rw (ne_eqb _ _ put.before.before.before.before.if1.false) put.put-form.ensures))

@@ -7,21 +7,21 @@ use Rattle.verdict.proofs.put_compared.Statement.{statement}
 use Rattle.verdict.proofs.put_compared.Tie as tie
 
 pub put_compared_spec : {M : Type 1} → statement M
-put_compared_spec = tie.close (tie.spec (λ c κs. search needs) (λ c κs. search needs) (λ c. search needs) (λ c κs. search needs)
-    (λ c. search needs)
+put_compared_spec = tie.close (tie.spec (λ c κs. search rules) (λ c κs. search rules) (λ c. search rules) (λ c κs. search rules)
+    (λ c. search rules)
     (λ c. let put = c.before.before in let test = put.before.before.before in let found = test.before.before in
     let args = found.before.before.before.args in
     rw (refused-order args.reading args.delivered args.ordered found.before.settings-of.ensures.0
     found.examine.ensures.0 test.if1.true)
-    put.Put-refused.ensures) (λ c κs. search needs) (λ c κs. search needs) (λ c. search needs) (λ c κs. search needs)
-    (λ c. search needs)
+    put.Put-refused.ensures) (λ c κs. search rules) (λ c κs. search rules) (λ c. search rules) (λ c κs. search rules)
+    (λ c. search rules)
     (λ c. let put = c.before.before in let test = put.before.before.before in let bits = test.before in
     let was = bits.before in let none = was.before in let found = none.before.before in
     let args = found.before.before.before.args in
     rw (no_bits args.reading args.delivered args.ordered found.before.settings-of.ensures.0
     found.examine.ensures.0 none.if1.false
-    was.settings-of2.ensures.0 bits.differences.ensures test.if2.true) put.put-bytes.ensures) (λ c κs. search needs)
-    (λ c. search needs)
+    was.settings-of2.ensures.0 bits.differences.ensures test.if2.true) put.put-bytes.ensures) (λ c κs. search rules)
+    (λ c. search rules)
     (λ c. let put = c.before.before in let test = put.before.before in let bits = test.before in
     let was = bits.before in let none = was.before in let found = none.before.before in
     let args = found.before.before.before.args in

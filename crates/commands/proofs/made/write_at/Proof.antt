@@ -6,9 +6,9 @@ use Rattle.commands.proofs.made.write_at.Statement.{statement}
 use Rattle.commands.proofs.made.write_at.Tie as tie
 
 pub write_at_spec : {M : Type 1} → statement M
-write_at_spec = tie.close (tie.spec (λ c. search needs)
+write_at_spec = tie.close (tie.spec (λ c. search rules)
     (λ c. rw (c.before.before.reading.given.1, lt-ltb _ _ c.if1.true) order-bad)
-    (λ c. search needs) (λ c κs. search needs) (λ c κs. search needs) (λ c. search needs) (λ c. search needs)
+    (λ c. search rules) (λ c κs. search rules) (λ c κs. search rules) (λ c. search rules) (λ c. search rules)
     (λ c. let write = c.before.before in let order = write.before.before in let test = order.before in
     rw (test.before.before.reading.given.1, le-ltb _ _ test.if1.false) (rw order.read-order.ensures at
     write.write.ensures))

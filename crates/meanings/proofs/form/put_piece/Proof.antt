@@ -6,14 +6,14 @@ use Rattle.meanings.proofs.form.put_piece.Tie as tie
 
 pub put_piece_spec : {M : Type 1} → statement M
 unfolding piece_of
-put_piece_spec = tie.close (tie.spec (λ c κs. search needs) (λ c κs. search needs) (λ c κs. search needs)
-    (λ c κs. search needs) (λ c. search needs)
+put_piece_spec = tie.close (tie.spec (λ c κs. search rules) (λ c κs. search rules) (λ c κs. search rules)
+    (λ c κs. search rules) (λ c. search rules)
     (λ c. rw c.before.before.before.before.match.keys1 c.before.before.put-decimal.ensures)
-    (λ c. search needs)
+    (λ c. search rules)
     (λ c. rw c.before.before.before.before.match.keys2 c.before.before.put-mask.ensures)
-    (λ c. search needs)
+    (λ c. search rules)
     (λ c. rw c.before.before.before.before.match.keys3 c.before.before.put-clock.ensures)
-    (λ c. search needs)
+    (λ c. search rules)
     (λ c. let other = c.before.before.before.before.match.rest in rw (
       ne_eqb _ 35 other.0.0.1,
       ne_eqb _ 36

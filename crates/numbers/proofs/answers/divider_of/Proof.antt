@@ -5,6 +5,6 @@ use Rattle.numbers.proofs.answers.divider_of.Statement.{statement}
 use Rattle.numbers.proofs.answers.divider_of.Tie as tie
 
 pub divider_of_spec : {M : Type 1} → statement M
-divider_of_spec = tie.close (tie.spec (λ c. search needs)
-    (λ c. rw (c.before.enum_told.given.1, lt-leb _ _ c.if1.true)) (λ c. search needs) (λ c. search needs)
+divider_of_spec = tie.close (tie.spec (λ c. search rules)
+    (λ c. rw (c.before.enum_told.given.1, lt-leb _ _ c.if1.true)) (λ c. search rules) (λ c. search rules)
     (λ c. rw (c.before.enum_told.given.1, le-leb _ _ c.if1.false)) (λ c. rw c.enum-told2.given.1))

@@ -28,9 +28,9 @@ returns-2 c =
 
 pub call_spec : {M : Type 1} → statement M
 unfolding run_leaves run_number
-call_spec = tie.close (tie.spec (λ c. search needs)
-    (λ c. let no = lt-leb _ _ c.if1.true in (rw no, rw no)) (λ c κs. search needs) (λ c. search needs)
-    (λ c κs. search needs) (λ c. search needs) (λ c κs. search needs) (λ c κs. search needs)
+call_spec = tie.close (tie.spec (λ c. search rules)
+    (λ c. let no = lt-leb _ _ c.if1.true in (rw no, rw no)) (λ c κs. search rules) (λ c. search rules)
+    (λ c κs. search rules) (λ c. search rules) (λ c κs. search rules) (λ c κs. search rules)
     (λ c κs. rw (ap (λ (x : Outcome State). x.answer) c.before.before.turn.ensures) (turn-formed _ _ _ _ _))
     (λ c κs. let t = c.before.before.before.before in let s = t.before.before.before.before.before in
     rw (ap (λ (x : Outcome State). x.next.position) t.turn.ensures)

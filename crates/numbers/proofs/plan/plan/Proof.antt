@@ -8,9 +8,9 @@ use Rattle.numbers.proofs.plan.plan.Tie as tie
 
 pub plan_spec : {M : Type 1} → statement M
 unfolding plan_numbered
-plan_spec = tie.close (tie.spec (λ c κs. search needs)
-    (λ c. rw (sym c.before.whole-plan.ensures ∙ not-true _ c.if1.true)) (λ c κs. search needs)
-    (λ c. search needs) (λ c κs. search needs) (λ c. search needs)
+plan_spec = tie.close (tie.spec (λ c κs. search rules)
+    (λ c. rw (sym c.before.whole-plan.ensures ∙ not-true _ c.if1.true)) (λ c κs. search rules)
+    (λ c. search rules) (λ c κs. search rules) (λ c. search rules)
     (λ c. let config = c.before.before in let chip = config.before.before in let if1 = chip.before in
     let passed = sym if1.before.whole-plan.ensures ∙ not-false _ if1.if1.false in
     rw (c.plan-at.ensures, passed, ← chip.chip.ensures, config.config.given.1))

@@ -7,10 +7,10 @@ use Rattle.numbers.proofs.plan.whole_chip.Tie as tie
 
 pub whole_chip_spec : {M : Type 1} → statement M
 unfolding whole_chip
-whole_chip_spec = tie.close (tie.spec (λ c. search needs)
-    (λ c. rw (c.before.enum_told.given.1, ne_eqb _ _ c.if1.true)) (λ c. search needs) (λ c κs. search needs)
-    (λ c. search needs) (λ c κs. search needs) (λ c. search needs)
-    (λ c. rw (c.before.enum-told2.given.1, ne_eqb _ _ c.if2.true)) (λ c. search needs) (λ c κs. search needs)
+whole_chip_spec = tie.close (tie.spec (λ c. search rules)
+    (λ c. rw (c.before.enum_told.given.1, ne_eqb _ _ c.if1.true)) (λ c. search rules) (λ c κs. search rules)
+    (λ c. search rules) (λ c κs. search rules) (λ c. search rules)
+    (λ c. rw (c.before.enum-told2.given.1, ne_eqb _ _ c.if2.true)) (λ c. search rules) (λ c κs. search rules)
     (λ c. let divider = c.before.before in let length = divider.before.before in
     rw (
       length.before.enum_told.given.1,

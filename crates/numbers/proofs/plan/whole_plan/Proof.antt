@@ -6,9 +6,9 @@ use Rattle.numbers.proofs.plan.whole_plan.Statement.{statement}
 use Rattle.numbers.proofs.plan.whole_plan.Tie as tie
 
 pub whole_plan_spec : {M : Type 1} → statement M
-whole_plan_spec = tie.close (tie.spec (λ c κs. search needs)
-    (λ c. rw (sym c.before.whole-chip.ensures ∙ not-true _ c.if1.true)) (λ c κs. search needs)
-    (λ c κs. search needs)
+whole_plan_spec = tie.close (tie.spec (λ c κs. search rules)
+    (λ c. rw (sym c.before.whole-chip.ensures ∙ not-true _ c.if1.true)) (λ c κs. search rules)
+    (λ c κs. search rules)
     (λ c. let if1 = c.before.before in
     rw (
       c.whole-clocks.ensures,

@@ -7,7 +7,7 @@ use Rattle.phrases.proofs.sources.millivolts.Tie as tie
 
 pub millivolts_spec : {M : Type 1} → statement M
 unfolding millivolts
-millivolts_spec = tie.close (tie.spec (λ c. search needs)
-    (λ c. rw (c.before.enum_told.given.1, eq-eqb _ _ c.if1.true)) (λ c. search needs) (λ c. search needs)
-    (λ c. search needs) (λ c. search needs) (λ c. search needs)
+millivolts_spec = tie.close (tie.spec (λ c. search rules)
+    (λ c. rw (c.before.enum_told.given.1, eq-eqb _ _ c.if1.true)) (λ c. search rules) (λ c. search rules)
+    (λ c. search rules) (λ c. search rules) (λ c. search rules)
     (λ c. rw (c.before.enum_told.given.1, ne_eqb _ _ c.if1.false)) (λ c. rw c.enum-told2.given.1))

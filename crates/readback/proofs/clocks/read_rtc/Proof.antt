@@ -5,9 +5,9 @@ use Rattle.readback.proofs.clocks.read_rtc.Statement.{statement}
 use Rattle.readback.proofs.clocks.read_rtc.Tie as tie
 
 pub read_rtc_spec : {M : Type 1} → statement M
-read_rtc_spec = tie.close (tie.spec (λ c κs. search needs)
-    (λ c. rw (← c.before.before.ahead.ensures, ne_eqb _ _ c.if1.true)) (λ c κs. search needs)
-    (λ c κs. search needs) (λ c κs. search needs) (λ c κs. search needs) (λ c κs. search needs)
+read_rtc_spec = tie.close (tie.spec (λ c κs. search rules)
+    (λ c. rw (← c.before.before.ahead.ensures, ne_eqb _ _ c.if1.true)) (λ c κs. search rules)
+    (λ c κs. search rules) (λ c κs. search rules) (λ c κs. search rules) (λ c κs. search rules)
     (λ c. let frac = c.before in let int = frac.before in let src = int.before in let control = src.before in
     let if1 = control.before in
     rw (← if1.before.before.ahead.ensures, ← control.ahead2.ensures, eq-eqb _ _ if1.if1.false)

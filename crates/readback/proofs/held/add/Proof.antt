@@ -6,5 +6,5 @@ use Rattle.readback.proofs.held.add.Tie as tie
 
 pub add_spec : {M : Type 1} → statement M
 unfolding added
-add_spec = tie.close (tie.spec (λ c. search needs) (λ c. search needs) (λ c. search needs)
+add_spec = tie.close (tie.spec (λ c. search rules) (λ c. search rules) (λ c. search rules)
     (λ c. rw (lt-ltb _ _ c.if1.true)) (λ c. rw (le-ltb _ _ c.if1.false)))

@@ -10,9 +10,9 @@ use Rattle.readback.proofs.oscillators.read_crystal.Statement.{statement}
 use Rattle.readback.proofs.oscillators.read_crystal.Tie as tie
 
 pub read_crystal_spec : {M : Type 1} → statement M
-read_crystal_spec = tie.close (tie.spec (λ c κs. search needs)
-    (λ c. rw (← c.before.before.ahead.ensures, ne_eqb _ _ c.if1.true)) (λ c κs. search needs)
-    (λ c κs. search needs) (λ c κs. search needs) (λ c κs. search needs) (λ c κs. search needs)
+read_crystal_spec = tie.close (tie.spec (λ c κs. search rules)
+    (λ c. rw (← c.before.before.ahead.ensures, ne_eqb _ _ c.if1.true)) (λ c κs. search rules)
+    (λ c κs. search rules) (λ c κs. search rules) (λ c κs. search rules) (λ c κs. search rules)
     (λ c. let stored = c.before in let usb-read = stored.before.before in let sys-read = usb-read.before in
     let past = sys-read.before in let if1 = past.before in let startup = if1.before.before in
     let known = ap (λ (x : Step). x.kind) (sym startup.ahead.ensures) ∙ if1.if1.false in

@@ -5,10 +5,10 @@ use Rattle.readback.proofs.oscillators.read_ring.Statement.{statement}
 use Rattle.readback.proofs.oscillators.read_ring.Tie as tie
 
 pub read_ring_spec : {M : Type 1} → statement M
-read_ring_spec = tie.close (tie.spec (λ c κs. search needs) (λ c κs. search needs)
+read_ring_spec = tie.close (tie.spec (λ c κs. search rules) (λ c κs. search rules)
     (λ c. rw (← c.before.before.before.ahead.ensures, ne_eqb _ _ c.before.if1.true, c.past.ensures))
-    (λ c κs. search needs) (λ c κs. search needs) (λ c κs. search needs) (λ c κs. search needs) (λ c κs. search needs)
-    (λ c κs. search needs)
+    (λ c κs. search rules) (λ c κs. search rules) (λ c κs. search rules) (λ c κs. search rules) (λ c κs. search rules)
+    (λ c κs. search rules)
     (λ c. let ring = c.before in let store = ring.before in let range = store.before in
     let divider = range.before in let high = divider.before in let if1 = high.before in
     rw (← if1.before.before.ahead.ensures, ← high.ahead2.ensures, ← divider.ahead3.ensures)

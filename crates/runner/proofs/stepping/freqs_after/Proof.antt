@@ -24,7 +24,7 @@ unchanged (Refused n) freqs k = refl
 
 pub freqs_after_spec : {M : Type 1} → statement M
 unfolding stored_by
-freqs_after_spec = tie.close (tie.spec (λ c. search needs)
+freqs_after_spec = tie.close (tie.spec (λ c. search rules)
     (λ c. unchanged c.before.args.reply c.before.args.freqs c.match.keys2)
     (λ c. rw (c.before.before.before.reply.given.1, ne_eqb _ _ c.if1.true))
     (λ c. let handed = c.before.before.before.before in

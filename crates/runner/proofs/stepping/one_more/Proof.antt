@@ -6,5 +6,5 @@ use Rattle.runner.proofs.stepping.one_more.Tie as tie
 
 pub one_more_spec : {M : Type 1} → statement M
 unfolding one_more
-one_more_spec = tie.close (tie.spec (λ c. search needs) (λ c. simp (lt-ltb _ _ c.if1.true))
+one_more_spec = tie.close (tie.spec (λ c. search rules) (λ c. simp (lt-ltb _ _ c.if1.true))
     (λ c. simp (le-ltb _ _ c.if1.false)))

@@ -38,9 +38,9 @@ loop-again c =
     )
 
 pub fits_spec : {M : Type 1} → statement M
-fits_spec = tie.close (tie.spec invariant-loop decreases-loop (λ c. (omega arith, omega arith, refl)) (λ c. search needs)
-    (λ c. search needs) (λ c κs. search needs) (λ c κs. search needs) returns (λ c. search needs) (λ c. search needs)
-    (λ c. search needs) loop-again
+fits_spec = tie.close (tie.spec invariant-loop decreases-loop (λ c. (omega arith, omega arith, refl)) (λ c. search rules)
+    (λ c. search rules) (λ c κs. search rules) (λ c κs. search rules) returns (λ c. search rules) (λ c. search rules)
+    (λ c. search rules) loop-again
     (λ c. let loop = c.before in
     rw (drop_of_length-le loop.before.before.before.args.limits.now c.loop-test.false) at
     loop.loop.invariant.2))

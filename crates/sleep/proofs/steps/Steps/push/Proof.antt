@@ -6,5 +6,5 @@ use Rattle.sleep.proofs.steps.Steps.push.Tie as tie
 
 pub push_spec : {M : Type 1} → statement M
 unfolding step_pushed
-push_spec = tie.close (tie.spec (λ c. search needs) (λ c. search needs) (λ c. search needs)
+push_spec = tie.close (tie.spec (λ c. search rules) (λ c. search rules) (λ c. search rules)
     (λ c. simp (lt-ltb _ _ c.if1.true)) (λ c. simp (le-ltb _ _ c.if1.false)))
