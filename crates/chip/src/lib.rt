@@ -1,4 +1,6 @@
 // The two chips, and the numbers in which they differ (docs/RP235X.md).
+#![tactic(auto)]
+
 pub mod voltage;
 
 ghost use Rattle.std.specs.Prelude.{◌≡◌};
