@@ -8,14 +8,14 @@ ghost use Rattle.chip.specs.Chips.{facts_of};
 
 use step::kind;
 
-#[derive(Drop)]
+#[derive(Clone, Copy)]
 pub enum Chip {
     Rp2040,
     Rp235x,
 }
 
 // The chip's numbers that the sheet, the refusals and the formulas use.
-#[derive(Drop)]
+#[derive(Clone, Copy)]
 pub struct Facts {
     pub top_reading: u8, // the greatest reading of the regulator
     pub voltage: u8, // the kind of the voltage step

@@ -4,11 +4,11 @@ ghost use Rattle.chip.specs.declared.Chip.TheVariants.{Rp2040, Rp235x};
 ghost use Rattle.chip.specs.Voltage.{volts_of, code_of, bod_of, settling_of, core_voltage_of, read_is};
 
 // A voltage's register code, brownout level and default settling time in µs.
-#[derive(Drop)]
+#[derive(Clone, Copy)]
 pub struct Volts(pub u8, pub u8, pub u32);
 
 // The core voltages of the RP2040.
-#[derive(Drop)]
+#[derive(Clone, Copy)]
 pub enum CoreVoltage {
     V0_80,
     V0_85,
@@ -24,7 +24,7 @@ pub enum CoreVoltage {
 }
 
 // The voltage of a reading, or the number of the refusal.
-#[derive(Drop)]
+#[derive(Clone, Copy)]
 pub enum VoltageRead {
     Voltage(CoreVoltage),
     Refused(u8),
@@ -93,7 +93,7 @@ pub fn core_voltage(reading: u8) -> VoltageRead
 }
 
 // The core voltages of the RP235x.
-#[derive(Drop)]
+#[derive(Clone, Copy)]
 pub enum CoreVoltage235 {
     V0_55,
     V0_60,
@@ -114,7 +114,7 @@ pub enum CoreVoltage235 {
 }
 
 // The voltage of a reading, or the number of the refusal.
-#[derive(Drop)]
+#[derive(Clone, Copy)]
 pub enum VoltageRead235 {
     Voltage(CoreVoltage235),
     Refused(u8),

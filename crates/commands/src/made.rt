@@ -8,7 +8,7 @@ use base::{Length, Number};
 use orders::Order;
 
 // The number of bytes written, the number of a refusal, or Bad where the words are not READING ORDER.
-#[derive(Drop)]
+#[derive(Clone, Copy)]
 pub enum Made {
     Length(usize),
     Refused(u8),

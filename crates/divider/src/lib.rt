@@ -1,4 +1,6 @@
 // The formulas of docs/FORMAT.md, Frequencies and delays: divided clocks, delays, the Gpout frequency and the PIO divider.
+#![tactic(auto)]
+
 ghost use Rattle.std.specs.Prelude.{◌≡◌, ◌≤◌};
 ghost use Rattle.base.specs.Answer.{number_is};
 ghost use Rattle.divider.specs.Clock.{divided_hz};
@@ -16,7 +18,7 @@ const NO_GPOUT: u8 = 23;
 const NO_RING: u64 = 12;
 
 // The divider of a Gpout: the fraction has 8 bits on the RP2040, 16 on the RP235x.
-#[derive(Drop)]
+#[derive(Clone, Copy)]
 pub enum GpoutDiv {
     Rp2040 { whole: u32, fraction: u8 },
     Rp235x { whole: u32, fraction: u16 },

@@ -23,14 +23,14 @@ const ABSENT: u64 = 1 << 32;
 pub const MALFORMED: u64 = 1 << 49;
 
 // The chip of a number, or None.
-#[derive(Drop)]
+#[derive(Clone, Copy)]
 pub enum OptionChip {
     Some(Chip),
     None,
 }
 
 // The divider of a Gpout, or None.
-#[derive(Drop)]
+#[derive(Clone, Copy)]
 pub enum OptionDiv {
     Some(GpoutDiv),
     None,

@@ -10,14 +10,14 @@ use config::{ChipConfig, ClockConfig};
 use rows::{fits, is_part};
 
 // A plan, or Bad where the numbers are of no plan.
-#[derive(Drop)]
+#[derive(Clone, Copy)]
 pub enum PlanRead {
     Plan(ClockConfig),
     Bad,
 }
 
 // The chip-specific part of a plan, or None where the chip has no voltage with this code.
-#[derive(Drop)]
+#[derive(Clone, Copy)]
 pub enum ChipRead {
     Config(ChipConfig),
     None,

@@ -20,7 +20,7 @@ use step::MAX_BYTES;
 use words::Words;
 
 // The plan that is ordered, the number of its refusal, or Bad where the words are no order.
-#[derive(Drop)]
+#[derive(Clone, Copy)]
 pub enum Order {
     Plan(ClockConfig),
     Refused(u8),

@@ -16,13 +16,13 @@ use config::{
 use step::kind;
 
 // The setting that each part gives, and the steps after the part.
-#[derive(Drop)]
+#[derive(Clone, Copy)]
 pub struct RefRead {
     pub reference: RefClkConfig,
     pub rest: Steps,
 }
 
-#[derive(Drop)]
+#[derive(Clone, Copy)]
 pub struct SysRead {
     pub src: SysClkSrc,
     pub whole: u64,
@@ -30,13 +30,13 @@ pub struct SysRead {
     pub rest: Steps,
 }
 
-#[derive(Drop)]
+#[derive(Clone, Copy)]
 pub struct PeriRead {
     pub peri: OptionPeri,
     pub rest: Steps,
 }
 
-#[derive(Drop)]
+#[derive(Clone, Copy)]
 pub struct AuxRead {
     pub aux: OptionAux,
     pub rest: Steps,

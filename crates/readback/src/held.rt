@@ -7,7 +7,7 @@ ghost use Rattle.readback.specs.Steps.{no_steps, added, held};
 use step::{MAX_STEPS, Step};
 
 // The first `count` steps are in use; those before `at` have been read.
-#[derive(Drop)]
+#[derive(Clone, Copy)]
 pub struct Steps {
     pub steps: [Step; MAX_STEPS],
     pub count: usize,

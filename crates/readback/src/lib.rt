@@ -19,14 +19,14 @@ use config::{ClockConfig, Planned};
 use step::{MAX_BYTES, MAX_STEPS, Step, Unpacked, kind};
 
 // The bytes of a sheet, and the position of the next step, counted in steps.
-#[derive(Drop)]
+#[derive(Clone, Copy)]
 pub struct Reader<'a> {
     pub sheet: &'a [u8],
     pub at: usize,
 }
 
 // A step, and the position after it.
-#[derive(Drop)]
+#[derive(Clone, Copy)]
 pub struct Taken {
     pub step: Step,
     pub at: usize,

@@ -13,39 +13,39 @@ use settings::{Crystal, OptionCrystal, OptionCycles};
 use step::{Step, kind};
 
 // The setting that each part gives, and the steps after the part.
-#[derive(Drop)]
+#[derive(Clone, Copy)]
 pub struct ChipMark {
     pub chip: Chip,
     pub rest: Steps,
 }
 
-#[derive(Drop)]
+#[derive(Clone, Copy)]
 pub struct RingRead {
     pub rosc: OptionRosc,
     pub rest: Steps,
 }
 
-#[derive(Drop)]
+#[derive(Clone, Copy)]
 pub struct VoltageSteps {
     pub code: u64,
     pub settling: OptionCycles,
     pub rest: Steps,
 }
 
-#[derive(Drop)]
+#[derive(Clone, Copy)]
 pub struct PllRead {
     pub pll: OptionPll,
     pub rest: Steps,
 }
 
-#[derive(Drop)]
+#[derive(Clone, Copy)]
 pub struct CrystalRead {
     pub xosc: OptionCrystal,
     pub rest: Steps,
 }
 
 // The settings of all these parts, and the steps after them.
-#[derive(Drop)]
+#[derive(Clone, Copy)]
 pub struct Oscillators {
     pub chip: Chip,
     pub rosc: OptionRosc,

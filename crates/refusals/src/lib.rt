@@ -23,7 +23,7 @@ fn pll_invalid(pll: OptionPll, known_hz: u32) -> bool
 }
 
 // Which of a crystal's PLLs are invalid.
-#[derive(Drop)]
+#[derive(Clone, Copy)]
 struct PllsBad {
     sys: bool,
     usb: bool,
@@ -95,7 +95,7 @@ fn refusal_of(s: Settings, f: Frequencies, reading: u8) -> u8
 }
 
 // The number of the refusal of settings at a reading, 0 where they are accepted, and their frequencies.
-#[derive(Drop)]
+#[derive(Clone, Copy)]
 pub struct Examined {
     pub number: u8,
     pub frequencies: Frequencies,

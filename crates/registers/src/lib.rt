@@ -11,7 +11,7 @@ use step::{Step, Unpacked, kind};
 
 // An access, by its op: 0 does nothing, 1 writes the value to the whole register, 2 sets the bits in the mask to
 // those of the value, 3 waits until the bits in the mask equal the value, 4 lets `value` processor cycles pass.
-#[derive(Drop)]
+#[derive(Clone, Copy)]
 pub struct Access {
     pub op: u8,
     pub address: u32,
@@ -20,7 +20,7 @@ pub struct Access {
 }
 
 // An access, or the number of a refusal.
-#[derive(Drop)]
+#[derive(Clone, Copy)]
 pub enum Accessed {
     Does(Access),
     Refused(u8),

@@ -16,14 +16,14 @@ use registers::{Access, Accessed};
 use step::{Step, Unpacked};
 
 // A step of a chip, and what it does there.
-#[derive(Drop)]
+#[derive(Clone, Copy)]
 pub struct Known {
     pub step: Step,
     pub access: Access,
 }
 
 // What the bytes at a position are.
-#[derive(Drop)]
+#[derive(Clone, Copy)]
 pub enum Found {
     Step(Known),
     Nothing,

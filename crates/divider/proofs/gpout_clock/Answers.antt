@@ -8,8 +8,7 @@ use borrow.Author.Rules.{rules}
 use Rattle.chip.specs.declared.{Chip.Chip, Chip.TheVariants.Rp2040, Chip.TheVariants.Rp235x}
 use Rattle.chip.specs.Chips.{facts_of}
 use Rattle.divider.specs.Gpout.{gpout_clock}
-use Rattle.divider.proofs.gpout_clock.Statement.{statement}
-use Rattle.divider.proofs.gpout_clock.Tie as tie
+use Rattle.divider.proofs.gpout_clock.Goals as goal
 
 -- Inside a list the default does not matter.
 within : (l : List ℕ) (i : ℕ) → i < length l → get_or l i 0 ≡ get_or l i 10
@@ -26,8 +25,14 @@ other : (chip : Chip) (i : ℕ) → 12 ≤ i → 10 ≡ get_or (facts_of chip).g
 other Rp2040 i h = sym (get_or-eq_default (facts_of Rp2040).gpout 10 h)
 other Rp235x i h = sym (get_or-eq_default (facts_of Rp235x).gpout 10 h)
 
-pub gpout_clock_spec : {M : Type 1} → statement M
+pub facts-on-requires : goal.facts-on-requires
 unfolding gpout_clock
-gpout_clock_spec = tie.close (tie.spec (λ c κs. search rules) (λ c. search rules)
-    (λ c. rw c.before.before.facts.ensures (coded c.before.before.before.args.chip _ c.if1.true))
-    (λ c. other c.before.before.before.args.chip _ c.if1.false))
+facts-on-requires c = search rules
+
+pub returns-then-code-lt12 : goal.returns-then-code-lt12
+unfolding gpout_clock
+returns-then-code-lt12 c = rw c.facts-on.ensures (coded c.args.chip _ c.if-code-lt12.true)
+
+pub returns-else-code-lt12 : goal.returns-else-code-lt12
+unfolding gpout_clock
+returns-else-code-lt12 c = other c.args.chip _ c.if-code-lt12.false
