@@ -1,6 +1,5 @@
 -- `divider::calculate_pio_clock_divider_value` meets its contract: `pio-tested` leaves the range test alone, which `in_range`
 -- decides for the quotient.
-use borrow.Author.Rules.{rules}
 use native.Mathlib.Omega.{arith}
 use mathlib.Core.{Path.◌≡◌, Path.ap, Bool.true}
 use Rattle.base.specs.{Choice.in_range, Answer.value}

@@ -1,6 +1,6 @@
 -- `divider::cycles_per_us` meets its contract: the test of the code is the test of the definition, and a u32 frequency rounded up
 -- to MHz is at most 4295.
-use borrow.{Author.Rules.rules, Author.Tests.eq-eqb, Author.Tests.ne_eqb}
+use borrow.{Author.Tests.eq-eqb, Author.Tests.ne_eqb}
 use native.Mathlib.Omega.{arith}
 use Rattle.divider.specs.Delay.{cycles_per_us}
 use Rattle.divider.proofs.cycles_per_us.Goals as goal

@@ -1,6 +1,5 @@
 -- `divider::gpout_hz` meets its contract: `divided_hz` gives the frequency, and by `divided-le` it is at most the source, so the
 -- cast to 32 bits keeps it.
-use borrow.Author.Rules.{rules}
 use native.Mathlib.Omega.{arith}
 use Rattle.divider.proofs.{Bounds.divided-le}
 use Rattle.divider.proofs.gpout_hz.Goals as goal
@@ -10,7 +9,7 @@ overflow_cast-result c = let whole = c.gpout_whole-whole in let args = c.args in
     omega (
       arith,
       c.divided_hz.ensures,
-      divided-le args.scale args.source whole.result args.div-frac (omega arith),
+      divided-le args.scale args.source whole.result args.div_frac (omega arith),
     )
 
 pub returns : goal.returns
