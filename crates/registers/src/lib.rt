@@ -1,5 +1,7 @@
 // The register access of a step, as data: the address, the mask and the value. The code that touches registers uses
 // only this (targets/firmware/execute.c).
+#![tactic(auto)]
+
 mod place;
 mod row;
 
