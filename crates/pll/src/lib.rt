@@ -1,4 +1,6 @@
 // The PLL (docs/PLL.md): whether a setting is valid, which frequency it gives, and the search for a setting.
+#![tactic(auto)]
+
 pub mod feedback;
 pub mod usb;
 
@@ -27,7 +29,7 @@ pub const VCO_MIN: u64 = 750000000;
 pub const VCO_MAX: u64 = 1600000000;
 
 // The four dividers of a PLL.
-#[derive(Drop)]
+#[derive(Clone, Copy)]
 pub struct PllConfig {
     pub refdiv: u8,
     pub fbdiv: u16,
@@ -36,7 +38,7 @@ pub struct PllConfig {
 }
 
 // A setting, or the number of a refusal.
-#[derive(Drop)]
+#[derive(Clone, Copy)]
 pub enum Found {
     Params(PllConfig),
     Refused(u8),
