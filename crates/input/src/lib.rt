@@ -1,9 +1,11 @@
-// Reads the first lines of standard input for the programs.
+// Reads the first lines of an input for the programs.
+#![tactic(auto)]
+
 ghost use Rattle.std.specs.Prelude.{◌≡◌, ◌≤◌, eqb, length};
 ghost use Rattle.base.specs.Choice.{pick};
 ghost use Rattle.input.specs.Line.{Fits};
 
-use libc::STDIN_FILENO;
+use std::io::Read;
 
 // The number of bytes read, or a read error.
 #[derive(Drop)]
@@ -19,9 +21,9 @@ fn ends(b: u8) -> usize
     if b == b'\n' { 1 } else { 0 }
 }
 
-// Reads up to `lines` lines, the end of the input or a full buffer, and answers the number of bytes stored. The contract does not
-// cover which bytes they are, as they are program input.
-pub fn read_lines(buffer: &mut [u8], lines: usize) -> Line
+// Reads up to `lines` lines, the end of the input or a full buffer, and answers the number of bytes stored. It reads byte by byte,
+// so that what follows stays in the input. The contract does not cover which bytes they are, as they are program input.
+pub fn read_lines<R: Read>(reader: &mut R, buffer: &mut [u8], lines: usize) -> Line
     ensures { Fits result (length buffer.new) }
 {
     let mut byte = [0u8; 1];
@@ -31,10 +33,9 @@ pub fn read_lines(buffer: &mut [u8], lines: usize) -> Line
         if left == 0 {
             return Line::Bytes(n);
         }
-        let got = libc::read(STDIN_FILENO, &mut byte);
-        if got < 0 {
+        let Ok(got) = reader.read(&mut byte) else {
             return Line::Unread;
-        }
+        };
         if got == 0 {
             return Line::Bytes(n);
         }
@@ -46,8 +47,8 @@ pub fn read_lines(buffer: &mut [u8], lines: usize) -> Line
 }
 
 // Reads the first line, or as much of it as the buffer holds.
-pub fn read_line(line: &mut [u8]) -> Line
+pub fn read_line<R: Read>(reader: &mut R, line: &mut [u8]) -> Line
     ensures { Fits result (length line.new) }
 {
-    read_lines(line, 1)
+    read_lines(reader, line, 1)
 }
