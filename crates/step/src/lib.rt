@@ -17,7 +17,7 @@ pub const MAX_STEPS: usize = 66;
 pub const MAX_BYTES: usize = 8 * MAX_STEPS;
 
 // A step: its kind and up to five fields. A field that the kind lacks is 0.
-#[derive(Drop)]
+#[derive(Clone, Copy)]
 pub struct Step {
     pub kind: u8,
     pub f0: u64,
