@@ -1,5 +1,4 @@
 pub mod Calls
-pub mod Changed
 pub mod Starts
 pub mod Steps
 pub mod Untouched

@@ -1,6 +1,8 @@
 // The runner (docs/FORMAT.md, Runner) takes one step of its kept sheet at each call. `turn` works on the state,
 // `move_stepper` on the stepping part, `advance` on a whole runner by value, and `poll` changes a runner in place.
 // `restarted` and `start` take a sheet.
+#![tactic(auto)]
+
 mod stepping;
 
 ghost use Rattle.std.specs.Prelude.{◌≡◌, ◌<◌, ◌≤◌, length};
@@ -11,7 +13,7 @@ ghost use Rattle.runner.specs.Run.{turn_of, stepper_of, advance_of, padded, begu
 use step::{MAX_BYTES, MAX_STEPS, Step};
 
 // The state of a runner without the frequencies.
-#[derive(Drop)]
+#[derive(Clone, Copy)]
 pub struct State {
     pub position: usize,
     pub lock_polls: u32,
@@ -20,14 +22,14 @@ pub struct State {
 }
 
 // The stepping part of a runner: the state and the ten frequencies in Hz.
-#[derive(Drop)]
+#[derive(Clone, Copy)]
 pub struct Stepper {
     pub state: State,
     pub freqs: [u32; 10],
 }
 
 // A stepper and the sheet that it was started with: `len` bytes, followed by zeros.
-#[derive(Drop)]
+#[derive(Clone, Copy)]
 pub struct Runner {
     pub kept: [u8; MAX_BYTES],
     pub len: usize,
@@ -35,7 +37,7 @@ pub struct Runner {
 }
 
 // The answer of a call: done, a step to carry out, a wait passed, a wait not ready, or the number of a refusal.
-#[derive(Drop)]
+#[derive(Clone, Copy)]
 pub enum Reply {
     Done,
     Handed(Step),
@@ -198,7 +200,7 @@ fn keep(sheet: &[u8]) -> [u8; MAX_BYTES]
     ensures { result ≡ padded sheet.now }
 {
     let mut kept = [0u8; MAX_BYTES];
-    let _n = bytes::copy(sheet, &mut kept);
+    kept[..sheet.len()].copy_from_slice(sheet);
     kept
 }
 
