@@ -1,4 +1,6 @@
 // The refusals of settings at a reading, in the order in which they are tested: 18, then 1 to 14 (docs/FORMAT.md, Refusals).
+#![tactic(auto)]
+
 mod rules;
 
 ghost use Rattle.std.specs.Prelude.{◌≡◌, ℕ};

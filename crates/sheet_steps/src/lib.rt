@@ -1,5 +1,7 @@
 // The steps of a sheet, collected in an array of byte-swapped words, which is copied to the sheet without further change. The
 // first `at` words are in use, and each function answers the new number of words in use.
+#![tactic(auto)]
+
 ghost use Rattle.std.specs.Prelude.{◌≡◌};
 ghost use Rattle.step.specs.Steps.{step_of};
 ghost use Rattle.sheet_steps.specs.Steps.{step0, step1, step2, step4};
