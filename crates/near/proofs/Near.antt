@@ -2,7 +2,7 @@
 -- output all or none have a remainder, so a setting with no remainder is also the nearest. The targets with one
 -- answer are contiguous.
 use mathlib.Core.{Path.◌≡◌, Path.sym, Path.ap, Path.subst, Path.◌∙◌, Logic.⊎_elim}
-use Prim.Native.Nat.{ℕ, ◌+◌, ◌-◌, ◌*◌, ◌%◌, ◌≤◌, ◌<◌, ◌∣◌}
+use Prim.Native.Nat.{ℕ, ◌+◌, ◌*◌, ◌%◌, ◌≤◌, ◌<◌, ◌∣◌}
 use native.Mathlib.{Omega.arith, Decide.dec_le}
 use native.Mathlib.Nat.{mul-le-mul, mul-pos, mod-lt, div-add-mod', add-mul, mul_assoc, mul_right_comm, dvd-add_iff_right}
 use native.Mathlib.Nat.{dvd-mul_right, le_of_dvd, div-eq_of_eq-mul_left, eq-zero-or-pos, eq-or-lt_of_le, le_refl}
