@@ -42,7 +42,7 @@ module _ (fb p1 : ℕ) (positive : 1 ≤ p1) where
       (λ e. rw (
         e,
         eq-eqb (p1 * suc n) (p1 * suc n) refl,
-        no-product (p1 * suc n) n (λ j l h m. let c = eq_of_mul-eq-mul_left p1 positive j (suc n) m in omega arith),
+        no-product (p1 * k) n (λ j l h m. let c = eq_of_mul-eq-mul_left p1 positive j k m in omega arith),
       ))
       (λ l. rw (ne_eqb (p1 * suc n) (p1 * k)
       (λ m. let c = eq_of_mul-eq-mul_left p1 positive (suc n) k m in omega arith))

@@ -1,4 +1,6 @@
 // The lister (docs/PLL.md): it writes every setting that gives a target frequency with no remainder, two bytes each.
+#![tactic(auto)]
+
 ghost use Rattle.std.specs.Prelude.{◌≡◌, ◌+◌, ◌≤◌, [], ◌∷◌, length, set};
 ghost use Rattle.base.specs.Answer.{length_is};
 ghost use Rattle.pll.specs.Ranges.{reference_min, feedback_max};
