@@ -1,4 +1,6 @@
 // The margin of a target (docs/PLL.md): how far it can move before the search gives another setting.
+#![tactic(auto)]
+
 ghost use Rattle.std.specs.Prelude.{◌≡◌, ◌≤◌};
 ghost use Rattle.margin.specs.Margin.{limit_is, margin_is, margin_of};
 ghost use Rattle.pll.specs.Setting.{same_setting};
