@@ -2,7 +2,7 @@
 use Rattle.std.specs.Prelude.{ℕ, ◌<◌}
 use mathlib.Core.{Path.◌≡◌, List.List, List.[], List.◌∷◌, Option.Option, Option.none, Option.some}
 use lib.{Dec.ltb, Dec.eqb, ListN.length, ListN.set}
-use Rattle.base.specs.{Answer.Answer, Answer.value, Answer.refusal, Choice.pick}
+use Rattle.base.specs.{Choice.pick}
 use Rattle.sleep.specs.declared.steps.Step.{Step}
 use Rattle.sleep.specs.declared.steps.Step.TheVariants.{Write, RingStable, CrystalStable, Locked}
 use Rattle.sleep.specs.declared.Slot.{Slot}

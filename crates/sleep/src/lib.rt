@@ -1,5 +1,7 @@
 // Sleep and wake over eleven register words of the RP2040 (docs/SLEEP.md), the register part of the Rust's
 // `dormant_sleep`. Four slots keep the words handed to a sleep; a wake restores them.
+#![tactic(auto)]
+
 mod bits;
 pub mod steps;
 
@@ -11,7 +13,7 @@ use bits::with_field;
 use steps::Steps;
 
 // A slot: whether it holds a sleep, and the words handed to the last one.
-#[derive(Drop)]
+#[derive(Clone, Copy)]
 pub struct Slot {
     pub saved: bool,
     pub words: [u32; 11],

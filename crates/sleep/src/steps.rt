@@ -7,7 +7,7 @@ ghost use Rattle.sleep.specs.declared.steps.Step.TheVariants.{Write};
 use crate::bits;
 
 // A step: a register write or a wait.
-#[derive(Drop)]
+#[derive(Clone, Copy)]
 pub enum Step {
     // Write the value to one of the eleven registers.
     Write { register: u8, value: u32 },
@@ -20,13 +20,13 @@ pub enum Step {
 }
 
 // A step wrapped in a struct, since an array within a struct holds structs only.
-#[derive(Drop)]
+#[derive(Clone, Copy)]
 pub struct Item {
     pub step: Step,
 }
 
 // A list of at most 14 steps: the first `len` items. The items after them are unspecified.
-#[derive(Drop)]
+#[derive(Clone, Copy)]
 pub struct Steps {
     pub items: [Item; 14],
     pub len: usize,
