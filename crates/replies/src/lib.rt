@@ -1,4 +1,6 @@
 // Writes the texts that answers consist of into the caller's buffer. Each function answers the index after its text.
+#![tactic(auto)]
+
 ghost use Rattle.std.specs.Prelude.{◌∷◌};
 ghost use Rattle.base.specs.Placed.{Placed};
 ghost use Rattle.text.specs.Decimal.{decimal_of};

@@ -1,0 +1,7 @@
+-- `replies::put_refused` meets its contract: `placed-append` joins the word and the decimal.
+use Rattle.base.proofs.Placing.{placed-append}
+use Rattle.replies.proofs.put_refused.Goals as goal
+
+pub returns : goal.returns
+returns c = placed-append c.put_bytes-end.ensures
+    c.put_decimal.ensures
