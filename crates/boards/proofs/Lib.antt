@@ -1,4 +1,3 @@
-pub mod Changed
 pub mod Benches
 pub mod History
 pub mod Untouched

@@ -1,5 +1,7 @@
 // The bench (docs/FORMAT.md, Bench): eight boards with one kept sheet. A board steps as a runner does, by
 // `runner::move_stepper`.
+#![tactic(auto)]
+
 ghost use Rattle.std.specs.Prelude.{◌≡◌, ◌<◌};
 ghost use Rattle.base.specs.Answer.{number_is};
 ghost use Rattle.runner.specs.Run.{outcome, reply_is, begun, opening_is};
@@ -10,7 +12,7 @@ use runner::{Opening, Reply, Runner, Stepper};
 use step::MAX_BYTES;
 
 // Eight boards, and the sheet that all were started with: `len` bytes, followed by zeros.
-#[derive(Drop)]
+#[derive(Clone, Copy)]
 pub struct Bench {
     pub boards: [Stepper; 8],
     pub kept: [u8; MAX_BYTES],
