@@ -1,6 +1,5 @@
 -- `refusals::pll_invalid` meets its contract: `pll-silent` shows that a PLL that is present has 0 Hz exactly where it is invalid.
 use Rattle.settings.proofs.Plls.{pll-silent}
-use borrow.Author.Rules.{rules}
 use Rattle.refusals.proofs.pll_invalid.Goals as goal
 
 pub returns-in-Some : goal.returns-in-Some

@@ -4,7 +4,6 @@ use mathlib.Core.Path.{refl, ap}
 use Rattle.settings.specs.declared.Sources.{Sources}
 use Rattle.settings.specs.Frequencies.{sources_of}
 use Rattle.refusals.specs.Rules.{sys_pll_invalid, usb_pll_invalid}
-use borrow.Author.Rules.{rules}
 use Rattle.refusals.proofs.plls_invalid.Goals as goal
 
 pub returns-in-Some : goal.returns-in-Some

@@ -1,7 +1,6 @@
 -- `refusals::refusal_of` meets its contract: each call of `number_when` is a row of the list of tests, the last first.
 use mathlib.Core.{Path.◌≡◌, Path.refl, Path.ap, Path.◌∙◌, Bool.Bool}
 use Prim.Native.Nat.{ℕ}
-use borrow.Author.Rules.{rules}
 use lib.Dec.{eqb, ltb}
 use Rattle.base.specs.Choice.{pick}
 use Rattle.chip.specs.declared.Facts.{Facts}
@@ -16,7 +15,7 @@ row n found answered rest = rw (← answered, ← rest) found
 
 pub returns : goal.returns
 unfolding refusal_of
-returns c = let facts = c.facts-on.ensures in
+returns c e = let facts = c.facts-on.ensures in
     let args = c.args in
     let over = ap (λ (on : Facts). ltb on.top_reading args.reading) facts in
     let divided = ap (λ (on : Facts). ring_divider_over on.pass args.s.rosc) facts in

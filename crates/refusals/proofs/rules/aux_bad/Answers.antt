@@ -1,7 +1,6 @@
 -- `refusals::rules::aux_bad` meets its contract: for a present clock `divider_bad` gives the test of the divider, and the other
 -- two are the definition's; an absent one passes.
 use Rattle.refusals.specs.Rules.{aux_bad}
-use borrow.Author.Rules.{rules}
 use Rattle.refusals.proofs.rules.aux_bad.Goals as goal
 
 pub returns-in-Some : goal.returns-in-Some

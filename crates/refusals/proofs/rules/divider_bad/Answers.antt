@@ -1,6 +1,5 @@
 -- `refusals::rules::divider_bad` meets its contract: `in_range` gives the test.
 use Rattle.refusals.specs.Rules.{divider_bad}
-use borrow.Author.Rules.{rules}
 use Rattle.refusals.proofs.rules.divider_bad.Goals as goal
 
 pub returns : goal.returns

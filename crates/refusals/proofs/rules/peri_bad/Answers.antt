@@ -1,6 +1,5 @@
 -- `refusals::rules::peri_bad` meets its contract: a present clock is tested for 0 Hz as in the definition; an absent one passes.
 use Rattle.refusals.specs.Rules.{peri_bad}
-use borrow.Author.Rules.{rules}
 use Rattle.refusals.proofs.rules.peri_bad.Goals as goal
 
 pub returns-in-Some : goal.returns-in-Some

@@ -1,6 +1,5 @@
 -- `refusals::rules::ring_divider_over` meets its contract: a present ring is tested as in the definition; an absent one passes.
 use Rattle.refusals.specs.Rules.{ring_divider_over}
-use borrow.Author.Rules.{rules}
 use Rattle.refusals.proofs.rules.ring_divider_over.Goals as goal
 
 pub returns-in-Some : goal.returns-in-Some

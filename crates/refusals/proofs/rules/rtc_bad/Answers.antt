@@ -1,7 +1,6 @@
 -- `refusals::rules::rtc_bad` meets its contract: for a present RTC `whole_bad` gives the test of the whole part, and the other
 -- three are the definition's; an absent one passes.
 use Rattle.refusals.specs.Rules.{rtc_bad}
-use borrow.Author.Rules.{rules}
 use Rattle.refusals.proofs.rules.rtc_bad.Goals as goal
 
 pub returns-in-Some : goal.returns-in-Some

@@ -1,6 +1,5 @@
 -- `refusals::rules::settling_over` meets its contract: a present part is tested as in the definition; an absent one passes.
 use Rattle.refusals.specs.Rules.{settling_over}
-use borrow.Author.Rules.{rules}
 use Rattle.refusals.proofs.rules.settling_over.Goals as goal
 
 pub returns-in-Some : goal.returns-in-Some

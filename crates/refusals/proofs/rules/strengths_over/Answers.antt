@@ -1,6 +1,5 @@
 -- `refusals::rules::strengths_over` meets its contract: for a present ring `strength_over` gives the test; an absent one passes.
 use Rattle.refusals.specs.Rules.{strengths_over}
-use borrow.Author.Rules.{rules}
 use Rattle.refusals.proofs.rules.strengths_over.Goals as goal
 
 pub returns-in-Some : goal.returns-in-Some

@@ -1,6 +1,5 @@
 -- `refusals::rules::whole_bad` meets its contract: `in_range` gives the test.
 use Rattle.refusals.specs.Rules.{whole_bad}
-use borrow.Author.Rules.{rules}
 use Rattle.refusals.proofs.rules.whole_bad.Goals as goal
 
 pub returns : goal.returns
