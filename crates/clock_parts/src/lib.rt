@@ -1,5 +1,7 @@
 // The parts of a sheet from the stores of the sources on: one part for each clock, then the last release. Each function appends
 // the steps of its part to the words and answers the new number of words in use.
+#![tactic(auto)]
+
 ghost use Rattle.std.specs.Prelude.{◌≡◌};
 ghost use Rattle.chip.specs.declared.Chip.TheVariants.{Rp2040};
 ghost use Rattle.chip.specs.Chips.{facts_of};

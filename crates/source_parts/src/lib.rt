@@ -1,5 +1,7 @@
 // The first parts of a sheet: head, ring, voltage, crystal with its PLLs. Each function appends the steps of its part to the
 // words and answers the new number of words in use.
+#![tactic(auto)]
+
 ghost use Rattle.std.specs.Prelude.{◌≡◌, ◌++◌};
 ghost use Rattle.chip.specs.Chips.{facts_of};
 ghost use Rattle.sheet_steps.specs.Steps.{step1, mark_steps, head_part, ring_part, settling_steps, voltage_part, pll_steps, crystal_part};

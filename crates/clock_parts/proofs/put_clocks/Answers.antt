@@ -1,0 +1,20 @@
+-- `clock_parts::put_clocks` meets its contract: the equations of the calls are the parts in turn, with the mask of
+-- `release_mask`, and `pushes-append` joins them.
+use Rattle.sheet_steps.specs.Steps.{clocks_part}
+use Rattle.sheet_steps.proofs.Gathering.{pushes-append}
+use Rattle.clock_parts.proofs.put_clocks.Goals as goal
+
+pub returns : goal.returns
+unfolding clocks_part
+returns c = rw (
+  c.add1.ensures,
+  c.add1-at.ensures,
+  c.put_rtc-at.ensures,
+  c.put_aux-at-2.ensures,
+  c.put_aux-at.ensures,
+  c.put_peri-at.ensures,
+  c.put_sys-at.ensures,
+  c.put_ref-at.ensures,
+  c.put_sources-at.ensures,
+  c.release_mask-mask.ensures,
+) (simp pushes-append)
