@@ -1,4 +1,6 @@
 // Reads the numbers of a row by index, as 8, 16 or 32 bits.
+#![tactic(auto)]
+
 ghost use Rattle.std.specs.Prelude.{◌≡◌, min};
 ghost use Rattle.fields.specs.Row.{nth, byte_at, half_at, room_at, pll_at, ten_at};
 
