@@ -1,6 +1,6 @@
 -- One halving: the cases of `halved` at a positive number of halvings.
 use mathlib.Core.{Path.◌≡◌, Path.refl, List.List}
-use Prim.Native.Nat.{ℕ, zero, suc, ◌+◌, ◌-◌, ◌≤◌, ◌<◌}
+use Prim.Native.Nat.{ℕ, zero, suc, ◌+◌, ◌≤◌, ◌<◌}
 use native.Mathlib.Omega.{arith}
 use lib.ListN.{get_or}
 use borrow.Author.Tests.{lt-ltb, le-ltb}

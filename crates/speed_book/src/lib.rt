@@ -1,5 +1,7 @@
 // The book (docs/PLL.md, The 12 MHz book): every setting of a 12 MHz crystal, ordered by output, and a lookup that
 // gives the same answer as the search.
+#![tactic(auto)]
+
 pub mod page;
 mod table;
 

@@ -4,13 +4,12 @@ use mathlib.Core.{Path.◌≡◌, Path.sym, Path.ap, List.map, List.flat_map}
 use Rattle.pll.specs.Search.{falling, keep}
 use Rattle.speed_book.specs.Book.{hertz, insert, by_output, table_number, table}
 use Rattle.speed_book.proofs.Merge.{under, merge, merge_each, merged, book-merged}
-use Rattle.speed_book.proofs.open.Statement.{statement}
-use Rattle.speed_book.proofs.open.Tie as tie
+use Rattle.speed_book.proofs.open.Goals as goal
 
 from-merged : map table_number merged ≡ table
 unfolding table
 from-merged = ap (map table_number) (sym book-merged)
 
-pub open_spec : {M : Type 1} → statement M
+pub returns : goal.returns
 unfolding by_output falling flat_map hertz insert keep merge merge_each merged table_number under
-open_spec = tie.close (tie.spec (λ c. from-merged))
+returns c = from-merged
