@@ -1,5 +1,7 @@
 // The clock sheet of a plan: `init` refuses the plan, or collects its steps and writes them as bytes.
 
+#![tactic(auto)]
+
 ghost use Rattle.std.specs.Prelude.{◌≡◌};
 ghost use Rattle.settings.specs.Frequencies.{frequencies_of};
 ghost use Rattle.sheet_steps.specs.Steps.{steps_of};

@@ -1,0 +1,16 @@
+-- `sheet::gather` meets its contract: the equations of the five calls are the parts of `steps_of`, which `pushes-append` joins.
+use Rattle.sheet_steps.specs.Steps.{steps_of}
+use Rattle.sheet_steps.proofs.Gathering.{pushes-append}
+use Rattle.sheet.proofs.gather.Goals as goal
+
+pub returns : goal.returns
+unfolding steps_of
+returns c known = rw (
+  c.put_clocks.ensures,
+  known,
+  c.put_crystal-at.ensures,
+  c.put_voltage-at.ensures,
+  c.put_ring-at.ensures,
+  c.put_start-at.ensures,
+  c.facts-k.ensures,
+) (simp pushes-append)
