@@ -1,4 +1,6 @@
 // Texts for people: the meaning of a refusal, the kind and fields of a step, and the settings in which two plans differ.
+#![tactic(auto)]
+
 mod compared;
 mod form;
 mod refused;

@@ -1,5 +1,5 @@
 -- Reading ahead and moving on in held steps, and the held steps after a reader has added steps one after another.
-use mathlib.Core.{Path.◌≡◌, Path.refl, Path.sym, Path.ap, Path.◌∙◌, Bool.Bool, Bool.true, Bool.false, List.List, List.[], List.◌∷◌}
+use mathlib.Core.{Path.◌≡◌, Path.refl, Path.sym, Path.ap, Path.subst, Path.◌∙◌, Bool.Bool, Bool.true, Bool.false, List.List, List.[], List.◌∷◌}
 use Prim.Native.Nat.{ℕ, zero, suc, ◌+◌, ◌/◌, ◌≤◌, ◌<◌, min}
 use native.Mathlib.{Nat.add-zero, Omega.arith}
 use lib.{ListN.length, ListN.take, ListN.drop, ListN.length-take, ListN.length-set, Dec.ltb}
@@ -9,8 +9,8 @@ use Rattle.step.specs.declared.Step.{Step}
 use Rattle.step.specs.Sheet.{max_steps}
 use Rattle.sheet_steps.specs.Steps.{step0}
 use Rattle.sheet.specs.Read.{step_at}
-use Rattle.readback.specs.declared.held.Steps.{Steps}
-use Rattle.readback.specs.Steps.{steps_in, count_of, steps_read, no_steps, added, held}
+use Rattle.readback.specs.declared.{Reader.Reader, held.Steps.Steps}
+use Rattle.readback.specs.Steps.{steps_in, taken_at, next_step, moved, count_of, steps_read, no_steps, added, held}
 use Rattle.readback.proofs.Decoded.{length_from, past_end}
 
 drop-end : (xs : List Step) (k : ℕ) → length xs ≤ k → drop k xs ≡ []
@@ -112,3 +112,46 @@ module _ (sheet : List ℕ) where
           let over = ltb-false (length xs) max_steps e in
           let same : n ≡ max_steps = omega arith in
           ap (λ (k : ℕ). take k xs) same
+
+-- Held steps that are the first `count` steps of a sheet are, with the step at `count` added, one step more of it.
+pub record Onward (sheet : List ℕ) (s : Steps) : Type 0 where
+  pub same : s ≡ gathered (steps_in sheet) s.count
+  pub inside : s.count ≤ count_of sheet
+
+pub none-onward : (sheet : List ℕ) → Onward sheet no_steps
+unfolding no_steps
+none-onward sheet = record { same = refl; inside = omega arith }
+
+module _ (sheet : List ℕ) (s : Steps) (on : Onward sheet s) (more : s.count < count_of sheet) where
+  abbrev xs : List Step
+  xs = steps_in sheet
+
+  long : length xs ≡ length sheet / 8
+  unfolding steps_in
+  long = length_from sheet 0 (length sheet / 8)
+
+  counts : (added s (step_at xs s.count)).count ≡ suc s.count
+  counts =
+      let g = gathers xs (suc s.count) (omega arith) (omega (arith, long)) in
+      subst (λ (z : Steps). (added z (step_at xs s.count)).count ≡ suc s.count) (sym on.same) g.count
+
+  one-onward : Onward sheet (added s (step_at xs s.count))
+  one-onward = record {
+    same = subst (λ (n : ℕ). added s (step_at xs s.count) ≡ gathered xs n) (sym counts)
+        (ap (λ (z : Steps). added z (step_at xs s.count)) on.same);
+    inside = omega (arith, counts);
+  }
+
+  -- A reader at the position `count` gives the step that is added, and then is at the position after it.
+  pub stepped : (r after : Reader) (grown : Steps) → r.at ≡ s.count → r.sheet.now ≡ sheet
+      → grown ≡ added s (next_step r) → after ≡ moved r
+      → Onward sheet grown × (after.at ≡ grown.count) × (after.sheet.now ≡ sheet)
+  unfolding taken_at
+  stepped r after grown at whole one on =
+      let inside : s.count < length sheet / 8 = omega arith in
+      rw (one, on, at, whole, lt-ltb s.count (length sheet / 8) inside) (one-onward, omega (arith, counts), refl)
+
+  pub grows : (r : Reader) (grown : Steps) → r.at ≡ s.count → r.sheet.now ≡ sheet → grown ≡ added s (next_step r)
+      → grown.count ≡ suc s.count
+  unfolding taken_at
+  grows r grown at whole one = rw (one, at, whole) counts

@@ -1,7 +1,7 @@
 -- The steps that a reader gives one after another are the steps of the sheet.
-use mathlib.Core.{Path.◌≡◌, Path.refl, Path.sym, Path.ap, Path.◌∙◌, List.List, List.◌∷◌}
+use mathlib.Core.{Path.◌≡◌, Path.refl, Path.ap, Path.◌∙◌, List.List, List.◌∷◌}
 use Prim.Native.Nat.{ℕ, zero, suc, ◌+◌, ◌/◌, ◌≤◌, ◌<◌}
-use native.Mathlib.{Nat.zero-add, Omega.arith}
+use native.Mathlib.{Omega.arith}
 use lib.{ListN.length, ListN.take, ListN.drop, Seq.drop-cons, Seq.take_all}
 use borrow.Author.Tests.{lt-ltb, le-ltb}
 use denote.Ref.{Bor}

@@ -1,4 +1,6 @@
 // Reads a sheet back: from its bytes and a reading to the plan that gives them (docs/FORMAT.md, Reading a sheet back).
+#![tactic(auto)]
+
 mod clocks;
 mod codes;
 mod held;
@@ -19,7 +21,7 @@ use config::{ClockConfig, Planned};
 use step::{MAX_BYTES, MAX_STEPS, Step, Unpacked, kind};
 
 // The bytes of a sheet, and the position of the next step, counted in steps.
-#[derive(Clone, Copy)]
+#[derive(Drop)]
 pub struct Reader<'a> {
     pub sheet: &'a [u8],
     pub at: usize,
