@@ -1,5 +1,7 @@
 // Upper bound on the calls until done (docs/FORMAT.md, How long a run takes). The theorems over `sheet` and `runner`
 // are in specs/ and proofs/.
+#![tactic(auto)]
+
 ghost use Rattle.std.specs.Prelude.{◌≡◌};
 ghost use Rattle.bring_up.specs.ComesUp.{longest_wait};
 
