@@ -121,27 +121,27 @@ sources-true c r OptionCrystal.None file e u out0 out1 ring set =
 
 -- ---- clocks
 
-ref_source : (f : Sources) (src : RefClkSrc)
+ref-source : (f : Sources) (src : RefClkSrc)
     → get_or (f.rosc ∷ get_or (f.pll_usb ∷ []) (bits_at 5 2 (REF_SRC (ref_code src))) 0 ∷ f.xosc ∷ [])
     (bits_at 0 2 (REF_SRC (ref_code src))) 0 ≡ ref_source f src
-ref_source f RefClkSrc.Xosc = refl
-ref_source f RefClkSrc.Rosc = refl
-ref_source f RefClkSrc.PllUsb = refl
+ref-source f RefClkSrc.Xosc = refl
+ref-source f RefClkSrc.Rosc = refl
+ref-source f RefClkSrc.PllUsb = refl
 
 pub ref-true : (c : Chip) (f : Sources) (r : RefClkConfig) (ctrl div : ℕ) → Small r.div
     → ctrl ≡ REF_SRC (ref_code r.src) → div ≡ INT c (r.div % 4) → ref_from c f ctrl div ≡ ref_hz f r
 unfolding ref_hz
 ref-true c f r ctrl div small e0 e1 =
-    ap₂ (ref_from c f) e0 e1 ∙ ap₂ ◌/◌ (ref_source f r.src) (int-back c r.div small).0
+    ap₂ (ref_from c f) e0 e1 ∙ ap₂ ◌/◌ (ref-source f r.src) (int-back c r.div small).0
 
-sys_source : (f : Sources) (reference : ℕ) (src : SysClkSrc) → let ctrl = AUXSRC (sys_aux src) + SYS_SRC (sys_select src) in
+sys-source : (f : Sources) (reference : ℕ) (src : SysClkSrc) → let ctrl = AUXSRC (sys_aux src) + SYS_SRC (sys_select src) in
     get_or (reference ∷ get_or (f.pll_sys ∷ f.pll_usb ∷ f.rosc ∷ f.xosc ∷ []) (bits_at 5 3 ctrl) 0 ∷ []) (bits_at 0 1 ctrl) 0
     ≡ sys_source f reference src
-sys_source f reference SysClkSrc.Ref = refl
-sys_source f reference SysClkSrc.PllSys = refl
-sys_source f reference SysClkSrc.PllUsb = refl
-sys_source f reference SysClkSrc.Rosc = refl
-sys_source f reference SysClkSrc.Xosc = refl
+sys-source f reference SysClkSrc.Ref = refl
+sys-source f reference SysClkSrc.PllSys = refl
+sys-source f reference SysClkSrc.PllUsb = refl
+sys-source f reference SysClkSrc.Rosc = refl
+sys-source f reference SysClkSrc.Xosc = refl
 
 pub sys-true : (c : Chip) (f : Sources) (reference : ℕ) (src : SysClkSrc) (w fr ctrl div : ℕ)
     → 1 ≤ w → w ≤ (facts_of c).top_whole → fr < (facts_of c).scale
@@ -149,7 +149,7 @@ pub sys-true : (c : Chip) (f : Sources) (reference : ℕ) (src : SysClkSrc) (w f
     → sys_from c f reference ctrl div ≡ divided_hz (facts_of c).scale (sys_source f reference src) w fr
 sys-true c f reference src w fr ctrl div least most small e0 e1 =
     ap₂ (sys_from c f reference) e0 e1
-    ∙ ap (λ (hz : ℕ). divided_from c hz (packed c w fr)) (sys_source f reference src)
+    ∙ ap (λ (hz : ℕ). divided_from c hz (packed c w fr)) (sys-source f reference src)
     ∙ divided-back c (sys_source f reference src) w fr least most small
 
 over-one : (n : ℕ) → n / 1 ≡ n

@@ -6,7 +6,6 @@ use Prim.Native.Nat.{ℕ, zero, suc}
 use lib.{Dec.eqb, ListN.get_or}
 use Rattle.base.proofs.Bools.{both_true}
 use Rattle.chip.specs.declared.{Chip.Chip, Chip.TheVariants.Rp2040, Chip.TheVariants.Rp235x}
-use Rattle.step.specs.Kinds as kind
 use Rattle.config.specs.declared.{OptionRosc.OptionRosc, OptionPll.OptionPll}
 use Rattle.config.specs.declared.{Board.Board}
 use Rattle.settings.specs.declared.{OptionCrystal.OptionCrystal, OptionCycles.OptionCycles, Sources.Sources}
@@ -18,7 +17,7 @@ use Rattle.clock_tree.specs.Machine.{bits_at, held, carried_out}
 use Rattle.clock_tree.specs.Tree.{oscillates}
 use Rattle.clock_tree.specs.Waits.{all_waits, pll_runs, ref_runs, source_runs}
 use Rattle.clock_tree.proofs.Addresses.{member}
-use Rattle.clock_tree.proofs.Parts.{voltage_own, crystal_own, crystal_steps, usb}
+use Rattle.clock_tree.proofs.Parts.{voltage_own, crystal_own, crystal_steps}
 use Rattle.clock_tree.proofs.Parts.{voltage as voltage-calm, crystal as crystal_on}
 use Rattle.clock_tree.proofs.Walk.{Walk, keeps}
 use Rattle.clock_tree.proofs.Set.{range-on, PllSet, CrystalSet, crystal-sets}

@@ -8,7 +8,6 @@ use borrow.Author.Tests.{eqb-false}
 use Rattle.base.proofs.Bools.{both_false}
 use Rattle.chip.specs.declared.{Chip.Chip, Chip.TheVariants.Rp2040, Chip.TheVariants.Rp235x}
 use Rattle.chip.specs.Chips.{facts_of}
-use Rattle.step.specs.Kinds as kind
 use Rattle.divider.specs.Clock.{divided_hz}
 use Rattle.config.specs.declared.{RefClkSrc.RefClkSrc}
 use Rattle.config.specs.declared.{RefClkConfig.RefClkConfig, SysClkSrc.SysClkSrc, Board.Board}
@@ -25,7 +24,7 @@ use Rattle.clock_tree.specs.Machine.{carried_out}
 use Rattle.clock_tree.specs.Tree.{oscillates}
 use Rattle.clock_tree.specs.Waits.{pll_runs, ref_runs, source_runs, SourcesRun}
 use Rattle.clock_tree.proofs.Parts.{system_steps, peri, usb, adc, rtc}
-use Rattle.clock_tree.proofs.Walk.{Walk, ◌then◌, Any, calmly, keeps}
+use Rattle.clock_tree.proofs.Walk.{Walk, ◌then◌, Any, calmly}
 use Rattle.clock_tree.proofs.Running.{NonZero, Running, Referred, mark, head, ring, voltage, crystal}
 
 source : (c : Chip) (f : Sources) → Walk c (source_runs c) (Running c f) (Running c f) (source_part f)
@@ -139,14 +138,14 @@ last Rp235x mask = record { walk = λ file p. (refl, tt) }
 zero-over : (n d : ℕ) → n ≡ 0 → n / d ≡ 0
 zero-over n d e = omega (arith, e, div-le_self n d)
 
-ref_source : (f : Sources) (r : RefClkConfig) → reference_bad (ref_hz f r) ≡ false → NonZero (ref_source f r.src)
+ref-source : (f : Sources) (r : RefClkConfig) → reference_bad (ref_hz f r) ≡ false → NonZero (ref_source f r.src)
 unfolding reference_bad ref_hz
-ref_source f r e still = eqb-false (ref_hz f r) 0 (both_false (eqb (ref_hz f r) 0) _ e).0 (zero-over (ref_source f r.src) r.div still)
+ref-source f r e still = eqb-false (ref_hz f r) 0 (both_false (eqb (ref_hz f r) 0) _ e).0 (zero-over (ref_source f r.src) r.div still)
 
-sys_source : (b : Board) (f : Sources) (reference : ℕ) (src : SysClkSrc) → eqb (sys_hz b f reference src) 0 ≡ false
+sys-source : (b : Board) (f : Sources) (reference : ℕ) (src : SysClkSrc) → eqb (sys_hz b f reference src) 0 ≡ false
     → NonZero (sys_source f reference src)
 unfolding sys_hz divided_hz
-sys_source b f reference src e still =
+sys-source b f reference src e still =
     let scale : ℕ = (facts_of b.chip).scale in
     let none : sys_source f reference src * scale ≡ 0 = rw still (omega arith) in
     eqb-false (sys_hz b f reference src) 0 e (zero-over (sys_source f reference src * scale) (b.whole * scale + b.fraction) none)
@@ -164,8 +163,8 @@ sources-run p reading ok before on awake =
     then voltage reading s.board s.settling
     then crystal c s.rosc s.xosc
     then source c f.sources
-    then ref-runs c (sources_in s) f.reference s.reference.div s.reference.src (ref_source (sources_in s) s.reference (a 8))
-    then system s.board (sources_in s) (ref_in s) f.sys s.sys (sys_source s.board (sources_in s) (ref_in s) s.sys (a 10))
+    then ref-runs c (sources_in s) f.reference s.reference.div s.reference.src (ref-source (sources_in s) s.reference (a 8))
+    then system s.board (sources_in s) (ref_in s) f.sys s.sys (sys-source s.board (sources_in s) (ref_in s) s.sys (a 10))
     then calmly (peri c f.peri s.peri)
     then calmly (usb c f.usb s.usb)
     then calmly (adc c f.adc s.adc)
