@@ -1,8 +1,8 @@
 -- The test holds exactly for equal rows of numbers, no bit is set exactly where all rows are equal, and each bit says whether its
 -- rows differ.
-use mathlib.Core.{Path.◌≡◌, Path.refl, Path.sym, Path.◌∙◌, Bool.Bool, Bool.true, Bool.false, Bool.◌&&◌, Bool.not}
+use mathlib.Core.{Path.◌≡◌, Path.refl, Bool.Bool, Bool.true, Bool.false, Bool.◌&&◌, Bool.not}
 use mathlib.Core.List.{List, [], ◌∷◌}
-use Prim.Native.Nat.{ℕ, zero, suc, ◌+◌, ◌*◌, ◌/◌, ◌%◌, ◌^◌, ◌≤◌, ◌<◌}
+use Prim.Native.Nat.{ℕ, zero, suc, ◌+◌, ◌*◌, ◌/◌, ◌%◌, ◌^◌, ◌<◌}
 use native.Mathlib.{Nat.div-div-eq-div-mul, Nat.pow-suc, Omega.arith}
 use borrow.Author.Tests.{eqb-true, eq-eqb, ne_eqb}
 use lib.{Dec.eqb, ListN.length, ListN.get_or}

@@ -27,7 +27,7 @@ use Rattle.settings.specs.Settings.{settings_of}
 use Rattle.settings.specs.Codes.{sys_code, range_from, ref_from, sys_source_from, peri_from, aux_from, chip_from}
 use Rattle.settings.proofs.Decoded.{range-code, ref-code, peri-code, aux-code, chip-back}
 use Rattle.meanings.specs.Parts.{chip_code, ring_numbers, crystal_numbers, sys_pll_of, usb_pll_of, pll_numbers, cycles_numbers}
-use Rattle.meanings.specs.Parts.{ref_numbers, peri_numbers, aux_numbers, rtc_numbers, parts_of}
+use Rattle.meanings.specs.Parts.{peri_numbers, aux_numbers, rtc_numbers, parts_of}
 
 abbrev chip_at : ℕ → Chip
 chip_at n = pick (eqb n 0) Rp2040 Rp235x

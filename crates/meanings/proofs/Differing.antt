@@ -1,5 +1,5 @@
 -- Two plans have the same settings, and so the same sheet, exactly when no bit is set; each bit says whether its part differs.
-use mathlib.Core.{Path.◌≡◌, Path.refl, Path.sym, Path.ap, Path.◌∙◌, Bool.not, Logic.◌↔◌, List.List, List.[], List.◌++◌}
+use mathlib.Core.{Path.◌≡◌, Path.refl, Path.sym, Path.ap, Path.◌∙◌, Bool.not, Logic.◌↔◌, List.[], List.◌++◌}
 use Prim.Native.Nat.{ℕ, ◌+◌, ◌<◌}
 use native.Mathlib.{Numerals.add-one, Omega.arith}
 use lib.ListN.{get_or}

@@ -2,7 +2,7 @@
 use mathlib.Core.{Path.◌≡◌, Path.refl, Path.sym, Path.ap}
 use mathlib.Core.List.{List, [], ◌∷◌, ◌++◌, map, append-nil, append_assoc}
 use Prim.Native.{Nat.ℕ, Nat.suc, Nat.◌+◌, Nat.◌≤◌, Nat.◌<◌, Nat.min, String.String}
-use native.Mathlib.{Numerals.add-one, Omega.arith}
+use native.Mathlib.{Numerals.add-one}
 use lib.{Dec.leb, Dec.ltb, ListN.length, ListN.drop, ListN.get_or, ListN.drop_of_length-le, Seq.drop-cons}
 use Rattle.base.specs.{Choice.pick, Choice.bit, Placed.Placed}
 use Rattle.base.proofs.Placing.{placed-append}

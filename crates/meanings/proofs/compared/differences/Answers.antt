@@ -1,6 +1,5 @@
 -- `meanings::compared::differences` meets its contract: the bits of the chip, the ring, the crystal and the two PLLs are put
 -- below the eight of `core_bits`.
-use borrow.Author.Rules.{rules}
 use Rattle.meanings.specs.Differences.{differences_of}
 use Rattle.meanings.proofs.compared.differences.Goals as goal
 

@@ -2,7 +2,6 @@
 -- where it is not, nothing is.
 use mathlib.Core.Path.{refl}
 use native.Mathlib.Omega.{arith}
-use borrow.Author.Rules.{rules}
 use Rattle.base.proofs.Placing.{placed-append}
 use Rattle.meanings.specs.Differences.{part_line}
 use Rattle.meanings.proofs.compared.put_part.Goals as goal

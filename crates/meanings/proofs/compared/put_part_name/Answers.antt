@@ -1,5 +1,4 @@
 -- `meanings::compared::put_part_name` meets its contract: the code's table is that of the names.
-use borrow.Author.Rules.{rules}
 use Rattle.meanings.specs.Differences.{part_names}
 use Rattle.meanings.proofs.{Differing.name_in}
 use Rattle.meanings.proofs.compared.put_part_name.Goals as goal

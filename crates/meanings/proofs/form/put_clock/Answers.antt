@@ -1,6 +1,5 @@
 -- `meanings::form::put_clock` meets its contract: `clock-in` finds a clock's name in the code's table at the row that `clock_row`
 -- gives.
-use borrow.Author.Rules.{rules}
 use Rattle.meanings.specs.Form.{clock_rows}
 use Rattle.meanings.proofs.{Forms.clock-in}
 use Rattle.meanings.proofs.form.put_clock.Goals as goal

@@ -1,11 +1,8 @@
 -- `meanings::form::put_form` meets its contract. Invariant: the form's bytes before i are put, with the numbers before taken.
 -- Measure: what is left of the form.
-use mathlib.Core.{Path.◌≡◌, Path.refl, Path.◌∙◌, List.[]}
-use Prim.Native.Nat.{◌-◌, ◌≤◌}
+use mathlib.Core.{Path.refl, Path.◌∙◌, List.[]}
 use native.Mathlib.Omega.{arith}
-use borrow.Author.Rules.{rules}
-use lib.ListN.{length}
-use Rattle.meanings.proofs.{Forms.Written, Forms.written_next, Forms.written_all}
+use Rattle.meanings.proofs.{Forms.written_next, Forms.written_all}
 use Rattle.meanings.proofs.form.put_form.Goals as goal
 
 pub loop-i-init : goal.loop-i-init

@@ -1,11 +1,9 @@
 -- `meanings::form::put_form` meets its contract. Invariant: the form's bytes before i are put, with the numbers before taken.
 -- Measure: what is left of the form.
-use mathlib.Core.{Path.◌≡◌, Path.refl, Path.◌∙◌, List.[]}
+use mathlib.Core.{Path.◌≡◌}
 use Prim.Native.Nat.{◌-◌, ◌≤◌}
-use native.Mathlib.Omega.{arith}
-use borrow.Author.Rules.{rules}
 use lib.ListN.{length}
-use Rattle.meanings.proofs.{Forms.Written, Forms.written_next, Forms.written_all}
+use Rattle.meanings.proofs.{Forms.Written}
 use Rattle.meanings.proofs.form.put_form.Given as goal
 
 abbrev pub invariant-loop-i : goal.invariant-loop-i

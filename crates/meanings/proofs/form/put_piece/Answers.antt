@@ -1,5 +1,5 @@
 -- `meanings::form::put_piece` meets its contract: the byte picks the arm; a byte that is none of the three fields is put itself.
-use borrow.Author.{Rules.rules, Tests.ne_eqb}
+use borrow.Author.{Tests.ne_eqb}
 use Rattle.meanings.specs.Form.{piece_of}
 use Rattle.meanings.proofs.form.put_piece.Goals as goal
 

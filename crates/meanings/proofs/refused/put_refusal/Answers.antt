@@ -1,5 +1,4 @@
 -- `meanings::refused::put_refusal` meets its contract: its text has the rows of the table.
-use borrow.Author.Rules.{rules}
 use Rattle.meanings.specs.Refusals.{refusal_rows}
 use Rattle.meanings.proofs.{Refusals.refusal-in}
 use Rattle.meanings.proofs.refused.put_refusal.Goals as goal

@@ -1,11 +1,8 @@
 -- `meanings::rows::row_start` meets its contract. Invariant: from start on, row n has number left. Measure: the rows left to pass.
-use mathlib.Core.Path.{◌≡◌, refl, ◌∙◌}
+use mathlib.Core.Path.{◌≡◌}
 use Prim.Native.Nat.{◌+◌, ◌≤◌}
-use native.Mathlib.Omega.{arith}
-use borrow.Author.Rules.{rules}
 use lib.ListN.{length, drop}
 use Rattle.meanings.specs.Rows.{row_in}
-use Rattle.meanings.proofs.{Tables.row_next, Tables.row-least}
 use Rattle.meanings.proofs.rows.row_start.Given as goal
 
 abbrev pub invariant-loop-left : goal.invariant-loop-left
