@@ -9,8 +9,8 @@ use base::{Length, Number};
 use boards::{AllOpened, Bench, Benched};
 use chip::Chip;
 use config::ClockConfig;
-use libc::STDOUT_FILENO;
 use runner::{Opened, Reply, Runner, Stepped, Stepper};
+use std::io;
 use step::MAX_BYTES;
 
 // Puts a name, a space, a number and a newline, and answers their length.
@@ -24,10 +24,10 @@ fn put_line(out: &mut [u8], name: &[u8], n: u64) -> usize
 }
 
 // Prints a name and a number on a line.
-fn show(name: &[u8], n: u64) {
+fn show(rt: &impl Print, name: &[u8], n: u64) -> io::Result<()> {
     let mut line = [0u8; 32];
     let size = put_line(&mut line, name, n);
-    io::write_all(STDOUT_FILENO, &line[..size]);
+    rt.write_all(&line[..size])
 }
 
 // Starts a copy of the runner in place.
@@ -114,51 +114,53 @@ fn run_board(b: Bench, board: u8, sheet: &[u8], calls: usize) -> Bench {
     bench
 }
 
-fn show_stepper(s: Stepper) {
-    show(b"steps", s.state.position as u64);
-    show(b"unready", s.state.total as u64);
+fn show_stepper(rt: &impl Print, s: Stepper) -> io::Result<()> {
+    show(rt, b"steps", s.state.position as u64)?;
+    show(rt, b"unready", s.state.total as u64)
 }
 
-fn show_runner(r: Runner) {
+fn show_runner(rt: &impl Print, r: Runner) -> io::Result<()> {
     let s = r.stepper;
-    show_stepper(s);
-    show(b"rosc", runner::rosc_freq(r) as u64);
-    show(b"xosc", runner::xosc_freq(r) as u64);
-    show(b"pll_sys", runner::pll_sys_freq(r) as u64);
-    show(b"pll_usb", runner::pll_usb_freq(r) as u64);
-    show(b"ref", runner::clk_ref_freq(r) as u64);
-    show(b"sys", runner::clk_sys_freq(r) as u64);
-    show(b"peri", runner::clk_peri_freq(r) as u64);
-    show(b"usb", runner::clk_usb_freq(r) as u64);
-    show(b"adc", runner::clk_adc_freq(r) as u64);
-    show(b"rtc", runner::clk_rtc_freq(r) as u64);
+    show_stepper(rt, s)?;
+    show(rt, b"rosc", runner::rosc_freq(r) as u64)?;
+    show(rt, b"xosc", runner::xosc_freq(r) as u64)?;
+    show(rt, b"pll_sys", runner::pll_sys_freq(r) as u64)?;
+    show(rt, b"pll_usb", runner::pll_usb_freq(r) as u64)?;
+    show(rt, b"ref", runner::clk_ref_freq(r) as u64)?;
+    show(rt, b"sys", runner::clk_sys_freq(r) as u64)?;
+    show(rt, b"peri", runner::clk_peri_freq(r) as u64)?;
+    show(rt, b"usb", runner::clk_usb_freq(r) as u64)?;
+    show(rt, b"adc", runner::clk_adc_freq(r) as u64)?;
+    show(rt, b"rtc", runner::clk_rtc_freq(r) as u64)
 }
 
-fn show_freq(b: Bench, board: u8, clock: u8) {
+fn show_freq(rt: &impl Print, b: Bench, board: u8, clock: u8) -> io::Result<()> {
     match boards::clock_freq(b, board, clock) {
-        Number::Value(hz) => show(b"hz", hz as u64),
-        Number::Refused(number) => show(b"refused", number as u64),
+        Number::Value(hz) => show(rt, b"hz", hz as u64),
+        Number::Refused(number) => show(rt, b"refused", number as u64),
     }
 }
 
-fn show_board(b: Bench, board: u8, s: Stepper) {
-    show(b"board", board as u64);
-    show_stepper(s);
+fn show_board(rt: &impl Print, b: Bench, board: u8, s: Stepper) -> io::Result<()> {
+    show(rt, b"board", board as u64)?;
+    show_stepper(rt, s)?;
     let mut clock = 0;
     while clock < 10 {
-        show_freq(b, board, clock);
+        show_freq(rt, b, board, clock)?;
         clock += 1;
     }
+    Ok(())
 }
 
-fn show_refusal(reply: Reply) {
+fn show_refusal(rt: &impl Print, reply: Reply) -> io::Result<()> {
     if let Reply::Refused(number) = reply {
-        show(b"refused", number as u64);
+        show(rt, b"refused", number as u64)?;
     }
+    Ok(())
 }
 
 // Board 2 runs the whole sheet, board 5 the steps before the store of `ref`. There is no clock 10 and no board 8.
-fn show_bench(sheet: &[u8]) {
+fn show_bench(rt: &impl Print, sheet: &[u8]) -> io::Result<()> {
     let opened = bench_started(Bench::new(), sheet);
     let fresh = opened.bench;
     let one = run_board(fresh, 2, sheet, 72);
@@ -166,25 +168,25 @@ fn show_bench(sheet: &[u8]) {
     let boards = bench.boards;
     let second = boards[2];
     let fifth = boards[5];
-    show_board(bench, 2, second);
-    show_board(bench, 5, fifth);
-    show_freq(bench, 5, 10);
-    show_freq(bench, 8, 0);
+    show_board(rt, bench, 2, second)?;
+    show_board(rt, bench, 5, fifth)?;
+    show_freq(rt, bench, 5, 10)?;
+    show_freq(rt, bench, 8, 0)?;
     let over = bench_polled(bench, 8, sheet, true);
     let reply = over.reply;
-    show_refusal(reply);
+    show_refusal(rt, reply)
 }
 
-fn show_sheet(sheet: &[u8]) {
-    show_runner(run(sheet));
-    show_bench(sheet);
+fn show_sheet(rt: &impl Print, sheet: &[u8]) -> io::Result<()> {
+    show_runner(rt, run(sheet))?;
+    show_bench(rt, sheet)
 }
 
 // Prints the results of the runner and of the bench.
-pub(crate) fn show_all() {
+pub(crate) fn show_all(rt: &impl Print) -> io::Result<()> {
     let mut bytes = [0u8; MAX_BYTES];
     match sheet::init(ClockConfig::crystal(Chip::Rp2040, 12000000), 11, &mut bytes) {
-        Length::Bytes(n) => show_sheet(&bytes[..n]),
-        Length::Refused(number) => show(b"refused", number as u64),
+        Length::Bytes(n) => show_sheet(rt, &bytes[..n]),
+        Length::Refused(number) => show(rt, b"refused", number as u64),
     }
 }

@@ -1,114 +1,110 @@
-// Reads arguments and files, and writes files, by the calls of the operating system.
+// Reads arguments and files, and writes files.
 use crate::said;
-use libc::STDOUT_FILENO;
+use std::env::{Env, FillError};
+use std::fs::{OpenFile, OpenOptions};
+use std::io::{Read, Write};
+use std::rt::Files;
+use std::{fs, io, str};
 
-// The index past what was joined, or Stopped after an error message.
+// The system's error numbers that have a reason of their own.
+const ENOENT: i32 = 2;
+
+const EACCES: i32 = 13;
+
+const EEXIST: i32 = 17;
+
+const EISDIR: i32 = 21;
+
+// An error message stands in the place of an answer; what printing it gave.
 #[derive(Drop)]
-pub(crate) enum Joined {
-    To(usize),
-    Stopped,
+pub(crate) struct Stopped {
+    pub(crate) printed: io::Result<()>,
 }
 
 // The reason why a file is not read or written, from the system's error number; 6 for any other error.
-fn reason(error: i32) -> u8 {
-    if error == libc::ENOENT {
-        return 1;
+fn reason(error: &io::Error) -> u8 {
+    match error.raw_os_error() {
+        Some(ENOENT) => 1,
+        Some(EISDIR) => 2,
+        Some(EACCES) => 3,
+        Some(EEXIST) => 4,
+        _ => 6,
     }
-    if error == libc::EISDIR {
-        return 2;
-    }
-    if error == libc::EACCES {
-        return 3;
-    }
-    if error == libc::EEXIST {
-        return 4;
-    }
-    6
-}
-
-fn print_line(out: &[u8; 4200], size: usize) {
-    io::write_all(STDOUT_FILENO, base::first(out, size));
 }
 
 // Prints the name of a file and the reason why it is not read or written.
-fn complain(name: &[u8], why: u8) {
+fn complain(rt: &impl Print, name: &[u8], why: u8) -> Stopped {
     let mut out = [0u8; 4200];
     let size = said::put_trouble(&mut out, name, why);
-    print_line(&out, size);
-}
-
-pub(crate) fn too_long() -> Joined {
-    io::write_all(STDOUT_FILENO, b"the arguments are too long\n");
-    Joined::Stopped
-}
-
-// Why an open file gave no bytes: 0 where it is empty. A directory can be opened, and only the read reports it.
-fn unread(fd: i32) -> u8 {
-    let mut more = [0u8; 1];
-    if libc::read(fd, &mut more) < 0 {
-        return reason(os::errno());
+    Stopped {
+        printed: rt.write_all(base::first(&out, size)),
     }
-    0
 }
 
-fn join_bytes(line: &mut [u8], at: usize, bytes: &[u8; 2049], n: usize) -> Joined {
-    Joined::To(text::put_hex(line, at, base::first(bytes, n)))
+pub(crate) fn too_long(rt: &impl Print) -> Stopped {
+    Stopped {
+        printed: rt.write_all(b"the arguments are too long\n"),
+    }
 }
 
-// Puts the bytes of an open file into the line in hex, and closes the file.
-fn join_open(line: &mut [u8], at: usize, fd: i32, name: &[u8]) -> Joined {
+// The name of a file as a path. A path is text, so no file has any other name here.
+fn path_of<'a>(rt: &impl Print, name: &'a [u8]) -> Result<&'a str, Stopped> {
+    str::from_utf8(name).map_err(|_| complain(rt, name, 6))
+}
+
+// Reads until the buffer is full or the file ends, and answers the number of bytes.
+fn fill<F: Read>(file: &mut F, bytes: &mut [u8]) -> io::Result<usize> {
+    let mut n = 0;
+    while n < bytes.len() {
+        let got = file.read(&mut bytes[n..])?;
+        if got == 0 {
+            break;
+        }
+        n += got;
+    }
+    Ok(n)
+}
+
+// Opens a file and fills the buffer from it. A directory can be opened, and only the read reports it.
+fn read_file(rt: &impl Files, path: &str, bytes: &mut [u8]) -> io::Result<usize> {
+    let mut file = fs::open(rt, path)?;
+    fill(&mut file, bytes)
+}
+
+// Puts the bytes of a file into the line in hex.
+fn join_file(
+    rt: &(impl Files + Print),
+    line: &mut [u8],
+    at: usize,
+    name: &[u8],
+) -> Result<usize, Stopped> {
     let mut bytes = [0u8; 2049];
-    let n = io::read_full(fd, &mut bytes);
-    let why = if n == 0 { unread(fd) } else { 0 };
-    libc::close(fd);
-    if why != 0 {
-        complain(name, why);
-        return Joined::Stopped;
+    let path = path_of(rt, name)?;
+    match read_file(rt, path, &mut bytes) {
+        Ok(n) if n <= 2048 => Ok(text::put_hex(line, at, base::first(&bytes, n))),
+        Ok(_) => Err(complain(rt, name, 5)),
+        Err(error) => Err(complain(rt, name, reason(&error))),
     }
-    if 2048 < n {
-        complain(name, 5);
-        return Joined::Stopped;
-    }
-    join_bytes(line, at, &bytes, n)
-}
-
-fn join_file(line: &mut [u8], at: usize, name: &[u8]) -> Joined {
-    let fd = os::open_read(name);
-    if fd < 0 {
-        complain(name, reason(os::errno()));
-        return Joined::Stopped;
-    }
-    join_open(line, at, fd, name)
 }
 
 // Puts a word into the line: an argument, or for @FILE the bytes of the file.
-fn join_word(line: &mut [u8], at: usize, word: &[u8]) -> Joined {
+fn join_word(
+    rt: &(impl Files + Print),
+    line: &mut [u8],
+    at: usize,
+    word: &[u8],
+) -> Result<usize, Stopped> {
     if word.len() == 0 {
-        return Joined::To(at);
+        return Ok(at);
     }
     if word[0] == b'@' {
         // No file has an empty name, so the message names the sign itself.
         if word.len() == 1 {
-            complain(word, 1);
-            return Joined::Stopped;
+            return Err(complain(rt, word, 1));
         }
-        return join_file(line, at, &word[1..]);
+        return join_file(rt, line, at, &word[1..]);
     }
-    Joined::To(text::put_bytes(line, at, word))
-}
-
-fn join_first(line: &mut [u8], at: usize, word: &[u8; 8192], n: usize) -> Joined {
-    join_word(line, at, base::first(word, n))
-}
-
-// Puts argument i into the line.
-fn join_argument(line: &mut [u8], at: usize, i: usize) -> Joined {
-    let mut word = [0u8; 8192];
-    let n = os::arg(i, &mut word);
-    if os::errno() != 0 {
-        return too_long();
-    }
-    join_first(line, at, &word, n)
+    Ok(text::put_bytes(line, at, word))
 }
 
 // A space before every word but the first.
@@ -120,61 +116,78 @@ fn put_space(line: &mut [u8], at: usize, is_first: bool) -> usize {
 }
 
 // Joins the arguments from `from` on, with one space between.
-pub(crate) fn join(line: &mut [u8], from: usize, count: usize) -> Joined {
+pub(crate) fn join(
+    rt: &(impl Env + Files + Print),
+    line: &mut [u8],
+    from: usize,
+) -> Result<usize, Stopped> {
     let mut at = 0;
-    let mut i = from;
-    while i < count {
-        let start = put_space(line, at, i == from);
-        let Joined::To(end) = join_argument(line, start, i) else {
-            return Joined::Stopped;
+    for i in from..usize::MAX {
+        let mut word = [0u8; 8192];
+        let n = match rt.arg(i, &mut word) {
+            Ok(n) => n,
+            Err(FillError::NotPresent) => break,
+            Err(FillError::TooLong) => return Err(too_long(rt)),
         };
-        if line.len() <= end {
-            return too_long();
+        let start = put_space(line, at, i == from);
+        at = join_word(rt, line, start, base::first(&word, n))?;
+        if line.len() <= at {
+            return Err(too_long(rt));
         }
-        at = end;
-        i += 1;
     }
-    Joined::To(at)
+    Ok(at)
 }
 
-// Writes bytes to an open file, and closes it.
-fn write_open(fd: i32, bytes: &[u8]) -> bool {
-    let whole = io::write_all(fd, bytes);
-    let closed = libc::close(fd);
-    whole & (closed == 0)
+// Writes bytes to an open file, and sees them stored: closing a file reports no error.
+fn write_open<F: Write + OpenFile>(file: &mut F, bytes: &[u8]) -> io::Result<()> {
+    file.write_all(bytes)?;
+    file.sync_all()
 }
 
 // Renames a new file to its path; removes it where it was not written whole or cannot be renamed.
-fn put_in_place(name: &[u8], path: &[u8], is_whole: bool) -> bool {
-    if is_whole {
-        if os::rename(name, path) == 0 {
-            return true;
+fn put_in_place(
+    rt: &(impl Files + Print),
+    name: &str,
+    path: &str,
+    written: io::Result<()>,
+) -> Result<(), Stopped> {
+    match written.and_then(|_| fs::rename(rt, name, path)) {
+        Ok(()) => Ok(()),
+        Err(error) => {
+            let _ = fs::remove_file(rt, name);
+            Err(complain(rt, path.as_bytes(), reason(&error)))
         }
     }
-    let why = reason(os::errno());
-    os::unlink(name);
-    complain(path, why);
-    false
 }
 
 // Creates the new file, writes it and renames it to its path.
-fn write_new(name: &[u8], path: &[u8], bytes: &[u8]) -> bool {
-    let fd = os::create(name);
-    if fd < 0 {
-        complain(name, reason(os::errno()));
-        return false;
+fn write_new(
+    rt: &(impl Files + Print),
+    name: &str,
+    path: &str,
+    bytes: &[u8],
+) -> Result<(), Stopped> {
+    match OpenOptions::new()
+        .write(true)
+        .create_new(true)
+        .open(rt, name)
+    {
+        Ok(mut file) => {
+            let written = write_open(&mut file, bytes);
+            put_in_place(rt, name, path, written)
+        }
+        Err(error) => Err(complain(rt, name.as_bytes(), reason(&error))),
     }
-    let is_whole = write_open(fd, bytes);
-    put_in_place(name, path, is_whole)
-}
-
-fn write_named(name: &[u8; 4200], n: usize, path: &[u8], bytes: &[u8]) -> bool {
-    write_new(base::first(name, n), path, bytes)
 }
 
 // Replaces a file by these bytes. They are written to a new file first, so the old file is kept until they are whole.
-pub(crate) fn replace(path: &[u8], bytes: &[u8]) -> bool {
+pub(crate) fn replace(rt: &(impl Files + Print), path: &[u8], bytes: &[u8]) -> Result<(), Stopped> {
     let mut name = [0u8; 4200];
     let n = said::put_new_name(&mut name, path);
-    write_named(&name, n, path, bytes)
+    write_new(
+        rt,
+        path_of(rt, base::first(&name, n))?,
+        path_of(rt, path)?,
+        bytes,
+    )
 }

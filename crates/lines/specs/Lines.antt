@@ -1,6 +1,6 @@
 -- A text that arrives in pieces of any size is answered line by line, in the order of the lines (docs/PROGRAMS.md, Programs
 -- answers and limits).
-use mathlib.Core.{Path.◌≡◌, Bool.Bool, List.List, List.[], List.◌∷◌, List.◌++◌}
+use mathlib.Core.{Path.◌≡◌, List.List, List.[], List.◌∷◌, List.◌++◌}
 use Rattle.std.specs.Prelude.{ℕ, ◌+◌, ◌≤◌, ◌<◌}
 use lib.{Dec.eqb, Dec.ltb, ListN.length, ListN.take, ListN.set, Seq.sets}
 use Rattle.base.specs.{Choice.pick, Placed.past}

@@ -1,9 +1,11 @@
 // Gathers lines byte by byte from pieces of a text of any size, and writes the answer to each line to standard output.
+#![tactic(auto)]
+
 ghost use Rattle.std.specs.Prelude.{◌≡◌, ◌≤◌, length};
 ghost use Rattle.base.specs.Placed.{Placed};
 ghost use Rattle.lines.specs.Lines.{held_of, held_text, pushed, feeds, feeds_out, Feeding};
 
-use libc::{STDIN_FILENO, STDOUT_FILENO};
+use std::io::{Input, Read};
 
 // The number of bytes held after a byte is taken, 4097 for a line of more than 4096; and the answer's length, 0 where there is
 // none.
@@ -50,7 +52,13 @@ fn feed(held: &mut [u8; 4096], len: usize, b: u8, out: &mut [u8]) -> Fed
 }
 
 // Answers each line that the piece closes, in order, and holds the bytes after the last newline; answers how many are held.
-pub fn take_piece(piece: &[u8], held: &mut [u8; 4096], before: usize, out: &mut [u8]) -> usize
+pub fn take_piece(
+    rt: &impl Print,
+    piece: &[u8],
+    held: &mut [u8; 4096],
+    before: usize,
+    out: &mut [u8],
+) -> usize
     ensures held { held_of held.new result ≡ feeds (held_of held.old before) piece.now }
     ensures out { out.new ≡ feeds_out (held_of held.old before) out.old piece.now }
 {
@@ -59,28 +67,30 @@ pub fn take_piece(piece: &[u8], held: &mut [u8; 4096], before: usize, out: &mut 
     while at < piece.len() {
         let next = feed(held, len, piece[at], out);
         let n = next.answer;
-        io::write_all(STDOUT_FILENO, &out[..n]);
+        // A failed write is not reported: what is held does not depend on it.
+        let _ = rt.write_all(&out[..n]);
         len = next.len;
         at += 1;
     }
     len
 }
 
-// Answers the lines of standard input; the last line may lack its newline.
-pub fn serve() {
+// Answers the lines of standard input; the last line may lack its newline. A failed read counts as the end of the input.
+pub fn serve(rt: &(impl Input + Print)) {
+    let mut reader = rt.reader();
     let mut held = [0u8; 4096];
     let mut out = [0u8; 4096];
+    let mut piece = [0u8; 65536];
     let mut len = 0;
     // The count bounds the loop, as every loop has to end; no input has 2 ^ 64 pieces.
-    let mut turns = u64::MAX;
-    while 0 < turns {
-        let mut piece = io::large_buffer();
-        let got = libc::read(STDIN_FILENO, &mut piece);
-        let n = io::count(got, &piece);
-        len = take_piece(&piece[..n], &mut held, len, &mut out);
-        turns = if n == 0 { 0 } else { turns - 1 };
+    for _ in 0..u64::MAX {
+        let n = reader.read(&mut piece).unwrap_or(0);
+        if n == 0 {
+            break;
+        }
+        len = take_piece(rt, &piece[..n], &mut held, len, &mut out);
     }
     if 0 < len {
-        let _last = take_piece(b"\n", &mut held, len, &mut out);
+        let _last = take_piece(rt, b"\n", &mut held, len, &mut out);
     }
 }

@@ -1,19 +1,21 @@
 // Program `load` (docs/PROGRAMS.md, Program load): reads a seed and a count from standard input and prints both trials.
-use input::Line;
-use libc::STDOUT_FILENO;
+#![tactic(auto)]
 
-fn main() {
+use input::Line;
+use std::io;
+
+fn main(rt: HostRuntime) -> io::Result<()> {
     let mut line = [0u8; 22];
     let mut out = [0u8; 80012];
-    match input::read_line(&mut line) {
+    match input::read_line(&mut rt.stdin(), &mut line) {
         Line::Bytes(n) => {
             let size = trial::load(&line, n, &mut out);
-            io::write_all(STDOUT_FILENO, &out[..size]);
+            rt.write_all(&out[..size])
         }
         Line::Unread => {
             let mut refused = [0u8; 11];
             let size = replies::put_unread(&mut refused);
-            io::write_all(STDOUT_FILENO, &refused[..size]);
+            rt.write_all(&refused[..size])
         }
     }
 }

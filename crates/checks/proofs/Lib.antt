@@ -1,3 +1,0 @@
-pub mod Changed
-pub mod Lent
-pub mod Locals
