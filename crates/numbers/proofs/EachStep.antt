@@ -18,9 +18,9 @@ module _ (f : Step → List ℕ) where
   one_more [] s = append-nil (f s)
   one_more (x ∷ xs) s = rw (one_more xs s, append_assoc)
 
-  pub step-next : {items : List Item} {count at i end end' : ℕ} {before out out' : List ℕ}
+  pub step-next : (items : List Item) {count at i end end' : ℕ} {before out out' : List ℕ}
       → StepParts f items count before at i end out
       → Placed out end (f (get_or items i (record { step = Write 0 0 })).step) end' out' → i < count
       → StepParts f items count before at (i + 1) end' out'
-  step-next {items} {i = i} p put more =
+  step-next items {i = i} p put more =
       parts_next p put more (λ h. rw add-one (one_more (first_steps items i) (get_or items i (record { step = Write 0 0 })).step))

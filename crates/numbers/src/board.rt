@@ -24,7 +24,7 @@ pub fn start(runner: &mut [u32; 15], kept: &mut [u8; MAX_BYTES], sheet: &[u8]) -
         Opening::Started => {
             run::put_started(runner, next.len as u32);
             let bytes = next.kept;
-            let _n = bytes::copy(&bytes, kept);
+            *kept = bytes;
             0
         }
         Opening::Refused(number) => answers::refused(number),

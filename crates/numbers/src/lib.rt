@@ -1,4 +1,6 @@
 // Plans, answers, runners, benches and slots as numbers, for the cases and the exported calls.
+#![tactic(auto)]
+
 pub mod answers;
 pub mod bench;
 pub mod board;

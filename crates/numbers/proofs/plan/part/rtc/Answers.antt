@@ -1,0 +1,14 @@
+-- `numbers::plan::part::rtc` meets its contract: the flag picks the case by `absent` and `there`, and the equations of
+-- `aux_from`, `number_at` and `byte_at` give the four fields.
+use Rattle.numbers.specs.Plan.{rtc_at}
+use Rattle.numbers.proofs.{Flags.there, Flags.absent}
+use Rattle.numbers.proofs.plan.part.rtc.Goals as goal
+
+pub returns-then-number_at-ne1 : goal.returns-then-number_at-ne1
+unfolding rtc_at
+returns-then-number_at-ne1 c = rw (absent c.number_at.ensures c.if-number_at-ne1.true)
+
+pub returns : goal.returns
+unfolding rtc_at
+returns c = rw (there c.number_at.ensures c.if-number_at-ne1.false, c.byte_at-2.ensures, c.byte_at.ensures)
+    (rw (c.number_at-3.ensures, c.aux_from.ensures, c.number_at-2.ensures))
