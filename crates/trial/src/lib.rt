@@ -1,5 +1,7 @@
 // The whole output of the program `load` for its input (docs/PROGRAMS.md, Program load): two trials that give the
 // same output on every machine.
+#![tactic(auto)]
+
 mod lcg;
 
 ghost use Rattle.std.specs.Prelude.{◌≡◌, ◌≤◌, false, length};

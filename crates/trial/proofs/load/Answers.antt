@@ -3,12 +3,13 @@
 use Rattle.std.proofs.Common.{arith, length-take, rules}
 use Rattle.text.proofs.Outputs.{printed}
 use Rattle.trial.specs.Load.{load_of}
-use Rattle.trial.proofs.{Starts.load-start, Bounds.load-most, load.Statement.statement}
-use Rattle.trial.proofs.load.Tie as tie
+use Rattle.trial.proofs.{Starts.load-start, Bounds.load-most}
+use Rattle.trial.proofs.load.Goals as goal
 
-pub load_spec : {M : Type 1} → statement M
-load_spec = tie.close (tie.spec (λ c κs. search rules)
-    (λ c κs. rw c.before.first.ensures (simp length-take (omega arith)))
-    (λ c. let first = c.before.before in let args = first.before.before.args in
+pub put_load-requires : goal.put_load-requires
+put_load-requires c = rw c.first.ensures (simp length-take (omega arith))
+
+pub returns : goal.returns
+returns c = let args = c.args in
     printed load_of 22 80012 load-most load-start args.start.now args.n (search rules) (search rules)
-    (rw first.first.ensures at c.put-load.ensures)))
+    (rw c.first.ensures at c.put_load.ensures)
