@@ -1,7 +1,7 @@
 -- Each register that a step of either chip uses has a name, and the cycles of each pause fit 32 bits. The proof goes kind by
 -- kind, and for a PLL's register over both PLLs.
 use mathlib.Core.{Path.◌≡◌, Path.refl, Bool.Bool, Bool.true, Bool.false, List.List, List.[], List.◌∷◌}
-use Prim.Native.Nat.{ℕ, zero, suc, ◌+◌, ◌%◌, ◌^◌, ◌<◌}
+use Prim.Native.Nat.{ℕ, zero, suc, ◌+◌, ◌^◌, ◌<◌}
 use native.Mathlib.{Nat.add-zero, Nat.zero-add, Nat.mod-lt, Omega.arith}
 use lib.{Dec.eqb, Dec.leb, ListN.length, ListN.get_or, Pow.pow_pos}
 use Rattle.base.specs.{Answer.Answer, Answer.value, Answer.refusal, Choice.pick, Choice.in_range}

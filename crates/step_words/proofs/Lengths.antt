@@ -1,18 +1,18 @@
 -- The length of a step's text is bounded kind by kind: a field of w bits is printed with at most w * 3 / 10 + 1 digits, which a
 -- computed test shows for each width of the table.
 use mathlib.Core.{Path.◌≡◌, Path.refl, Bool.Bool, Bool.true, Bool.false, Bool.◌&&◌}
-use mathlib.Core.List.{List, [], ◌∷◌, ◌++◌, map}
-use Prim.Native.{Nat.ℕ, Nat.zero, Nat.suc, Nat.◌+◌, Nat.◌*◌, Nat.◌/◌, Nat.◌%◌, Nat.◌^◌, Nat.◌≤◌, Nat.◌<◌, Nat.min, String.String}
+use mathlib.Core.List.{List, [], ◌∷◌, map}
+use Prim.Native.{Nat.ℕ, Nat.zero, Nat.suc, Nat.◌+◌, Nat.◌*◌, Nat.◌/◌, Nat.◌^◌, Nat.◌≤◌, Nat.◌<◌, Nat.min, String.String}
 use native.Mathlib.Omega.{arith}
 use borrow.Author.Tests.{leb-true}
-use lib.{Dec.T, Dec.eqb, Dec.leb, Dec.leb→le, ListN.length, ListN.get_or, ListN.length-append, Pow.pow_pos}
-use Rattle.base.specs.Choice.{pick, bit, in_range}
-use Rattle.base.proofs.Bools.{both_true, in-range}
+use lib.{Dec.T, Dec.eqb, Dec.leb, ListN.length, ListN.get_or, ListN.length-append, Pow.pow_pos}
+use Rattle.base.specs.Choice.{pick, bit}
+use Rattle.base.proofs.Bools.{both_true}
 use Rattle.text.specs.{Ascii.ascii, Decimal.decimal_of, Hex.hex_of}
 use Rattle.text.proofs.Decimals.{length-decimal}
 use Rattle.step.specs.{declared.Step.Step, Layout.kinds, Layout.rows, Layout.width, Layout.widths, Steps.known, Steps.WellFormed}
 use Rattle.meanings.specs.{Rows.row_text, Form.clock_rows, Form.clock_name, Form.mask_text, Form.is_field, Form.piece_of}
-use Rattle.meanings.specs.{Form.formed_from, Form.formed, Steps.step_forms, Steps.step_text}
+use Rattle.meanings.specs.{Form.formed_from, Steps.step_forms, Steps.step_text}
 use Rattle.meanings.proofs.Tables.{row-most}
 
 -- the digits of a number of w bits

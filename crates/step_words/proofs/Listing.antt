@@ -1,21 +1,20 @@
 -- A line and a listing have a greatest length, so a caller can lend a buffer that holds the whole listing.
 use mathlib.Core.{Path.◌≡◌, Path.refl, Bool.Bool, Bool.true, Bool.false, List.List, List.[], List.◌∷◌, List.◌++◌}
-use Prim.Native.Nat.{ℕ, zero, suc, ◌+◌, ◌*◌, ◌/◌, ◌^◌, ◌≤◌, ◌<◌}
+use Prim.Native.Nat.{ℕ, zero, suc, ◌+◌, ◌*◌, ◌^◌, ◌≤◌, ◌<◌}
 use native.Mathlib.Omega.{arith}
 use lib.{Dec.eqb, ListN.length, ListN.take, ListN.drop, ListN.length-append, ListN.length-take}
 use Rattle.base.specs.{Answer.Answer, Answer.value, Answer.refusal, Choice.pick}
 use Rattle.chip.specs.declared.Chip.{Chip}
-use Rattle.text.specs.{Ascii.ascii, Decimal.decimal_of, Hex.hex_digits, Hex.hex_of}
+use Rattle.text.specs.{Ascii.ascii, Hex.hex_digits, Hex.hex_of}
 use Rattle.text.proofs.Decimals.{length-decimal}
 use Rattle.step.specs.{declared.Step.Step, Access.read_at, Steps.WellFormed}
 use Rattle.step.proofs.Accesses.{read-sound}
 use Rattle.registers.specs.{declared.Access.Access, Access.access_of}
 use Rattle.readback.specs.Law.{chip_in}
-use Rattle.meanings.specs.Steps.{step_text}
 use Rattle.step_words.specs.Does.{word_text, register_text, write_text, change_text, wait_text, pause_text, does_text}
 use Rattle.step_words.specs.Steps.{on_chip, found_in, is_step, meaning_text, line_text, found_at, line_at, lines_from, lines_of, steps_text}
 use Rattle.step_words.proofs.{Named.name-most, EachNamed.Paused, EachNamed.NamedIn, EachNamed.each-named}
-use Rattle.step_words.proofs.Lengths.{step_most, step-most}
+use Rattle.step_words.proofs.Lengths.{step-most}
 
 -- ---- what a step does
 

@@ -1,5 +1,7 @@
 // A sheet's steps in words, a line for each: its position and bytes, its kind and fields, and what it does to which register.
 // Where the bytes stop being steps of the sheet's chip, the last line has what is there.
+#![tactic(auto)]
+
 mod does;
 mod names;
 
@@ -104,6 +106,7 @@ fn next_of(found: Found, position: usize, lines: usize) -> usize
 
 // Puts a line for each step of a sheet. A sheet whose bytes stop being steps of its chip is listed up to there, and the last line
 // has the bytes that are left, at most 8.
+#[tactic(auto, unfolding(crate::specs::Steps::lines_of))]
 pub fn put_steps(out: &mut [u8], at: usize, sheet: &[u8]) -> usize
     ensures { Placed out.old at (steps_text sheet.now) result out.new }
 {
