@@ -9,7 +9,7 @@ use lib.{Dec.eqb, Dec.leb, Dec.ltb, ListN.length, ListN.set, ListN.drop, ListN.r
 use Rattle.base.proofs.Bools.{both_true}
 use Rattle.fields.specs.Row.{nth}
 use Rattle.sleep.specs.declared.{Slot.Slot}
-use Rattle.sleep.specs.Sleep.{SleepOutcome, fresh_slots, slot_at, saved, sleep_of, woken, wake_of}
+use Rattle.sleep.specs.Sleep.{SleepOutcome, fresh_slots, slot_at, sleep_of, woken, wake_of}
 use Rattle.sleep.specs.History.{SleepEvent, sleeps, wakes, writes, happens, board_after}
 use Rattle.sleep.proofs.{History.history, Replay.either_way}
 use Rattle.numbers.specs.Slots.{words_at, slots_in, slots_numbers}

@@ -1,5 +1,7 @@
 // The product for programs in C and Rust: its calls take numbers and slices only. Each answer is one number, by
 // numbers/specs/Answers.
+#![tactic(auto)]
+
 pub mod bench;
 pub mod read;
 pub mod slots;
