@@ -1,9 +1,8 @@
 -- From number 6 on the letters are those of `plan`, and there is no preset.
-use mathlib.Core.{Path.◌≡◌, Path.refl, List.List, List.[], List.◌∷◌, Option.Option, Option.none}
+use mathlib.Core.{Path.◌≡◌, Path.refl, List.List, List.[], List.◌∷◌, Option.none}
 use Prim.Native.Nat.{ℕ, zero, suc, ◌≤◌}
 use native.Mathlib.Omega.{arith}
 use lib.ListN.{length}
-use Rattle.base.specs.Answer.{Answer}
 use Rattle.chip.specs.declared.Chip.{Chip}
 use Rattle.orders.specs.Orders.{Preset, presets, plan_letters, letters_in, letters_of, preset_in, preset_of}
 

@@ -1,5 +1,5 @@
 -- The slices that the code takes from a line are its words, and their ends are the ends of the definition.
-use mathlib.Core.{Path.◌≡◌, Path.refl, Path.◌∙◌, List.List, List.[]}
+use mathlib.Core.{Path.◌≡◌, List.List, List.[]}
 use Prim.Native.Nat.{ℕ, suc, ◌+◌, ◌-◌, ◌≤◌, ◌<◌, max}
 use native.Mathlib.{Nat.zero-add, Numerals.add-one, Omega.arith}
 use lib.ListN.{length, take, drop, drop_of_length-le}

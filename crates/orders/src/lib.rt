@@ -1,4 +1,6 @@
 // An order is the words of a line that ask for a plan: a preset, the numbers of a plan, or another sheet.
+#![tactic(auto)]
+
 mod line;
 
 ghost use Rattle.std.specs.Prelude.{◌≡◌, take};
