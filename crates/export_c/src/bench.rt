@@ -1,0 +1,33 @@
+// A bench as 113 numbers and its kept bytes: for each of its eight boards position, lock polls, total, stopped mark and ten
+// frequencies, then the kept length. A board's numbers and the kept length are a runner's numbers.
+ghost use Rattle.std.specs.Prelude.{◌≡◌};
+ghost use Rattle.numbers.specs.Bench.{bench_number, bench_leaves, StartAllCall};
+
+use step::MAX_BYTES;
+
+// Starts eight fresh boards with one sheet and answers 0; any numbers may be given before. Refusal: 20.
+#[unsafe(no_mangle)]
+pub extern "C" fn dizbaral_bench_start(
+    bench: &mut [u32; 113],
+    kept: &mut [u8; MAX_BYTES],
+    sheet: &[u8],
+) -> u64
+    ensures { StartAllCall bench.old kept.old sheet.now result bench.new kept.new }
+{
+    export::bench::dizbaral_bench_start(bench, kept, sheet)
+}
+
+// One call for a board, as `dizbaral_run` for a runner. Refusals: 28, then those of `dizbaral_run`; a bad mark is malformed.
+#[unsafe(no_mangle)]
+pub extern "C" fn dizbaral_bench_run(
+    bench: &mut [u32; 113],
+    kept: &[u8; MAX_BYTES],
+    board: u8,
+    sheet: &[u8],
+    ready: bool,
+) -> u64
+    ensures value { result ≡ bench_number bench.old kept.now board sheet.now ready }
+    ensures bench_after { bench.new ≡ bench_leaves bench.old kept.now board sheet.now ready }
+{
+    export::bench::dizbaral_bench_run(bench, kept, board, sheet, ready)
+}
