@@ -1,5 +1,7 @@
 // A sheet in words: a line for each setting, what the last release leaves out, and the plan's numbers.
 
+#![tactic(auto)]
+
 ghost use Rattle.std.specs.Prelude.{◌≤◌, ◌<◌};
 ghost use Rattle.base.specs.Placed.{Placed};
 ghost use Rattle.replies.specs.Reply.{spaced};
