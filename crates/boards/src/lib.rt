@@ -49,6 +49,7 @@ pub struct AllOpened {
 }
 
 // One call for a board by value; refuses with 28 a number over 7, then as the runner.
+#[tactic(auto, using(std::proofs::lemmas::Bool::Decides::nat_tests), unfolding(crate::specs::Bench::bench_of))]
 pub fn advance(b: Bench, board: u8, sheet: &[u8], ready: bool) -> Benched
     ensures { benched_is result ≡ bench_of b board sheet.now ready }
 {

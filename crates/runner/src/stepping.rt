@@ -20,6 +20,7 @@ fn is_wait(of: u8) -> bool
 }
 
 // The total plus one, saturating at 32 bits.
+#[tactic(auto, using(std::proofs::lemmas::Bool::Decides::nat_tests), unfolding(crate::specs::Run::one_more))]
 fn one_more(total: u32) -> u32
     ensures { result ≡ one_more total }
 {
@@ -37,6 +38,7 @@ pub(crate) fn refused(unmoved: State, number: u8) -> Turned
 }
 
 // A wait that is not ready: waiting, or at the last lock poll refusal 22, which stops the runner.
+#[tactic(auto, using(std::proofs::lemmas::Bool::Decides::nat_tests), unfolding(crate::specs::Run::unready))]
 fn wait_unready(s: State, wait: u8) -> Turned
     requires { s.lock_polls < 1000000 }
     ensures { turned_is result ≡ unready s wait }
@@ -107,6 +109,7 @@ pub(crate) fn onward(s: State, sheet: &[u8], ready: bool) -> Turned
 }
 
 // The frequencies after an answer: a store that is handed out sets the frequency of its clock.
+#[tactic(auto, using(std::proofs::lemmas::Bool::Decides::nat_tests), unfolding(crate::specs::Run::stored_by))]
 pub(crate) fn freqs_after(reply: Reply, freqs: [u32; 10]) -> [u32; 10]
     requires { HandsFormed (reply_is reply) }
     ensures { result ≡ freqs_after (reply_is reply) freqs }

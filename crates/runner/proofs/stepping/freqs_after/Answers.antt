@@ -1,14 +1,10 @@
 -- `runner::stepping::freqs_after` meets its contract: only a store that is handed out changes a frequency, and a
 -- well-formed store names one of the ten clocks and fits 32 bits (`store-fits`).
-use borrow.{Author.Tests.eq-eqb, Author.Tests.ne_eqb}
+use borrow.{Author.Tests.eq-eqb}
 use native.Mathlib.Omega.{arith}
 use Rattle.runner.specs.Run.{stored_by}
 use Rattle.runner.proofs.{Steps.store-fits}
 use Rattle.runner.proofs.stepping.freqs_after.Goals as goal
-
-pub returns-then-step-ne-STORE : goal.returns-then-step-ne-STORE
-unfolding stored_by
-returns-then-step-ne-STORE c = rw (c.in-Handed.is, ne_eqb _ _ c.if-step-ne-STORE.true)
 
 pub overflow_cast-next : goal.overflow_cast-next
 unfolding stored_by
