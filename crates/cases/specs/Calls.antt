@@ -1,6 +1,6 @@
 -- The answers of the cases that lend a buffer, a runner, a bench or slots, from the row n of their numbers (docs/CASES.md). The
 -- words of a case are named above its definition.
-use mathlib.Core.{Bool.Bool, List.List, List.[], List.◌∷◌, List.◌++◌, Option.Option}
+use mathlib.Core.{Bool.Bool, List.List, List.[], List.◌++◌, Option.Option}
 use Rattle.std.specs.Prelude.{ℕ, ◌-◌}
 use lib.{Dec.eqb, Dec.ltb, ListN.length, ListN.take, ListN.drop, ListN.replicate, Seq.sets}
 use Rattle.base.specs.{Answer.Answer, Answer.value, Answer.refusal, Choice.pick}

@@ -2,7 +2,7 @@
 use mathlib.Core.{Bool.true, Bool.false, List.List, List.[], List.◌∷◌, List.◌++◌, Option.Option, Option.none, Option.some}
 use Prim.Native.{Nat.ℕ, Nat.zero, Nat.suc, Nat.◌-◌, String.String}
 use lib.{Dec.ltb, ListN.length, ListN.take, ListN.drop, ListN.replicate}
-use Rattle.base.specs.{Answer.value, Choice.pick, Choice.bit}
+use Rattle.base.specs.{Choice.pick, Choice.bit}
 use Rattle.text.specs.{Ascii.ascii, Words.up_to}
 use Rattle.pll.specs.{Setting.valid_of, Setting.output_of, Search.search_of, Usb.usb_of}
 use Rattle.speed_book.specs.Book.{crystal}
@@ -15,7 +15,7 @@ use Rattle.fields.specs.Row.{nth, byte_at, half_at, pll_at, ten_at}
 use Rattle.numbers.specs.Answers.{answer_number, itself, malformed, chip_numbered, on_chip, voltage_number, divider_numbered}
 use Rattle.numbers.specs.Answers.{gpout_number}
 use Rattle.words.specs.Words.{State, state_of, given}
-use Rattle.cases.specs.Table.{lines_of, named, letters_of}
+use Rattle.cases.specs.Table.{named, letters_of}
 use Rattle.cases.specs.Say.{one_text, found_text, margin_text, level_text, plan_text, planned_text}
 use Rattle.cases.specs.Calls.{chip_at, list_text, manual_text, sheet_text, start_text, run_text, bench_start_text, bench_run_text, change_text}
 

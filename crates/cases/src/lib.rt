@@ -1,4 +1,6 @@
 // Cases as text: a line is a question, and its answer is a text (docs/CASES.md).
+#![tactic(auto)]
+
 mod calls;
 mod say;
 mod table;
