@@ -30,7 +30,7 @@ def proved(chip):
     """Addresses and values of the theorem; None where the register is as it was."""
     (path,) = HERE.parents[1].glob("crates/*/proofs/Presets.antt")
     text = re.sub("--.*", "", path.read_text())
-    theorem = re.search(f"pub crystal-{chip[2:]} .*?presetLeaves \\w+ before(.*?)≡(.*?)unfolding", text, re.S)
+    theorem = re.search(f"pub crystal-{chip[2:]} .*?preset_leaves \\w+ before(.*?)≡(.*?)unfolding", text, re.S)
     addresses = [int(address, 16) for address in re.findall("0x[0-9A-F]+", theorem[1])]
     values = [value.strip() for value in theorem[2].split("∷")][:-1]
     assert len(addresses) == len(values) >= 30, "the theorem is not read right"

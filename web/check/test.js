@@ -23,8 +23,8 @@ function known(native) {
   const asked = text.split("\n> ").slice(1).map((part) => { const at = part.indexOf("\n");
     return [part.slice(0, at).replace("SHEET", sheet), part.slice(at + 1).trimEnd() + "\n"]; });
   same(native(asked.map(([line]) => line)), asked.map(([, answer]) => answer), "web/known.txt is what the library says");
-  const shell = path.join(root, "target/bin/dizbaral");
-  if (!fs.existsSync(shell)) return console.log("target/bin/dizbaral is not there: it is not asked");
+  const shell = path.join(root, "crates/dizbaral/out/dizbaral");
+  if (!fs.existsSync(shell)) return console.log("crates/dizbaral/out/dizbaral is not there: it is not asked");
   for (const [line, answer] of asked) same(printed(shell, line), answer, "dizbaral " + line.slice(0, 30));
 }
 
