@@ -1,8 +1,8 @@
 -- A sheet is read back to a plan that gives it, and no setting differs exactly where the two plans have the same settings and
 -- so the same sheet. So the verdict is `as ordered` for the ordered plan's bytes only.
-use mathlib.Core.{Path.◌≡◌, Path.refl, Path.sym, Path.ap, Path.◌∙◌, Path.subst, Logic.◌↔◌}
+use mathlib.Core.{Path.◌≡◌, Path.refl, Path.sym, Path.ap, Path.◌∙◌, Path.subst}
 use mathlib.Core.{Bool.Bool, Bool.true, Bool.false, Bool.not, List.List, List.[]}
-use Prim.Native.Nat.{ℕ, ◌<◌}
+use Prim.Native.Nat.{ℕ}
 use native.Mathlib.Omega.{arith}
 use borrow.Author.Tests.{eqb-true, eq-eqb, ne_eqb}
 use lib.{Dec.eqb, ListN.take, ListN.drop, ListN.get_or, Seq.take_at}

@@ -1,5 +1,7 @@
 // Delivered compared with ordered: whether a sheet is the ordered plan's, and where not, in which settings the two differ.
 
+#![tactic(auto)]
+
 ghost use Rattle.std.specs.Prelude.{◌≡◌, ◌<◌};
 ghost use Rattle.base.specs.Placed.{Placed};
 ghost use Rattle.config.specs.Presets.{planned_is};
