@@ -1,11 +1,10 @@
 -- The buffer of 4096 bytes holds an answer of at most that length whole.
 use mathlib.Core.{Path.◌≡◌, Path.refl, Path.ap, Path.◌∙◌, List.List}
-use Prim.Native.Nat.{ℕ, ◌≤◌, min}
-use native.Mathlib.{Nat.zero-add, Omega.arith}
+use Prim.Native.Nat.{ℕ, ◌≤◌}
+use native.Mathlib.{Omega.arith}
 use lib.{ListN.length, ListN.take, ListN.drop, ListN.replicate, ListN.length-replicate, ListN.length-take}
 use lib.Seq.{sets, length-sets, take_at}
 use Rattle.base.specs.Placed.{past, Placed}
-use Rattle.text.specs.Output.{Whole}
 use Rattle.text.proofs.Outputs.{whole}
 use Rattle.commands.specs.Case.{held}
 

@@ -1,4 +1,6 @@
 // The text interface: a line in, a text out. Each line of the text ends in a newline.
+#![tactic(auto)]
+
 mod case;
 mod made;
 mod texts;

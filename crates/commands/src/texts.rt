@@ -39,7 +39,7 @@ pub(crate) fn put_help(out: &mut [u8]) -> usize
 // Puts the answer to words that a command does not take, with those that it takes: 1 explain, 2 steps, 3 check, 4 make, any other
 // a case.
 pub fn put_usage(out: &mut [u8], command: u8) -> usize
-    ensures { Placed out.old 0 (usageText command) result out.new }
+    ensures { Placed out.old 0 (usage_text command) result out.new }
 {
     match command {
         1 => text::put_bytes(

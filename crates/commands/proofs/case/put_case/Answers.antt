@@ -1,0 +1,16 @@
+-- `commands::case::put_case` meets its contract: the buffer holds what it has room for of the answer.
+use Rattle.commands.specs.Case.{case_of}
+use Rattle.commands.proofs.Said.{kept}
+use Rattle.commands.proofs.case.put_case.Goals as goal
+
+pub slice_bounds-said-end : goal.slice_bounds-said-end
+unfolding case_of
+slice_bounds-said-end c = (kept c.answer-n.ensures.placed).inside
+
+pub slice_bounds-put_said-end : goal.slice_bounds-put_said-end
+unfolding case_of
+slice_bounds-put_said-end c = (kept c.answer-n.ensures.placed).whole
+
+pub returns : goal.returns
+unfolding case_of
+returns c = rw (← (kept c.answer-n.ensures.placed).bytes) c.put_said.ensures
