@@ -1,5 +1,7 @@
 // The product for a page in a browser (docs/PAGE.md): it takes a line of text and answers a text, the same that the program
 // `dizbaral` prints.
+#![tactic(auto)]
+
 ghost use Rattle.base.specs.Placed.{Placed};
 ghost use Rattle.commands.specs.Commands.{answer_of};
 
