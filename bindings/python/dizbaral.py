@@ -1,6 +1,6 @@
 """Clock sheets for the RP2040 and the RP235x, from the proved library by ctypes.
 
-The library is a shared one, made from the archive of `rt staticlib export` (bindings/README.md). It is looked for at the path
+The library is a shared one, made from the archive of `bindings/archive export` (bindings/README.md). It is looked for at the path
 that the variable DIZBARAL_LIBRARY names, else at target/libdizbaral.so of this repository.
 
 A refusal is the exception Refused with its number in docs/FORMAT.md. A number that does not fit its parameter is an
