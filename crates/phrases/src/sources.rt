@@ -89,7 +89,7 @@ pub fn put_pll(out: &mut [u8], at: usize, name: &[u8], hz: u32, pll: OptionPll) 
     }
 }
 
-// The core voltage of a code, in m_v.
+// The core voltage of a code, in mV.
 fn millivolts(chip: Chip, code: u8) -> u64
     ensures { result ≡ millivolts chip code }
 {
@@ -104,7 +104,7 @@ fn millivolts(chip: Chip, code: u8) -> u64
     }
 }
 
-// Puts the line of the core voltage: m_v and code.
+// Puts the line of the core voltage: mV and code.
 pub fn put_voltage(out: &mut [u8], at: usize, chip: Chip, code: u8) -> usize
     ensures { Placed out.old at (voltage_line chip code) result out.new }
 {
