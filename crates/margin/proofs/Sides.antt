@@ -1,15 +1,16 @@
--- The lowest and the highest target with c give the two sides.
-use mathlib.Core.{Path.◌≡◌, Path.sym, Path.ap, Path.subst, Path.◌∙◌, Bool.true, Bool.false}
+-- A comparison of two settings decides whether the search gives c, and the lowest and the highest target with c give
+-- the two sides.
+use mathlib.Core.{Path.◌≡◌, Path.sym, Path.ap, Path.subst, Path.◌∙◌, Bool.Bool, Bool.true, Bool.false}
 use mathlib.Core.Option.{Option, none, some}
 use Prim.Native.Nat.{ℕ, ◌≤◌, ◌<◌}
 use native.Mathlib.Omega.{arith}
 use Rattle.base.specs.Answer.{Answer, value, refusal}
-use Rattle.pll.specs.{Search.search_of, Law.RightAnswer}
+use Rattle.pll.specs.{Search.search_of, Law.RightAnswer, Setting.same_setting}
 use Rattle.pll.specs.declared.PllConfig.{PllConfig}
-use Rattle.pll.proofs.{Right.search-right}
+use Rattle.pll.proofs.{Right.search-right, Same.same-path, Same.same_self}
 use Rattle.near.proofs.Near.{search-between}
 use Rattle.margin.specs.Law.{RightLower, RightHigher}
-use Rattle.margin.specs.Walk.{Has, Lowest, Highest, JustBelow, JustAbove}
+use Rattle.margin.specs.Walk.{Has, Tells, Lowest, Highest, JustBelow, JustAbove}
 
 pub no : {A : Type 0} → false ≡ true → A
 no e = let z : ◌≡◌ {A = ℕ} 0 1 = cc in absurd (omega arith)
@@ -19,6 +20,18 @@ value_same c d e = cc
 
 pub refused-not : (n : ℕ) (c : PllConfig) → ◌≡◌ {A = Answer PllConfig} (refusal n) (value c) → ⊥
 refused-not n c e = let z : ◌≡◌ {A = ℕ} 0 1 = cc in omega arith
+
+-- the comparison of c with the search's setting decides
+pub found-tells : (input t : ℕ) (d c : PllConfig) (r : Bool) → search_of input t ≡ value d → r ≡ same_setting d c
+    → Tells input t c r
+found-tells input t d c r e s =
+    record {
+      yes = λ y. e ∙ ap value (same-path d c (sym s ∙ y));
+      no = λ h. s ∙ same_self d c (value_same d c (sym e ∙ h));
+    }
+
+pub refused-tells : (input t n : ℕ) (c : PllConfig) → search_of input t ≡ refusal n → Tells input t c false
+refused-tells input t n c e = record { yes = λ y. no y; no = λ h. absurd (refused-not n c (sym e ∙ h)) }
 
 -- at the end of the loop low and high are equal
 pub lowest-end : (input target low high : ℕ) (c : PllConfig) → low ≡ high → high ≤ target → Has input c target

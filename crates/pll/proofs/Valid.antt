@@ -1,11 +1,13 @@
 -- The ranges of a valid setting as inequalities, and the bounds of its output.
-use mathlib.Core.{Path.◌≡◌, Bool.true}
+use mathlib.Core.{Path.◌≡◌, Bool.true, Bool.◌&&◌}
 use Prim.Native.Nat.{ℕ, ◌≤◌}
 use native.Mathlib.{Nat.div-le_self, Omega.arith}
+use lib.Dec.{leb}
 use borrow.Author.Tests.{leb-true, le-leb}
+use Rattle.base.specs.Choice.{in_range}
 use Rattle.base.proofs.Bools.{both_true, in-range}
 use Rattle.pll.specs.Ranges.{reference_min, reference_max, feedback_min, feedback_max, vco_min, vco_max}
-use Rattle.pll.specs.Setting.{reference_of, vco_of, posts_of, output_hz, valid_of}
+use Rattle.pll.specs.Setting.{reference_of, vco_of, posts_of, output_hz, valid_of, output_fits}
 use Rattle.pll.specs.declared.PllConfig.{PllConfig}
 
 pub record Valid (c : PllConfig) (input : ℕ) : Type 0 where
@@ -55,3 +57,8 @@ valid-is c input v =
 
 pub output-most : (c : PllConfig) (input : ℕ) → valid_of c input ≡ true → output_hz c input ≤ vco_max
 output-most c input e = omega (arith, (valid c input e).vco.1, div-le_self (vco_of c input) (posts_of c))
+
+pub output-fits : (c : PllConfig) (input : ℕ) → output_fits c input ≡ true → output_hz c input ≤ 4294967295
+output-fits c input e =
+    let t = both_true (leb 1 c.refdiv && in_range 1 255 (posts_of c)) (leb (vco_of c input) 4294967295) e in
+    omega (arith, leb-true (vco_of c input) 4294967295 t.1, div-le_self (vco_of c input) (posts_of c))
