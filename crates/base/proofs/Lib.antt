@@ -1,3 +1,4 @@
+pub mod Writing
 pub mod Bools
 pub mod Placing
 pub mod Parts

@@ -1,17 +1,18 @@
--- The answers of a call: a value or a refusal. For each enum of the code a definition maps its variants to one of these.
-use Rattle.std.specs.Prelude.{ℕ}
-use Rattle.base.specs.declared.{Number.Number, Length.Length}
+-- The answers of a call: a value, or a refusal by its number in docs/FORMAT.md, Refusals.
+use Rattle.std.specs.Prelude.{ℕ, Option, Some, None, Result, Ok, Err}
+use Rattle.base.specs.declared.refusal.Refusal.{Refusal}
+use Rattle.base.specs.Refusals.{number_of}
 
--- a value, or a refusal by its number in docs/FORMAT.md, Refusals
 pub data Answer (A : Type 0) : Type 0 where
   value : A → Answer A
   refusal : ℕ → Answer A
 
--- the answers that the code's `Number` and `Length` mean
-abbrev pub number_is : Number → Answer ℕ
-number_is (Number.Value n) = value n
-number_is (Number.Refused n) = refusal n
+-- the answer that a result of the code means
+abbrev pub answer_of : {A : Type 0} → Result A Refusal → Answer A
+answer_of (Ok x) = value x
+answer_of (Err why) = refusal (number_of why)
 
-abbrev pub length_is : Length → Answer ℕ
-length_is (Length.Bytes n) = value n
-length_is (Length.Refused n) = refusal n
+-- the same where there may be no result
+abbrev pub answer_in : {A : Type 0} → Option (Result A Refusal) → Option (Answer A)
+answer_in (Some r) = Some (answer_of r)
+answer_in None = None

@@ -1,3 +1,5 @@
 pub mod Choice
+pub mod Refusals
 pub mod Answer
 pub mod Placed
+pub mod Writing

@@ -8,7 +8,8 @@ use lib.{Dec.eqb, Dec.ltb, ListN.length, ListN.length-set, ListN.get_or-replicat
 use Rattle.base.specs.Answer.{Answer}
 use Rattle.runner.specs.declared.{Stepper.Stepper, Runner.Runner}
 use Rattle.boards.specs.declared.Bench.{Bench}
-use Rattle.runner.specs.Run.{Progress, Outcome, fresh_stepper, fresh, stepper_of, advance_of, Begun, started_with, start_of}
+use Rattle.runner.specs.declared.Reply.{Reply}
+use Rattle.runner.specs.Run.{Outcome, fresh_stepper, fresh, stepper_of, advance_of, Begun, started_with, start_of}
 use Rattle.step.specs.Size.{bad_size}
 use Rattle.boards.specs.Bench.{fresh_bench, no_board, board_at, board_hz, eight_of, bench_of, start_all_of}
 use Rattle.boards.specs.History.{BenchEvent, start, poll, Own, own_of, bench_after, single_after, single_answers, Alike}
@@ -106,7 +107,7 @@ module _ (n : ℕ) (few : n ≤ 7) where
           let rest = ih (bench_of b n sheet ready).next (advance_of r sheet ready).next (own-next b r k sheet ready) in
           record {
             answered = rw (e, m-n, own-answer b r k sheet ready)
-                (ap (λ (l : List (Answer Progress)). (advance_of r sheet ready).answer ∷ l) rest.answered);
+                (ap (λ (l : List (Answer Reply)). (advance_of r sheet ready).answer ∷ l) rest.answered);
             left = rw (e, m-n) rest.left;
           }
       go false e ih =

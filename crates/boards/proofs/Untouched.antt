@@ -5,7 +5,8 @@ use borrow.Author.Tests.{ltb-true, ltb-false}
 use lib.{Dec.ltb, Seq.set-get_or}
 use Rattle.base.specs.Answer.{Answer, value, refusal}
 use Rattle.runner.specs.declared.Stepper.{Stepper}
-use Rattle.runner.specs.Run.{Progress, Outcome, outcome, stepper_of}
+use Rattle.runner.specs.declared.Reply.{Reply}
+use Rattle.runner.specs.Run.{Outcome, outcome, stepper_of}
 use Rattle.runner.specs.Calls.{Untouched, stepper_timed_out}
 use Rattle.runner.proofs.Untouched.{stepper-keeps}
 use Rattle.boards.specs.declared.Bench.{Bench}
@@ -16,7 +17,7 @@ with-others : (b : Bench) (n : ℕ) (x : Outcome Stepper) → Untouched (board_a
     → Untouched b (board_timed_out b n) (in_bench b n x)
 with-others b n x = go x.answer x.next
   where
-    go : (a : Answer Progress) (s : Stepper) → Untouched (board_at b n) (stepper_timed_out (board_at b n)) (outcome a s)
+    go : (a : Answer Reply) (s : Stepper) → Untouched (board_at b n) (stepper_timed_out (board_at b n)) (outcome a s)
         → Untouched b (board_timed_out b n) (in_bench b n (outcome a s))
     go (value p) s k = tt
     go (refusal m) s (inl e) = inl (rw (e, set-get_or b.boards n no_board))

@@ -5,16 +5,10 @@ use mathlib.Core.{Bool.Bool, Bool.false, List.List, List.[]}
 use lib.{Dec.ltb, ListN.length, ListN.get_or, ListN.set, ListN.replicate}
 use Rattle.base.specs.{Answer.Answer, Answer.value, Answer.refusal, Choice.pick}
 use Rattle.runner.specs.declared.{Stepper.Stepper, Runner.Runner}
-use Rattle.boards.specs.declared.{Bench.Bench, Benched.Benched, AllOpened.AllOpened}
-use Rattle.runner.specs.Run.{Outcome, outcome, reply_is, fresh, stepper_of, Begun, begun, started, opening_is, started_with}
+use Rattle.boards.specs.declared.Bench.{Bench}
+use Rattle.runner.specs.Run.{Outcome, outcome, fresh, stepper_of, Begun, started_with}
 use Rattle.runner.specs.Calls.{stepper_timed_out}
 use Rattle.step.specs.Size.{bad_size}
-
-abbrev pub benched_is : Benched → Outcome Bench
-benched_is s = outcome (reply_is s.reply) s.bench
-
-abbrev pub all_opened_is : AllOpened → Begun Bench
-all_opened_is o = begun (opening_is o.reply) o.bench
 
 -- eight copies of a runner's stepper, and its kept sheet
 abbrev pub eight_of : Runner → Bench
@@ -53,4 +47,4 @@ bench_of b n sheet ready =
 -- a start of all: refusal 20 for a length that no sheet has, which changes nothing; else eight fresh boards
 unfoldable pub start_all_of : Bench → List ℕ → Begun Bench
 start_all_of b sheet =
-    pick (bad_size (length sheet)) (begun (refusal 20) b) (begun (value started) (eight_of (started_with sheet)))
+    pick (bad_size (length sheet)) (outcome (refusal 20) b) (outcome (value tt) (eight_of (started_with sheet)))

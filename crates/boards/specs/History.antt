@@ -4,7 +4,8 @@ use mathlib.Core.{Bool.Bool, List.List, List.[], List.◌∷◌, Path.◌≡◌}
 use lib.{Dec.eqb, ListN.length}
 use Rattle.base.specs.{Answer.Answer, Choice.pick}
 use Rattle.runner.specs.declared.Runner.{Runner}
-use Rattle.runner.specs.Run.{Progress, advance_of, start_of}
+use Rattle.runner.specs.declared.Reply.{Reply}
+use Rattle.runner.specs.Run.{advance_of, start_of}
 use Rattle.boards.specs.declared.Bench.{Bench}
 use Rattle.boards.specs.Bench.{board_at, board_hz, bench_of, start_all_of}
 
@@ -31,7 +32,7 @@ bench_after b (start sheet ∷ es) = bench_after (start_all_of b sheet).next es
 bench_after b (poll m sheet ready ∷ es) = bench_after (bench_of b m sheet ready).next es
 
 -- the answers of the calls for board n
-abbrev pub answers_for : ℕ → Bench → List BenchEvent → List (Answer Progress)
+abbrev pub answers_for : ℕ → Bench → List BenchEvent → List (Answer Reply)
 answers_for n b [] = []
 answers_for n b (start sheet ∷ es) = answers_for n (start_all_of b sheet).next es
 answers_for n b (poll m sheet ready ∷ es) =
@@ -44,7 +45,7 @@ single_after r [] = r
 single_after r (start sheet ∷ es) = single_after (start_of r sheet).next es
 single_after r (poll sheet ready ∷ es) = single_after (advance_of r sheet ready).next es
 
-abbrev pub single_answers : Runner → List Own → List (Answer Progress)
+abbrev pub single_answers : Runner → List Own → List (Answer Reply)
 single_answers r [] = []
 single_answers r (start sheet ∷ es) = single_answers (start_of r sheet).next es
 single_answers r (poll sheet ready ∷ es) =

@@ -5,10 +5,10 @@
 use std::io;
 
 fn main(rt: HostRuntime) -> io::Result<()> {
-    let book = speed_book::open();
+    let book = speed_book::book();
     for k in 0..speed_book::ENTRIES {
         let mut line = [0u8; 32];
-        let size = speed_book::page::put_line(&mut line, &book, k);
+        let size = speed_book::page::put_line(&mut line, book, k);
         rt.write_all(&line[..size])?;
     }
     Ok(())

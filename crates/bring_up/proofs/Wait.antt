@@ -11,7 +11,8 @@ use Rattle.step.specs.declared.Step.{Step}
 use Rattle.step.specs.{Access.read_at, Sheet.max_steps, Sheet.encoded, Sheet.AllFormed}
 use Rattle.step.proofs.Sheets.{length-encoded, read-encoded}
 use Rattle.runner.specs.declared.Runner.{Runner}
-use Rattle.runner.specs.Run.{passed, waiting, outcome, is_wait, one_more, take_step, stored_by}
+use Rattle.runner.specs.declared.Reply.TheVariants.{Passed, Waiting}
+use Rattle.runner.specs.Run.{outcome, is_wait, one_more, take_step, stored_by}
 use Rattle.runner.specs.Calls.{stores_of}
 use Rattle.runner.proofs.Going.{going, standing, wait-stores, hands, passes, polls-on, done_at, step-at}
 use Rattle.bring_up.specs.Wait.{runner_after, call_answer, heard, HearsAtMost, waits_in, OnTheWay, UpAfter, UpWithin}
@@ -86,7 +87,7 @@ module _ (sheet : List ℕ) (n : ℕ) (few : n ≤ max_steps) (size : length she
     passing : (d i c polls total : ℕ) → c + d ≡ k → polls ≤ c → At i p c polls total freqs → ready i ≡ true
         → Goes i (i + d + suc rest) ends
     passing d i c polls total e h a u =
-        let taken : take_step (going p polls total) step (ready i) ≡ outcome (value passed) (going (p + 1) 0 total) =
+        let taken : take_step (going p polls total) step (ready i) ≡ outcome (value Passed) (going (p + 1) 0 total) =
         rw u (passes (going p polls total) step w) in
         let call = step-at sheet n few size step p polls total freqs (ready i) _ below (omega arith) read taken in
         let g = onward (suc i) total (moved i p c polls total total freqs freqs a (next sheet ready i _ _ a.is call)) in
@@ -118,7 +119,7 @@ module _ (sheet : List ℕ) (n : ℕ) (few : n ≤ max_steps) (size : length she
         split (both (ready i)) (passing (suc d) i c polls total e h a)
         (λ u. let poll = polls-on p polls total step w (omega arith) in
         let taken : take_step (going p polls total) step (ready i)
-        ≡ outcome (value waiting) (going p poll.now (one_more total)) = rw u poll.is in
+        ≡ outcome (value Waiting) (going p poll.now (one_more total)) = rw u poll.is in
         let call = step-at sheet n few size step p polls total freqs (ready i) _ below (omega arith) read taken in
         let place = position i p c polls total freqs a in
         let way : OnTheWay (call_answer sheet ready i) = rw (answered sheet ready i _ _ a.is call) tt in

@@ -1,9 +1,10 @@
 -- The bound on the calls that a sheet takes until done (docs/FORMAT.md, How long a run takes).
+use Rattle.std.specs.Prelude.{Result}
+use Rattle.base.specs.declared.refusal.Refusal.{Refusal}
 use Rattle.std.specs.Prelude.{ℕ, ◌+◌, ◌*◌, ◌/◌, ◌≤◌, ◌<◌}
 use mathlib.Core.{Path.◌≡◌, Bool.Bool, List.List}
 use lib.{Dec.ltb, ListN.length, ListN.take}
-use Rattle.base.specs.{Choice.pick, Answer.value, Answer.length_is}
-use Rattle.base.specs.declared.Length.{Length}
+use Rattle.base.specs.{Choice.pick, Answer.value, Answer.answer_of}
 use Rattle.step.specs.Sheet.{max_steps}
 use Rattle.chip.specs.declared.Chip.{Chip}
 use Rattle.config.specs.declared.ClockConfig.{ClockConfig}
@@ -11,7 +12,7 @@ use Rattle.settings.specs.{Settings.settings_of, Frequencies.ten_of}
 use Rattle.sheet_steps.specs.Steps.{most_steps}
 use Rattle.sheet.specs.Writer.{sheet_bytes, InitCall}
 use Rattle.runner.specs.declared.Runner.{Runner}
-use Rattle.runner.specs.Run.{begun, started, started_with, start_of}
+use Rattle.runner.specs.Run.{started_with, start_of, outcome}
 use Rattle.bring_up.specs.{Up.plan_steps, Wait.HearsAtMost, Wait.UpAfter, Wait.UpWithin}
 
 -- at most 10 steps of a sheet are waits
@@ -42,15 +43,15 @@ ComesUpReady p reading = UpAtOnce (length (plan_steps p reading)) (sheet_bytes p
 
 -- n bytes written for a plan, eight for each step: any runner starts with them and reaches done
 pub record WrittenUp (p : ClockConfig) (reading n : ℕ) (sheet : List ℕ) : Type 0 where
-  pub starts : (r : Runner) → start_of r sheet ≡ begun (value started) (started_with sheet)
+  pub starts : (r : Runner) → start_of r sheet ≡ outcome (value tt) (started_with sheet)
   pub in_time : UpInTime (settings_of p reading).board.chip sheet (ten_of (settings_of p reading))
   pub at_once : UpAtOnce (n / 8) sheet (ten_of (settings_of p reading))
 
 -- for every plan, reading and buffer: a runner reaches done with the bytes up to the length that `init` answered
 abbrev pub InitComesUp : Type 0
 InitComesUp =
-    (p : ClockConfig) (reading : ℕ) (before after : List ℕ) (r : Length) (n : ℕ)
-    → InitCall p reading before r after → length_is r ≡ value n → WrittenUp p reading n (take n after)
+    (p : ClockConfig) (reading : ℕ) (before after : List ℕ) (r : (Result ℕ Refusal)) (n : ℕ)
+    → InitCall p reading before r after → answer_of r ≡ value n → WrittenUp p reading n (take n after)
 
 -- `longest_wait`, for both chips: from 1000000 unready polls on a lock can time out, and the answer is the 32-bit maximum
 unfoldable pub longest_wait : ℕ → ℕ

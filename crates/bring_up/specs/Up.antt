@@ -8,7 +8,8 @@ use Rattle.settings.specs.{Settings.settings_of, Frequencies.ten_of}
 use Rattle.sheet_steps.specs.Steps.{steps_of}
 use Rattle.sheet.specs.Writer.{sheet_bytes}
 use Rattle.runner.specs.declared.Runner.{Runner}
-use Rattle.runner.specs.Run.{done, begun, started, started_with, start_of}
+use Rattle.runner.specs.declared.Reply.TheVariants.{Done}
+use Rattle.runner.specs.Run.{started_with, start_of, outcome}
 use Rattle.runner.specs.Calls.{answers, after, ready_answer, ready_at}
 
 -- the steps of a plan's sheet
@@ -18,13 +19,13 @@ plan_steps p reading = steps_of reading (settings_of p reading)
 -- any runner starts with the sheet
 abbrev pub Starts : ClockConfig → ℕ → Type 0
 Starts p reading =
-    (r : Runner) → start_of r (sheet_bytes p reading) ≡ begun (value started) (started_with (sheet_bytes p reading))
+    (r : Runner) → start_of r (sheet_bytes p reading) ≡ outcome (value tt) (started_with (sheet_bytes p reading))
 
 -- the answers are those of the steps in order, then done
 abbrev pub AnswersAll : ClockConfig → ℕ → Type 0
 AnswersAll p reading =
     answers (started_with (sheet_bytes p reading)) (sheet_bytes p reading) (replicate (length (plan_steps p reading) + 1) true)
-    ≡ map ready_answer (plan_steps p reading) ++ (value done ∷ [])
+    ≡ map ready_answer (plan_steps p reading) ++ (value Done ∷ [])
 
 -- after one call for each step the runner holds the stored values, with 0 Hz for the RTC of an RP235x
 abbrev pub LeavesStored : ClockConfig → ℕ → Type 0

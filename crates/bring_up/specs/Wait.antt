@@ -6,14 +6,16 @@ use Rattle.base.specs.{Answer.Answer, Answer.value, Answer.refusal, Choice.bit}
 use Rattle.step.specs.declared.Step.{Step}
 use Rattle.step.specs.Access.{read_at}
 use Rattle.runner.specs.declared.Runner.{Runner}
-use Rattle.runner.specs.Run.{Progress, done, handed, passed, waiting, is_wait, started_with, advance_of}
+use Rattle.runner.specs.declared.Reply.{Reply}
+use Rattle.runner.specs.declared.Reply.TheVariants.{Done, Handed, Passed, Waiting}
+use Rattle.runner.specs.Run.{is_wait, started_with, advance_of}
 
 -- the runner after i calls; then the answer of call i, which has the flag ready i
 unfoldable pub runner_after : List ℕ → (ℕ → Bool) → ℕ → Runner
 runner_after sheet ready zero = started_with sheet
 runner_after sheet ready (suc i) = (advance_of (runner_after sheet ready i) sheet (ready i)).next
 
-abbrev pub call_answer : List ℕ → (ℕ → Bool) → ℕ → Answer Progress
+abbrev pub call_answer : List ℕ → (ℕ → Bool) → ℕ → Answer Reply
 call_answer sheet ready i = (advance_of (runner_after sheet ready i) sheet (ready i)).answer
 
 abbrev pub holds_wait : Answer Step → Bool
@@ -34,17 +36,17 @@ abbrev pub HearsAtMost : ℕ → List ℕ → (ℕ → Bool) → Type 0
 HearsAtMost k sheet ready = (p i : ℕ) → heard sheet ready p i ≤ k
 
 -- neither done nor a refusal
-abbrev pub OnTheWay : Answer Progress → Type 0
-OnTheWay (value done) = ⊥
-OnTheWay (value (handed step)) = Unit {0}
-OnTheWay (value passed) = Unit {0}
-OnTheWay (value waiting) = Unit {0}
+abbrev pub OnTheWay : Answer Reply → Type 0
+OnTheWay (value Done) = ⊥
+OnTheWay (value (Handed step)) = Unit {0}
+OnTheWay (value Passed) = Unit {0}
+OnTheWay (value Waiting) = Unit {0}
 OnTheWay (refusal n) = ⊥
 
 -- this many calls precede the first that answers done; from then on nothing changes, and these are the frequencies
 pub record UpAfter (calls : ℕ) (sheet : List ℕ) (ready : ℕ → Bool) (freqs : List ℕ) : Type 0 where
   pub before : (i : ℕ) → i < calls → OnTheWay (call_answer sheet ready i)
-  pub ends : (i : ℕ) → calls ≤ i → call_answer sheet ready i ≡ value done
+  pub ends : (i : ℕ) → calls ≤ i → call_answer sheet ready i ≡ value Done
   pub stays : (i : ℕ) → calls ≤ i → runner_after sheet ready i ≡ runner_after sheet ready calls
   pub holds : (runner_after sheet ready calls).stepper.freqs ≡ freqs
 

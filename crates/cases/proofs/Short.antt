@@ -38,10 +38,10 @@ unfolding hex_of
 hex-short [] = omega arith
 hex-short (b ∷ bs) = let rest = digits-length (b ∷ bs) in omega arith
 
-pub call-short : (r : ℕ) (row bytes : List ℕ) → r < 18446744073709551616 → ((i : ℕ) → get_or row i 0 < 4294967296)
+pub call_short : (r : ℕ) (row bytes : List ℕ) → r < 18446744073709551616 → ((i : ℕ) → get_or row i 0 < 4294967296)
     → length row ≤ 128 → length bytes ≤ 1024 → length (call_text r row bytes) ≤ 3477
 unfolding call_text
-call-short r row bytes h all few small = go (eqb r malformed)
+call_short r row bytes h all few small = go (eqb r malformed)
   where
     go : (t : Bool) → length (pick t bad_case (number_text r ++ (spaced row ++ hex_behind bytes))) ≤ 3477
     go true = omega arith
@@ -51,5 +51,5 @@ call-short r row bytes h all few small = go (eqb r malformed)
         let hex = hex-short bytes in
         simp length-append (omega arith)
 
-pub row-short : (a b : ℕ) → a < 18446744073709551616 → b < 18446744073709551616 → length (row_text a (b ∷ [])) ≤ 3477
-row-short a b h k = simp length-append (omega (arith, decimal-short a h, decimal-short b k))
+pub row_short : (a b : ℕ) → a < 18446744073709551616 → b < 18446744073709551616 → length (row_text a (b ∷ [])) ≤ 3477
+row_short a b h k = simp length-append (omega (arith, decimal-short a h, decimal-short b k))

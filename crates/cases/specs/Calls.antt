@@ -1,6 +1,7 @@
 -- The answers of the cases that lend a buffer, a runner, a bench or slots, from the row n of their numbers (docs/CASES.md). The
 -- words of a case are named above its definition.
-use mathlib.Core.{Bool.Bool, List.List, List.[], List.◌++◌, Option.Option}
+use Rattle.std.specs.Prelude.{Option}
+use mathlib.Core.{Bool.Bool, List.List, List.[], List.◌++◌}
 use Rattle.std.specs.Prelude.{ℕ, ◌-◌}
 use lib.{Dec.eqb, Dec.ltb, ListN.length, ListN.take, ListN.drop, ListN.replicate, Seq.sets}
 use Rattle.base.specs.{Answer.Answer, Answer.value, Answer.refusal, Choice.pick}
@@ -14,8 +15,8 @@ use Rattle.sleep.specs.Sleep.{SleepOutcome, sleep_of, wake_of}
 use Rattle.sleep.specs.declared.steps.Step.{Step}
 use Rattle.numbers.specs.Slots.{slots_numbers, steps_numbers}
 use Rattle.runner.specs.Run.{start_of}
-use Rattle.fields.specs.Row.{nth, byte_at, room_at, pll_at}
-use Rattle.numbers.specs.Answers.{answer_number, itself, malformed, chip_numbered}
+use Rattle.fields.specs.Row.{nth, byte_at, half_at, room_at, pll_at, ten_at}
+use Rattle.numbers.specs.Answers.{answer_number, itself, malformed, chip_numbered, divider_numbered, gpout_number}
 use Rattle.numbers.specs.Run.{runner_in, run_number, run_leaves, go_number, start_leaves}
 use Rattle.boards.specs.Bench.{start_all_of}
 use Rattle.numbers.specs.Bench.{bench_in, bench_number, bench_leaves, start_all_leaves}
@@ -35,6 +36,11 @@ lent room = replicate room 238
 -- count numbers from index i on, 0 past the end
 abbrev pub part : ℕ → ℕ → List ℕ → List ℕ
 part count i n = sets (replicate count 0) 0 (drop i n)
+
+-- CHIP SOURCE WHOLE FRACTION F0 to F9
+abbrev pub gpout_text : List ℕ → List ℕ
+gpout_text n =
+    one_text (gpout_number (divider_numbered (nth n 2) (half_at n 3) (chip_numbered (byte_at n 0))) (byte_at n 1) (ten_at n 4))
 
 -- INPUT TARGET ROOM
 abbrev pub list_in : ℕ → ℕ → List ℕ → List ℕ
@@ -96,8 +102,11 @@ bench_run_text n kept sheet =
     call_text (bench_number (part 113 4 n) kept board sheet ready) (bench_leaves (part 113 4 n) kept board sheet ready) []
 
 -- SLOT, eleven words, four slots; the answer has words, slots and steps in a row of 87
+abbrev pub changed_row : List ℕ → List ℕ → List ℕ → List ℕ
+changed_row words slots steps = sets (replicate 87 0) 0 (words ++ (slots ++ steps))
+
 abbrev pub changed_text : ℕ → List ℕ → List ℕ → List ℕ → List ℕ
-changed_text r words slots steps = call_text r (sets (replicate 87 0) 0 (words ++ (slots ++ steps))) []
+changed_text r words slots steps = call_text r (changed_row words slots steps) []
 
 unfoldable pub change_of : Bool → List ℕ → ℕ → List ℕ → List ℕ
 change_of wakes slots slot words =

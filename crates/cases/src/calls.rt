@@ -1,23 +1,23 @@
-// The cases that lend a buffer, a runner, a bench or slots. Each takes the row n of the case's numbers, writes the answer at the
-// start of `out` and answers the index after it.
-ghost use Rattle.std.specs.Prelude.{◌≡◌, [], ◌≤◌, length};
-ghost use Rattle.numbers.specs.Answers.{chip_numbered};
-ghost use Rattle.export.specs.Sheet.{plan_on};
-ghost use Rattle.words.specs.Said.{call_text};
-ghost use Rattle.cases.specs.Say.{Answered};
-ghost use Rattle.cases.specs.Calls.{chip_at, list_in, list_text, manual_text, plan_at, sheet_in, sheet_text};
-ghost use Rattle.cases.specs.Calls.{kept_text, start_text, run_text, bench_start_of, bench_start_text, bench_run_text, changed_text, change_of, change_text};
+// The cases that lend a buffer, a runner, a bench or slots. Each takes the case's words and writes the answer.
+ghost use Rattle.std.specs.Prelude.{◌≡◌, ◌≤◌, length};
+ghost use Rattle.cases.specs.Say.{Says};
+ghost use Rattle.cases.specs.Calls.{chip_at, part, kept_text, gpout_text, list_text, manual_text, plan_at, sheet_text};
+ghost use Rattle.cases.specs.Calls.{start_text, run_text, bench_start_text, bench_run_text, changed_row, change_text};
+ghost use Rattle.words.specs.Words.{sheet_at};
 
-use crate::say::{put, put_one, put_planned, put_written};
-use crate::{Given, KeptBytes};
+use crate::say::{write, write_one, write_planned, write_written};
+use base::Writer;
 use chip::Chip;
-use chip::voltage::VoltageRead;
+use chip::voltage::CoreVoltage;
 use config::ClockConfig;
-use fields::{byte_at, room_at};
+use export::bench::{dizbaral_bench_run, dizbaral_bench_start};
+use fields::{byte_at, half_at, number_at, pll_at, room_at, ten_at};
 use numbers::answers::MALFORMED;
+use step::MAX_BYTES;
+use words::Words;
 
 // The chip that the case's first number names.
-pub(crate) fn chip_at(n: &Given) -> Chip
+pub(crate) fn chip_at(n: &[u32; 128]) -> Chip
     ensures { result ≡ chip_at n.now }
 {
     if n[0] == 1 {
@@ -27,191 +27,136 @@ pub(crate) fn chip_at(n: &Given) -> Chip
     }
 }
 
-// Lists into a lent buffer and answers the bytes written.
-fn put_list_in(out: &mut [u8], input: u32, target: u32, buf: &mut [u8]) -> usize
-    requires { length buf.old ≤ 1024 }
-    ensures { Answered out.old (list_in input target buf.old) result out.new }
+// N numbers of the row from index `from` on.
+fn part<const N: usize>(n: &[u32; 128], from: usize) -> [u32; N]
+    requires { from ≤ 128 }
+    ensures { result ≡ part N from n.now }
 {
-    let r = export::dizbaral_list(input, target, buf);
-    put_written(out, r, buf)
+    let mut numbers = [0; N];
+    let _end = base::put_all(&mut numbers, 0, &n[from..]);
+    numbers
+}
+
+// The case `gpout`: CHIP SOURCE WHOLE FRACTION F0 to F9.
+pub(crate) fn write_gpout(out: &mut Writer<'_, u8>, n: &[u32; 128])
+    ensures { Says out.old (gpout_text n.now) out.new }
+{
+    let (chip, source) = (byte_at(n, 0), byte_at(n, 1));
+    let freqs = ten_at(n, 4);
+    let r = export::dizbaral_gpout_frequency(chip, source, n[2], half_at(n, 3), &freqs);
+    write_one(out, r);
 }
 
 // The case `list`: INPUT TARGET ROOM.
-pub(crate) fn put_list(n: &Given, out: &mut [u8]) -> usize
-    ensures { Answered out.old (list_text n.now) result out.new }
+#[tactic(auto, using(crate::proofs::Lent::take_same), unfolding(crate::specs::Calls::list_text))]
+pub(crate) fn write_list(out: &mut Writer<'_, u8>, n: &[u32; 128])
+    ensures { Says out.old (list_text n.now) out.new }
 {
-    let mut buf = [238u8; 1024];
-    let room = room_at(n, 2);
-    put_list_in(out, n[0], n[1], &mut buf[..room])
+    let mut lent = [238u8; 1024];
+    let buf = &mut lent[..room_at(n, 2)];
+    let r = export::dizbaral_list(n[0], n[1], buf);
+    write_written(out, r, buf);
 }
 
 // The case `manual`: CRYSTAL, four dividers, CODE; a code that is no voltage's is malformed.
-pub(crate) fn put_manual(n: &Given, out: &mut [u8]) -> usize
-    ensures { Answered out.old (manual_text n.now) result out.new }
+pub(crate) fn write_manual(out: &mut Writer<'_, u8>, n: &[u32; 128])
+    ensures { Says out.old (manual_text n.now) out.new }
 {
-    let pll = fields::pll_at(n, 1);
-    match chip::voltage::core_voltage(byte_at(n, 5)) {
-        VoltageRead::Voltage(v) => put_planned(out, ClockConfig::manual_pll(n[0], pll, v)),
-        VoltageRead::Refused(_) => put_one(out, MALFORMED),
+    match CoreVoltage::try_from(byte_at(n, 5)) {
+        Ok(v) => write_planned(out, ClockConfig::manual_pll(n[0], pll_at(n, 1), v)),
+        Err(_) => write_one(out, MALFORMED),
     }
 }
 
 // The plan's numbers, which follow READING, ROOM and CHIP.
-fn plan_at(n: &Given, count: usize) -> &[u32]
-    ensures { result.now ≡ plan_at n.now count }
+fn plan_at(words: &Words) -> &[u32]
+    ensures { result.now ≡ plan_at words.now.row words.now.count }
 {
-    let all = &n[..];
-    if count < 3 {
-        return &all[..0];
-    }
-    if 128 < count {
-        return &all[..0];
-    }
-    &all[3..count]
-}
-
-// Writes a plan's sheet into a lent buffer and answers the bytes written.
-fn put_sheet_in(out: &mut [u8], chip: u8, plan: &[u32], reading: u8, buf: &mut [u8]) -> usize
-    requires { length buf.old ≤ 1024 }
-    ensures { Answered out.old (sheet_in (plan_on plan.now (chip_numbered chip)) reading buf.old) result out.new }
-{
-    let r = export::dizbaral_plan_sheet(chip, plan, reading, buf);
-    put_written(out, r, buf)
+    words.row.get(3..words.count).unwrap_or(&[])
 }
 
 // The case `sheet`: READING ROOM CHIP PLAN.
-pub(crate) fn put_sheet(n: &Given, count: usize, out: &mut [u8]) -> usize
-    ensures { Answered out.old (sheet_text n.now count) result out.new }
+pub(crate) fn write_sheet(out: &mut Writer<'_, u8>, words: &Words)
+    ensures { Says out.old (sheet_text words.now.row words.now.count) out.new }
 {
-    let mut buf = [238u8; 1024];
-    let reading = byte_at(n, 0);
-    let room = room_at(n, 1);
-    let chip = byte_at(n, 2);
-    let plan = plan_at(n, count);
-    put_sheet_in(out, chip, plan, reading, &mut buf[..room])
+    let n = &words.row;
+    let mut lent = [238u8; 1024];
+    let buf = &mut lent[..room_at(n, 1)];
+    let r = export::dizbaral_plan_sheet(byte_at(n, 2), plan_at(words), byte_at(n, 0), buf);
+    write_written(out, r, buf);
 }
 
-// Writes what a start leaves: the runner's numbers and the kept bytes.
-fn put_started(out: &mut [u8], r: u64, runner: &[u32; 15], held: &KeptBytes) -> usize
-    ensures { Answered out.old (kept_text 4 r runner.now held.now) result out.new }
+// Writes what a start leaves: the numbers, of which number i is the count of the kept bytes, and these bytes.
+fn write_kept(out: &mut Writer<'_, u8>, r: u64, numbers: &[u32], i: usize, held: &[u8; MAX_BYTES])
+    requires { length numbers.now ≤ 128 }
+    ensures { Says out.old (kept_text i r numbers.now held.now) out.new }
 {
-    let len = base::wide(runner[4]) as usize;
-    put(out, r, runner, base::first(held, len))
+    let kept = base::first(held, number_at(numbers, i) as usize);
+    write(out, r, numbers, kept);
 }
 
 // The case `start`: SHEET KEPT RUNNER.
-pub(crate) fn put_start(n: &Given, kept: &KeptBytes, sheet: &[u8], out: &mut [u8]) -> usize
-    ensures { Answered out.old (start_text n.now kept.now sheet.now) result out.new }
+#[tactic(auto, unfolding(crate::specs::Calls::start_text))]
+pub(crate) fn write_start(out: &mut Writer<'_, u8>, words: &Words)
+    ensures { Says out.old (start_text words.now.row words.now.kept (sheet_at words.now 0)) out.new }
 {
-    let all = &n[..];
-    let mut runner = [0u32; 15];
-    let mut held = *kept;
-    let _n = base::put_numbers(&mut runner, 0, &all[2..]);
-    let r = export::dizbaral_start(&mut runner, &mut held, sheet);
-    put_started(out, r, &runner, &held)
-}
-
-// Writes the answer of a run and the runner's numbers.
-fn put_runner(out: &mut [u8], r: u64, runner: &[u32; 15]) -> usize
-    ensures { Answered out.old (call_text r runner.now []) result out.new }
-{
-    put(out, r, runner, b"")
+    let mut runner = part(&words.row, 2);
+    let mut held = words.kept;
+    let r = export::dizbaral_start(&mut runner, &mut held, words.sheet_at(0));
+    write_kept(out, r, &runner, 4, &held);
 }
 
 // The case `run`: SHEET KEPT READY RUNNER.
-pub(crate) fn put_run(n: &Given, kept: &KeptBytes, sheet: &[u8], out: &mut [u8]) -> usize
-    ensures { Answered out.old (run_text n.now kept.now sheet.now) result out.new }
+#[tactic(auto, unfolding(crate::specs::Calls::run_text))]
+pub(crate) fn write_run(out: &mut Writer<'_, u8>, words: &Words)
+    ensures { Says out.old (run_text words.now.row words.now.kept (sheet_at words.now 0)) out.new }
 {
-    let all = &n[..];
-    let mut runner = [0u32; 15];
-    let _n = base::put_numbers(&mut runner, 0, &all[3..]);
-    let r = export::dizbaral_run(&mut runner, kept, sheet, n[2] == 1);
-    put_runner(out, r, &runner)
-}
-
-// Writes what a start of a bench leaves: its numbers and the kept bytes.
-fn put_bench_started(out: &mut [u8], r: u64, bench: &[u32; 113], held: &KeptBytes) -> usize
-    ensures { Answered out.old (kept_text 112 r bench.now held.now) result out.new }
-{
-    let len = base::wide(bench[112]) as usize;
-    put(out, r, bench, base::first(held, len))
-}
-
-// Starts a bench of the given numbers.
-fn put_bench_start_of(out: &mut [u8], given: [u32; 113], kept: &KeptBytes, sheet: &[u8]) -> usize
-    ensures { Answered out.old (bench_start_of given kept.now sheet.now) result out.new }
-{
-    let mut bench = given;
-    let mut held = *kept;
-    let r = export::bench::dizbaral_bench_start(&mut bench, &mut held, sheet);
-    put_bench_started(out, r, &bench, &held)
+    let ready = words.row[2] == 1;
+    let mut runner = part(&words.row, 3);
+    let r = export::dizbaral_run(&mut runner, &words.kept, words.sheet_at(0), ready);
+    write(out, r, &runner, b"");
 }
 
 // The case `bench_start`: SHEET KEPT BOARD BENCH; a start ignores BOARD.
-pub(crate) fn put_bench_start(n: &Given, kept: &KeptBytes, sheet: &[u8], out: &mut [u8]) -> usize
-    ensures { Answered out.old (bench_start_text n.now kept.now sheet.now) result out.new }
+pub(crate) fn write_bench_start(out: &mut Writer<'_, u8>, words: &Words)
+    ensures { Says out.old (bench_start_text words.now.row words.now.kept (sheet_at words.now 0)) out.new }
 {
-    let all = &n[..];
-    let mut bench = [0u32; 113];
-    let _n = base::put_numbers(&mut bench, 0, &all[3..]);
-    put_bench_start_of(out, bench, kept, sheet)
-}
-
-// Writes the answer of a board's call and the bench's numbers.
-fn put_bench(out: &mut [u8], r: u64, bench: &[u32; 113]) -> usize
-    ensures { Answered out.old (call_text r bench.now []) result out.new }
-{
-    put(out, r, bench, b"")
+    let mut bench = part(&words.row, 3);
+    let mut held = words.kept;
+    let r = dizbaral_bench_start(&mut bench, &mut held, words.sheet_at(0));
+    write_kept(out, r, &bench, 112, &held);
 }
 
 // The case `bench_run`: SHEET KEPT BOARD READY BENCH.
-pub(crate) fn put_bench_run(n: &Given, kept: &KeptBytes, sheet: &[u8], out: &mut [u8]) -> usize
-    ensures { Answered out.old (bench_run_text n.now kept.now sheet.now) result out.new }
+#[tactic(auto, unfolding(crate::specs::Calls::bench_run_text))]
+pub(crate) fn write_bench_run(out: &mut Writer<'_, u8>, words: &Words)
+    ensures { Says out.old (bench_run_text words.now.row words.now.kept (sheet_at words.now 0)) out.new }
 {
-    let all = &n[..];
-    let mut bench = [0u32; 113];
-    let _n = base::put_numbers(&mut bench, 0, &all[4..]);
-    let board = byte_at(n, 2);
-    let r = export::bench::dizbaral_bench_run(&mut bench, kept, board, sheet, n[3] == 1);
-    put_bench(out, r, &bench)
+    let (board, ready) = (byte_at(&words.row, 2), words.row[3] == 1);
+    let mut bench = part(&words.row, 4);
+    let r = dizbaral_bench_run(&mut bench, &words.kept, board, words.sheet_at(0), ready);
+    write(out, r, &bench, b"");
 }
 
-// Writes what a sleep or a wake leaves: words, slots and steps.
-fn put_changed(
-    out: &mut [u8],
-    r: u64,
-    words: &[u32; 11],
-    slots: &[u32; 48],
-    steps: &[u32; 28],
-) -> usize
-    ensures { Answered out.old (changed_text r words.now slots.now steps.now) result out.new }
+// The row of words, slots and steps that a sleep or a wake leaves.
+fn changed_row(words: &[u32; 11], slots: &[u32; 48], steps: &[u32; 28]) -> [u32; 87]
+    ensures { result ≡ changed_row words.now slots.now steps.now }
 {
     let mut row = [0u32; 87];
-    let at = base::put_numbers(&mut row, 0, words);
-    let at = base::put_numbers(&mut row, at, slots);
-    let _n = base::put_numbers(&mut row, at, steps);
-    put(out, r, &row, b"")
-}
-
-// Sleeps or wakes over the given slots and words.
-fn put_asked(out: &mut [u8], wakes: bool, kept: [u32; 48], slot: u8, given: [u32; 11]) -> usize
-    ensures { Answered out.old (change_of wakes kept slot given) result out.new }
-{
-    let mut slots = kept;
-    let mut words = given;
-    let mut steps = [0u32; 28];
-    let r = numbers::sleep_call::change(wakes, &mut slots, slot, &mut words, &mut steps);
-    put_changed(out, r, &words, &slots, &steps)
+    let at = base::put_all(&mut row, 0, words);
+    let at = base::put_all(&mut row, at, slots);
+    let _end = base::put_all(&mut row, at, steps);
+    row
 }
 
 // The cases `sleep` and `wake`: SLOT, eleven words, four slots.
-pub(crate) fn put_change(wakes: bool, n: &Given, out: &mut [u8]) -> usize
-    ensures { Answered out.old (change_text wakes n.now) result out.new }
+pub(crate) fn write_change(out: &mut Writer<'_, u8>, wakes: bool, n: &[u32; 128])
+    ensures { Says out.old (change_text wakes n.now) out.new }
 {
-    let all = &n[..];
-    let mut slots = [0u32; 48];
-    let mut words = [0u32; 11];
-    let _n = base::put_numbers(&mut words, 0, &all[1..]);
-    let _m = base::put_numbers(&mut slots, 0, &all[12..]);
-    put_asked(out, wakes, slots, byte_at(n, 0), words)
+    let mut words = part(n, 1);
+    let mut slots = part(n, 12);
+    let mut steps = [0u32; 28];
+    let slot = byte_at(n, 0);
+    let r = numbers::sleep_call::change(wakes, &mut slots, slot, &mut words, &mut steps);
+    write(out, r, &changed_row(&words, &slots, &steps), b"");
 }

@@ -6,7 +6,6 @@ use Rattle.chip.specs.declared.{Chip.Chip, Chip.TheVariants.Rp2040, Chip.TheVari
 use Rattle.chip.specs.declared.voltage.{Volts.Volts, CoreVoltage.CoreVoltage, CoreVoltage235.CoreVoltage235}
 use Rattle.chip.specs.declared.voltage.CoreVoltage.TheVariants as old
 use Rattle.chip.specs.declared.voltage.CoreVoltage235.TheVariants as new
-use Rattle.chip.specs.declared.voltage.{VoltageRead.VoltageRead, VoltageRead235.VoltageRead235}
 
 -- The type of the chip's voltages.
 abbrev pub VoltageOf : Chip → Type 0
@@ -14,7 +13,7 @@ VoltageOf Rp2040 = CoreVoltage
 VoltageOf Rp235x = CoreVoltage235
 
 abbrev pub row : ℕ → ℕ → ℕ → Volts
-row a b c = record { 0 = a; 1 = b; 2 = c }
+row a b c = record { code = a; brownout = b; settling_us = c }
 
 -- The voltage code, the brownout level of the Rust's `recommended_bod`, and the settling time in µs where the plan gives none.
 abbrev pub volts_of : (chip : Chip) → VoltageOf chip → Volts
@@ -47,13 +46,13 @@ volts_of Rp235x new.V1_25 = row 14 10 2000
 volts_of Rp235x new.V1_30 = row 15 11 2000
 
 abbrev pub code_of : (chip : Chip) → VoltageOf chip → ℕ
-code_of chip v = (volts_of chip v).0
+code_of chip v = (volts_of chip v).code
 
 abbrev pub bod_of : (chip : Chip) → VoltageOf chip → ℕ
-bod_of chip v = (volts_of chip v).1
+bod_of chip v = (volts_of chip v).brownout
 
 abbrev pub settling_of : (chip : Chip) → VoltageOf chip → ℕ
-settling_of chip v = (volts_of chip v).2
+settling_of chip v = (volts_of chip v).settling_us
 
 -- The voltages of a chip, each once.
 abbrev pub voltages : (chip : Chip) → List (VoltageOf chip)
@@ -72,14 +71,3 @@ with_code code_of code (v ∷ others) = pick (eqb code (code_of v)) (value v) (w
 -- The voltage of a reading: 0 and 6 to 15 are codes of the RP2040, 0 to 15 of the RP235x.
 abbrev pub core_voltage_of : (chip : Chip) → ℕ → Answer (VoltageOf chip)
 core_voltage_of chip reading = with_code (code_of chip) reading (voltages chip)
-
--- The answers of the code, and what each of their variants means.
-abbrev pub ReadOf : Chip → Type 0
-ReadOf Rp2040 = VoltageRead
-ReadOf Rp235x = VoltageRead235
-
-abbrev pub read_is : (chip : Chip) → ReadOf chip → Answer (VoltageOf chip)
-read_is Rp2040 (VoltageRead.Voltage v) = value v
-read_is Rp2040 (VoltageRead.Refused n) = refusal n
-read_is Rp235x (VoltageRead235.Voltage v) = value v
-read_is Rp235x (VoltageRead235.Refused n) = refusal n

@@ -8,14 +8,14 @@ ghost use Rattle.chip.specs.Chips.{facts_of};
 
 use step::kind;
 
-#[derive(Clone, Copy)]
+#[derive(Clone, Copy, PartialEq, Eq)]
 pub enum Chip {
     Rp2040,
     Rp235x,
 }
 
 // The chip's numbers that the sheet, the refusals and the formulas use.
-#[derive(Clone, Copy)]
+#[derive(Clone, Copy, PartialEq, Eq)]
 pub struct Facts {
     pub top_reading: u8, // the greatest reading of the regulator
     pub voltage: u8, // the kind of the voltage step
@@ -33,7 +33,7 @@ pub struct Facts {
     pub rtc: u32, // RESETS bits of the blocks on the RTC clock
     pub preset_hz: u32, // the system frequency of the crystal preset
     pub preset_post: u8, // the first post divider of the crystal preset
-    pub gpout: [u8; 12], // the clock of each Gpout source code, 10 for none
+    pub gpout: [u8; 12], // the clock of each Gpout source code, 10 for none: a lookup among twelve options takes longer
 }
 
 impl Chip {

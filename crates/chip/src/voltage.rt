@@ -1,193 +1,194 @@
 // The core voltages of both chips: register codes, brownout levels and default settling times (docs/FORMAT.md, Voltages).
 ghost use Rattle.std.specs.Prelude.{◌≡◌};
+ghost use Rattle.base.specs.Answer.{answer_of};
 ghost use Rattle.chip.specs.declared.Chip.TheVariants.{Rp2040, Rp235x};
-ghost use Rattle.chip.specs.Voltage.{volts_of, code_of, bod_of, settling_of, core_voltage_of, read_is};
+ghost use Rattle.chip.specs.declared.voltage.Volts.{Volts};
+ghost use Rattle.chip.specs.Voltage.{volts_of, core_voltage_of};
+
+use base::Refusal;
+
+// The refusal of a reading that is no voltage's code.
+const NO_VOLTAGE: Refusal = Refusal::VoltageReading;
 
 // A voltage's register code, brownout level and default settling time in µs.
-#[derive(Clone, Copy)]
-pub struct Volts(pub u8, pub u8, pub u32);
-
-// The core voltages of the RP2040.
-#[derive(Clone, Copy)]
-pub enum CoreVoltage {
-    V0_80,
-    V0_85,
-    V0_90,
-    V0_95,
-    V1_00,
-    V1_05,
-    V1_10,
-    V1_15,
-    V1_20,
-    V1_25,
-    V1_30,
+#[derive(Clone, Copy, PartialEq, Eq)]
+pub struct Volts {
+    pub code: u8,
+    pub brownout: u8,
+    pub settling_us: u32,
 }
 
-// The voltage of a reading, or the number of the refusal.
-#[derive(Clone, Copy)]
-pub enum VoltageRead {
-    Voltage(CoreVoltage),
-    Refused(u8),
-}
+// The core voltages of a chip: each chip has its own type of them, so that a plan holds only its chip's.
+pub trait Voltage: Copy {
+    ghost row: { Self → Volts };
 
-impl CoreVoltage {
     // The register code, the brownout level and the default settling time of this voltage.
-    pub fn volts(self) -> Volts
-        ensures { result ≡ volts_of Rp2040 self }
-    {
-        match self {
-            CoreVoltage::V0_80 => Volts(0, 4, 0),
-            CoreVoltage::V0_85 => Volts(6, 5, 0),
-            CoreVoltage::V0_90 => Volts(7, 6, 0),
-            CoreVoltage::V0_95 => Volts(8, 7, 0),
-            CoreVoltage::V1_00 => Volts(9, 8, 0),
-            CoreVoltage::V1_05 => Volts(10, 8, 0),
-            CoreVoltage::V1_10 => Volts(11, 9, 0),
-            CoreVoltage::V1_15 => Volts(12, 10, 1000),
-            CoreVoltage::V1_20 => Volts(13, 11, 2000),
-            CoreVoltage::V1_25 => Volts(14, 12, 2000),
-            CoreVoltage::V1_30 => Volts(15, 13, 2000),
-        }
-    }
+    fn volts(self) -> Volts
+        ensures { result ≡ row self };
 
     // The register code, the Rust's `as u8`.
-    pub fn code(self) -> u8
-        ensures { result ≡ code_of Rp2040 self }
+    final fn code(self) -> u8
+        ensures { result ≡ (row self).code }
     {
-        self.volts().0
+        self.volts().code
     }
 
     // The level for the brownout detector at this voltage.
-    pub fn recommended_bod(self) -> u8
-        ensures { result ≡ bod_of Rp2040 self }
+    final fn recommended_bod(self) -> u8
+        ensures { result ≡ (row self).brownout }
     {
-        self.volts().1
+        self.volts().brownout
     }
 
     // Microseconds to wait after a change to this voltage where the plan gives no time.
-    pub fn default_settling_us(self) -> u32
-        ensures { result ≡ settling_of Rp2040 self }
+    final fn default_settling_us(self) -> u32
+        ensures { result ≡ (row self).settling_us }
     {
-        self.volts().2
+        self.volts().settling_us
+    }
+}
+
+// The core voltages of the RP2040, numbered by their register codes.
+#[derive(Clone, Copy, PartialEq, Eq)]
+pub enum CoreVoltage {
+    V0_80 = 0,
+    V0_85 = 6,
+    V0_90 = 7,
+    V0_95 = 8,
+    V1_00 = 9,
+    V1_05 = 10,
+    V1_10 = 11,
+    V1_15 = 12,
+    V1_20 = 13,
+    V1_25 = 14,
+    V1_30 = 15,
+}
+
+impl Voltage for CoreVoltage {
+    ghost row = { volts_of Rp2040 };
+
+    fn volts(self) -> Volts {
+        let (brownout, settling_us) = match self {
+            CoreVoltage::V0_80 => (4, 0),
+            CoreVoltage::V0_85 => (5, 0),
+            CoreVoltage::V0_90 => (6, 0),
+            CoreVoltage::V0_95 => (7, 0),
+            CoreVoltage::V1_00 => (8, 0),
+            CoreVoltage::V1_05 => (8, 0),
+            CoreVoltage::V1_10 => (9, 0),
+            CoreVoltage::V1_15 => (10, 1000),
+            CoreVoltage::V1_20 => (11, 2000),
+            CoreVoltage::V1_25 => (12, 2000),
+            CoreVoltage::V1_30 => (13, 2000),
+        };
+        Volts {
+            code: self as u8,
+            brownout,
+            settling_us,
+        }
     }
 }
 
 // The RP2040 voltage whose code was read; 18 where the code is unknown.
-pub fn core_voltage(reading: u8) -> VoltageRead
-    ensures { read_is Rp2040 result ≡ core_voltage_of Rp2040 reading }
-{
-    match reading {
-        0 => VoltageRead::Voltage(CoreVoltage::V0_80),
-        6 => VoltageRead::Voltage(CoreVoltage::V0_85),
-        7 => VoltageRead::Voltage(CoreVoltage::V0_90),
-        8 => VoltageRead::Voltage(CoreVoltage::V0_95),
-        9 => VoltageRead::Voltage(CoreVoltage::V1_00),
-        10 => VoltageRead::Voltage(CoreVoltage::V1_05),
-        11 => VoltageRead::Voltage(CoreVoltage::V1_10),
-        12 => VoltageRead::Voltage(CoreVoltage::V1_15),
-        13 => VoltageRead::Voltage(CoreVoltage::V1_20),
-        14 => VoltageRead::Voltage(CoreVoltage::V1_25),
-        15 => VoltageRead::Voltage(CoreVoltage::V1_30),
-        _ => VoltageRead::Refused(18),
-    }
-}
+impl TryFrom<u8> for CoreVoltage {
+    type Error = Refusal;
 
-// The core voltages of the RP235x.
-#[derive(Clone, Copy)]
-pub enum CoreVoltage235 {
-    V0_55,
-    V0_60,
-    V0_65,
-    V0_70,
-    V0_75,
-    V0_80,
-    V0_85,
-    V0_90,
-    V0_95,
-    V1_00,
-    V1_05,
-    V1_10,
-    V1_15,
-    V1_20,
-    V1_25,
-    V1_30,
-}
+    ghost try_from_gives = { λ reading r. answer_of r ≡ core_voltage_of Rp2040 reading };
 
-// The voltage of a reading, or the number of the refusal.
-#[derive(Clone, Copy)]
-pub enum VoltageRead235 {
-    Voltage(CoreVoltage235),
-    Refused(u8),
-}
-
-impl CoreVoltage235 {
-    // The register code, the brownout level and the default settling time of this voltage.
-    pub fn volts(self) -> Volts
-        ensures { result ≡ volts_of Rp235x self }
-    {
-        match self {
-            CoreVoltage235::V0_55 => Volts(0, 1, 0),
-            CoreVoltage235::V0_60 => Volts(1, 2, 0),
-            CoreVoltage235::V0_65 => Volts(2, 3, 0),
-            CoreVoltage235::V0_70 => Volts(3, 3, 0),
-            CoreVoltage235::V0_75 => Volts(4, 4, 0),
-            CoreVoltage235::V0_80 => Volts(5, 5, 0),
-            CoreVoltage235::V0_85 => Volts(6, 6, 0),
-            CoreVoltage235::V0_90 => Volts(7, 6, 0),
-            CoreVoltage235::V0_95 => Volts(8, 7, 0),
-            CoreVoltage235::V1_00 => Volts(9, 8, 0),
-            CoreVoltage235::V1_05 => Volts(10, 8, 0),
-            CoreVoltage235::V1_10 => Volts(11, 9, 0),
-            CoreVoltage235::V1_15 => Volts(12, 9, 1000),
-            CoreVoltage235::V1_20 => Volts(13, 10, 2000),
-            CoreVoltage235::V1_25 => Volts(14, 10, 2000),
-            CoreVoltage235::V1_30 => Volts(15, 11, 2000),
+    fn try_from(reading: u8) -> Result<CoreVoltage, Refusal> {
+        match reading {
+            0 => Ok(CoreVoltage::V0_80),
+            6 => Ok(CoreVoltage::V0_85),
+            7 => Ok(CoreVoltage::V0_90),
+            8 => Ok(CoreVoltage::V0_95),
+            9 => Ok(CoreVoltage::V1_00),
+            10 => Ok(CoreVoltage::V1_05),
+            11 => Ok(CoreVoltage::V1_10),
+            12 => Ok(CoreVoltage::V1_15),
+            13 => Ok(CoreVoltage::V1_20),
+            14 => Ok(CoreVoltage::V1_25),
+            15 => Ok(CoreVoltage::V1_30),
+            _ => Err(NO_VOLTAGE),
         }
     }
+}
 
-    // The register code, the Rust's `as u8`.
-    pub fn code(self) -> u8
-        ensures { result ≡ code_of Rp235x self }
-    {
-        self.volts().0
-    }
+// The core voltages of the RP235x, numbered by their register codes.
+#[derive(Clone, Copy, PartialEq, Eq)]
+pub enum CoreVoltage235 {
+    V0_55 = 0,
+    V0_60 = 1,
+    V0_65 = 2,
+    V0_70 = 3,
+    V0_75 = 4,
+    V0_80 = 5,
+    V0_85 = 6,
+    V0_90 = 7,
+    V0_95 = 8,
+    V1_00 = 9,
+    V1_05 = 10,
+    V1_10 = 11,
+    V1_15 = 12,
+    V1_20 = 13,
+    V1_25 = 14,
+    V1_30 = 15,
+}
 
-    // The level for the brownout detector at this voltage.
-    pub fn recommended_bod(self) -> u8
-        ensures { result ≡ bod_of Rp235x self }
-    {
-        self.volts().1
-    }
+impl Voltage for CoreVoltage235 {
+    ghost row = { volts_of Rp235x };
 
-    // Microseconds to wait after a change to this voltage where the plan gives no time.
-    pub fn default_settling_us(self) -> u32
-        ensures { result ≡ settling_of Rp235x self }
-    {
-        self.volts().2
+    fn volts(self) -> Volts {
+        let (brownout, settling_us) = match self {
+            CoreVoltage235::V0_55 => (1, 0),
+            CoreVoltage235::V0_60 => (2, 0),
+            CoreVoltage235::V0_65 => (3, 0),
+            CoreVoltage235::V0_70 => (3, 0),
+            CoreVoltage235::V0_75 => (4, 0),
+            CoreVoltage235::V0_80 => (5, 0),
+            CoreVoltage235::V0_85 => (6, 0),
+            CoreVoltage235::V0_90 => (6, 0),
+            CoreVoltage235::V0_95 => (7, 0),
+            CoreVoltage235::V1_00 => (8, 0),
+            CoreVoltage235::V1_05 => (8, 0),
+            CoreVoltage235::V1_10 => (9, 0),
+            CoreVoltage235::V1_15 => (9, 1000),
+            CoreVoltage235::V1_20 => (10, 2000),
+            CoreVoltage235::V1_25 => (10, 2000),
+            CoreVoltage235::V1_30 => (11, 2000),
+        };
+        Volts {
+            code: self as u8,
+            brownout,
+            settling_us,
+        }
     }
 }
 
 // The RP235x voltage whose code was read; 18 where the code is unknown.
-pub fn core_voltage_235(reading: u8) -> VoltageRead235
-    ensures { read_is Rp235x result ≡ core_voltage_of Rp235x reading }
-{
-    match reading {
-        0 => VoltageRead235::Voltage(CoreVoltage235::V0_55),
-        1 => VoltageRead235::Voltage(CoreVoltage235::V0_60),
-        2 => VoltageRead235::Voltage(CoreVoltage235::V0_65),
-        3 => VoltageRead235::Voltage(CoreVoltage235::V0_70),
-        4 => VoltageRead235::Voltage(CoreVoltage235::V0_75),
-        5 => VoltageRead235::Voltage(CoreVoltage235::V0_80),
-        6 => VoltageRead235::Voltage(CoreVoltage235::V0_85),
-        7 => VoltageRead235::Voltage(CoreVoltage235::V0_90),
-        8 => VoltageRead235::Voltage(CoreVoltage235::V0_95),
-        9 => VoltageRead235::Voltage(CoreVoltage235::V1_00),
-        10 => VoltageRead235::Voltage(CoreVoltage235::V1_05),
-        11 => VoltageRead235::Voltage(CoreVoltage235::V1_10),
-        12 => VoltageRead235::Voltage(CoreVoltage235::V1_15),
-        13 => VoltageRead235::Voltage(CoreVoltage235::V1_20),
-        14 => VoltageRead235::Voltage(CoreVoltage235::V1_25),
-        15 => VoltageRead235::Voltage(CoreVoltage235::V1_30),
-        _ => VoltageRead235::Refused(18),
+impl TryFrom<u8> for CoreVoltage235 {
+    type Error = Refusal;
+
+    ghost try_from_gives = { λ reading r. answer_of r ≡ core_voltage_of Rp235x reading };
+
+    fn try_from(reading: u8) -> Result<CoreVoltage235, Refusal> {
+        match reading {
+            0 => Ok(CoreVoltage235::V0_55),
+            1 => Ok(CoreVoltage235::V0_60),
+            2 => Ok(CoreVoltage235::V0_65),
+            3 => Ok(CoreVoltage235::V0_70),
+            4 => Ok(CoreVoltage235::V0_75),
+            5 => Ok(CoreVoltage235::V0_80),
+            6 => Ok(CoreVoltage235::V0_85),
+            7 => Ok(CoreVoltage235::V0_90),
+            8 => Ok(CoreVoltage235::V0_95),
+            9 => Ok(CoreVoltage235::V1_00),
+            10 => Ok(CoreVoltage235::V1_05),
+            11 => Ok(CoreVoltage235::V1_10),
+            12 => Ok(CoreVoltage235::V1_15),
+            13 => Ok(CoreVoltage235::V1_20),
+            14 => Ok(CoreVoltage235::V1_25),
+            15 => Ok(CoreVoltage235::V1_30),
+            _ => Err(NO_VOLTAGE),
+        }
     }
 }

@@ -6,96 +6,99 @@ ghost use Rattle.std.specs.Prelude.{◌≡◌};
 ghost use Rattle.chip.specs.declared.Chip.TheVariants.{Rp2040};
 ghost use Rattle.chip.specs.Chips.{facts_of};
 ghost use Rattle.sheet_steps.specs.Steps.{step2, source_part, tick_steps, ref_part, switch_steps, sys_part, peri_part, aux_part, rtc_part};
-ghost use Rattle.sheet_steps.specs.Steps.{peri_bits, aux_bits, rtc_bits, release_mask, clocks_part};
+ghost use Rattle.sheet_steps.specs.Steps.{bits_without, release_mask, clocks_part};
 ghost use Rattle.sheet_steps.specs.Gather.{held, pushed, pushes};
 
 use chip::Chip;
-use config::{Board, OptionAux, OptionPeri, OptionRtc, RefClkConfig, SysClkSrc};
+use config::{AuxClkConfig, Board, PeriClkSrc, RefClkConfig, RtcClkConfig, SysClkSrc};
 use settings::{Frequencies, Settings, Sources};
-use sheet_steps::{Words, add0, add1, add2};
+use sheet_steps::{Words, add};
 use step::kind;
 
 fn put_sources(words: &mut Words, at: usize, f: Sources) -> usize
     ensures { held words.new result ≡ pushes (held words.old at) (source_part f) }
 {
-    let at = add2(words, at, kind::STORE, 1, f.xosc as u64);
-    let at = add2(words, at, kind::STORE, 2, f.pll_sys as u64);
-    add2(words, at, kind::STORE, 3, f.pll_usb as u64)
+    let at = add(words, at, kind::STORE, [1, u64::from(f.xosc)]);
+    let at = add(words, at, kind::STORE, [2, u64::from(f.pll_sys)]);
+    add(words, at, kind::STORE, [3, u64::from(f.pll_usb)])
 }
 
 fn put_tick(words: &mut Words, at: usize, chip: Chip, mhz: u64) -> usize
     ensures { held words.new result ≡ pushes (held words.old at) (tick_steps chip mhz) }
 {
     match chip {
-        Chip::Rp2040 => add1(words, at, kind::TICK, mhz),
+        Chip::Rp2040 => add(words, at, kind::TICK, [mhz]),
         Chip::Rp235x => {
-            let at = add1(words, at, kind::TIMER_CYCLES, mhz);
-            let at = add0(words, at, kind::TIMER_ON);
-            let at = add1(words, at, kind::WATCHDOG_CYCLES, mhz);
-            add0(words, at, kind::WATCHDOG_ON)
+            let at = add(words, at, kind::TIMER_CYCLES, [mhz]);
+            let at = add(words, at, kind::TIMER_ON, []);
+            let at = add(words, at, kind::WATCHDOG_CYCLES, [mhz]);
+            add(words, at, kind::WATCHDOG_ON, [])
         }
     }
 }
 
+#[tactic(auto, unfolding(sheet_steps::specs::Steps::ref_part))]
 fn put_ref(words: &mut Words, at: usize, chip: Chip, hz: u32, clock: RefClkConfig) -> usize
     ensures { held words.new result ≡ pushes (held words.old at) (ref_part chip hz clock) }
 {
-    let src = clock.src;
-    let code = settings::ref_code(src) as u64;
-    let at = add2(words, at, kind::STORE, 4, hz as u64);
-    let at = add1(words, at, kind::REF_CONTROL, code);
-    let at = add1(words, at, kind::WAIT_REF, code);
-    let at = add1(words, at, kind::REF_DIVIDER, clock.div as u64 % 4);
-    put_tick(words, at, chip, (hz / 1000000) as u64)
+    let code = u64::from(settings::ref_code(clock.src));
+    let at = add(words, at, kind::STORE, [4, u64::from(hz)]);
+    let at = add(words, at, kind::REF_CONTROL, [code]);
+    let at = add(words, at, kind::WAIT_REF, [code]);
+    let at = add(words, at, kind::REF_DIVIDER, [u64::from(clock.div % 4)]);
+    put_tick(words, at, chip, u64::from(hz / 1000000))
 }
 
 // Selects the reference clock before the aux source changes; nothing is appended where the reference clock is the source.
+#[tactic(auto, unfolding(sheet_steps::specs::Steps::switch_steps))]
 fn put_switch(words: &mut Words, at: usize, select: u64) -> usize
     ensures { held words.new result ≡ pushes (held words.old at) (switch_steps select) }
 {
     if select == 0 {
         return at;
     }
-    let at = add2(words, at, kind::SYS_CONTROL, 0, 0);
-    add1(words, at, kind::WAIT_SYS, 0)
+    let at = add(words, at, kind::SYS_CONTROL, [0, 0]);
+    add(words, at, kind::WAIT_SYS, [0])
 }
 
 fn put_divider(words: &mut Words, at: usize, chip: Chip, whole: u64, fraction: u64) -> usize
     ensures { held words.new result ≡ pushed (held words.old at) (step2 (facts_of chip).divider whole fraction) }
 {
     match chip {
-        Chip::Rp2040 => add2(words, at, kind::SYS_DIVIDER, whole, fraction),
-        Chip::Rp235x => add2(words, at, kind::SYS_DIVIDER_235, whole, fraction),
+        Chip::Rp2040 => add(words, at, kind::SYS_DIVIDER, [whole, fraction]),
+        Chip::Rp235x => add(words, at, kind::SYS_DIVIDER_235, [whole, fraction]),
     }
 }
 
+#[tactic(auto, unfolding(sheet_steps::specs::Steps::sys_part))]
 fn put_sys(words: &mut Words, at: usize, b: Board, hz: u64, src: SysClkSrc) -> usize
     ensures { held words.new result ≡ pushes (held words.old at) (sys_part b hz src) }
 {
-    let aux = settings::sys_aux(src) as u64;
-    let select = settings::sys_select(src) as u64;
-    let at = add2(words, at, kind::STORE, 5, hz);
+    let aux = u64::from(settings::sys_aux(src));
+    let select = u64::from(settings::sys_select(src));
+    let at = add(words, at, kind::STORE, [5, hz]);
     let at = put_switch(words, at, select);
-    let at = add2(words, at, kind::SYS_CONTROL, aux, select);
-    let at = add1(words, at, kind::WAIT_SYS, select);
-    let chip = b.chip;
-    put_divider(words, at, chip, b.whole as u64, b.fraction as u64)
+    let at = add(words, at, kind::SYS_CONTROL, [aux, select]);
+    let at = add(words, at, kind::WAIT_SYS, [select]);
+    put_divider(words, at, b.chip, u64::from(b.whole), u64::from(b.fraction))
 }
 
-fn put_peri(words: &mut Words, at: usize, hz: u64, peri: OptionPeri) -> usize
+#[tactic(auto, unfolding(sheet_steps::specs::Steps::peri_part))]
+fn put_peri(words: &mut Words, at: usize, hz: u64, peri: Option<PeriClkSrc>) -> usize
     ensures { held words.new result ≡ pushes (held words.old at) (peri_part hz peri) }
 {
     match peri {
-        OptionPeri::Some(src) => {
-            let aux = settings::peri_aux(src) as u64;
-            let at = add1(words, at, kind::PERI_CONTROL, aux);
-            add2(words, at, kind::STORE, 6, hz)
+        Some(src) => {
+            let aux = u64::from(settings::peri_aux(src));
+            let at = add(words, at, kind::PERI_CONTROL, [aux]);
+            add(words, at, kind::STORE, [6, hz])
         }
-        OptionPeri::None => add2(words, at, kind::STORE, 6, hz),
+        None => add(words, at, kind::STORE, [6, hz]),
     }
 }
 
 // Appends the part of the USB or the ADC clock with its kinds of steps. The divider field has two bits and holds 4 as 0.
+#[tactic(auto, unfolding(sheet_steps::specs::Steps::aux_part))]
 fn put_aux(
     words: &mut Words,
     at: usize,
@@ -103,40 +106,45 @@ fn put_aux(
     control: u8,
     clock: u64,
     hz: u64,
-    aux: OptionAux,
+    aux: Option<AuxClkConfig>,
 ) -> usize
     ensures { held words.new result ≡ pushes (held words.old at) (aux_part divider control clock hz aux) }
 {
     match aux {
-        OptionAux::Some(on) => {
-            let src = on.src;
-            let code = settings::aux_code(src) as u64;
-            let at = add1(words, at, divider, on.div as u64 % 4);
-            let at = add2(words, at, control, on.phase as u64, code);
-            add2(words, at, kind::STORE, clock, hz)
+        Some(on) => {
+            let code = u64::from(settings::aux_code(on.src));
+            let at = add(words, at, divider, [u64::from(on.div % 4)]);
+            let at = add(words, at, control, [u64::from(on.phase), code]);
+            add(words, at, kind::STORE, [clock, hz])
         }
-        OptionAux::None => add2(words, at, kind::STORE, clock, hz),
+        None => add(words, at, kind::STORE, [clock, hz]),
     }
 }
 
 // Appends the RTC part of the RP2040.
-fn put_rtc_2040(words: &mut Words, at: usize, hz: u64, rtc: OptionRtc) -> usize
+#[tactic(auto, unfolding(sheet_steps::specs::Steps::rtc_part))]
+fn put_rtc_2040(words: &mut Words, at: usize, hz: u64, rtc: Option<RtcClkConfig>) -> usize
     ensures { held words.new result ≡ pushes (held words.old at) (rtc_part Rp2040 hz rtc) }
 {
     match rtc {
-        OptionRtc::Some(on) => {
-            let src = on.src;
-            let aux = settings::aux_code(src) as u64;
-            let whole = on.div_int as u64;
-            let at = add2(words, at, kind::RTC_DIVIDER, whole, on.div_frac as u64);
-            let at = add2(words, at, kind::RTC_CONTROL, on.phase as u64, aux);
-            add2(words, at, kind::STORE, 9, hz)
+        Some(on) => {
+            let aux = u64::from(settings::aux_code(on.src));
+            let whole = u64::from(on.div_int);
+            let at = add(
+                words,
+                at,
+                kind::RTC_DIVIDER,
+                [whole, u64::from(on.div_frac)],
+            );
+            let at = add(words, at, kind::RTC_CONTROL, [u64::from(on.phase), aux]);
+            add(words, at, kind::STORE, [9, hz])
         }
-        OptionRtc::None => add2(words, at, kind::STORE, 9, hz),
+        None => add(words, at, kind::STORE, [9, hz]),
     }
 }
 
-fn put_rtc(words: &mut Words, at: usize, chip: Chip, hz: u64, rtc: OptionRtc) -> usize
+#[tactic(auto, unfolding(sheet_steps::specs::Steps::rtc_part))]
+fn put_rtc(words: &mut Words, at: usize, chip: Chip, hz: u64, rtc: Option<RtcClkConfig>) -> usize
     ensures { held words.new result ≡ pushes (held words.old at) (rtc_part chip hz rtc) }
 {
     match chip {
@@ -146,70 +154,51 @@ fn put_rtc(words: &mut Words, at: usize, chip: Chip, hz: u64, rtc: OptionRtc) ->
 }
 
 // The reset bits that the last release leaves out where a clock is absent (docs/FORMAT.md, Masks).
-fn peri_bits(bits: u32, peri: OptionPeri) -> u32
-    ensures { result ≡ peri_bits bits peri }
+fn bits_without<T: Copy>(bits: u32, clock: Option<T>) -> u32
+    ensures { result ≡ bits_without bits clock }
 {
-    match peri {
-        OptionPeri::Some(_) => 0,
-        OptionPeri::None => bits,
-    }
+    if clock.is_some() { 0 } else { bits }
 }
 
-fn aux_bits(bits: u32, aux: OptionAux) -> u32
-    ensures { result ≡ aux_bits bits aux }
-{
-    match aux {
-        OptionAux::Some(_) => 0,
-        OptionAux::None => bits,
-    }
-}
-
-fn rtc_bits(bits: u32, rtc: OptionRtc) -> u32
-    ensures { result ≡ rtc_bits bits rtc }
-{
-    match rtc {
-        OptionRtc::Some(_) => 0,
-        OptionRtc::None => bits,
-    }
-}
-
-fn release_mask(chip: Chip, peri: OptionPeri, usb: OptionAux, adc: OptionAux, rtc: OptionRtc) -> u64
+#[tactic(auto, unfolding(sheet_steps::specs::Steps::release_mask))]
+fn release_mask(
+    chip: Chip,
+    peri: Option<PeriClkSrc>,
+    usb: Option<AuxClkConfig>,
+    adc: Option<AuxClkConfig>,
+    rtc: Option<RtcClkConfig>,
+) -> u64
     ensures { result ≡ release_mask chip peri usb adc rtc }
 {
     let k = chip.facts();
-    let kept = peri_bits(k.peri, peri) as usize
-        + aux_bits(k.usb, usb) as usize
-        + aux_bits(k.adc, adc) as usize
-        + rtc_bits(k.rtc, rtc) as usize;
-    base::less(k.last as usize, kept) as u64
+    let kept = u64::from(bits_without(k.peri, peri))
+        + u64::from(bits_without(k.usb, usb))
+        + u64::from(bits_without(k.adc, adc))
+        + u64::from(bits_without(k.rtc, rtc));
+    u64::from(k.last).saturating_sub(kept)
 }
 
 // Appends all parts from the stores of the sources on, with the last release.
+#[tactic(auto, unfolding(sheet_steps::specs::Steps::clocks_part))]
 pub fn put_clocks(words: &mut Words, at: usize, s: Settings, f: Frequencies) -> usize
     ensures { held words.new result ≡ pushes (held words.old at) (clocks_part s f) }
 {
-    let b = s.board;
-    let chip = b.chip;
-    let rtc = b.rtc;
-    let sources = f.sources;
-    let reference = s.reference;
-    let src = s.sys;
-    let peri = s.peri;
-    let usb = s.usb;
-    let adc = s.adc;
-    let mask = release_mask(chip, peri, usb, adc, rtc);
-    let at = put_sources(words, at, sources);
-    let at = put_ref(words, at, chip, f.reference, reference);
-    let at = put_sys(words, at, b, f.sys, src);
-    let at = put_peri(words, at, f.peri, peri);
+    let chip = s.board.chip;
+    let rtc = s.board.rtc;
+    let mask = release_mask(chip, s.peri, s.usb, s.adc, rtc);
+    let at = put_sources(words, at, f.sources);
+    let at = put_ref(words, at, chip, f.reference, s.reference);
+    let at = put_sys(words, at, s.board, f.sys, s.sys);
+    let at = put_peri(words, at, f.peri, s.peri);
+    let (usb, adc) = (u64::from(f.usb), u64::from(f.adc));
     let at = put_aux(
         words,
         at,
         kind::USB_DIVIDER,
         kind::USB_CONTROL,
         7,
-        f.usb as u64,
         usb,
+        s.usb,
     );
     let at = put_aux(
         words,
@@ -217,10 +206,10 @@ pub fn put_clocks(words: &mut Words, at: usize, s: Settings, f: Frequencies) -> 
         kind::ADC_DIVIDER,
         kind::ADC_CONTROL,
         8,
-        f.adc as u64,
         adc,
+        s.adc,
     );
     let at = put_rtc(words, at, chip, f.rtc, rtc);
-    let at = add1(words, at, kind::RELEASE, mask);
-    add1(words, at, kind::WAIT_RELEASED, mask)
+    let at = add(words, at, kind::RELEASE, [mask]);
+    add(words, at, kind::WAIT_RELEASED, [mask])
 }

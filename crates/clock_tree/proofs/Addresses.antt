@@ -10,7 +10,7 @@ use Rattle.base.proofs.Bools.{both_true, both_false}
 use Rattle.chip.specs.declared.Chip.{Chip}
 use Rattle.step.specs.declared.Step.{Step}
 use Rattle.registers.specs.declared.Access.{Access}
-use Rattle.registers.specs.Access.{access_of}
+use Rattle.registers.specs.Access.{access_of, op_of, address_of}
 use Rattle.registers.specs.Map.{RESET, PLL_PWR}
 use Rattle.clock_tree.specs.Machine.{written, held, done, carried_out}
 
@@ -46,8 +46,8 @@ outside x (z ∷ xs) ys h k =
 -- the addresses that an access may change: its register, and at RESET also PWR of the PLLs
 abbrev reaches : Chip → Answer Access → List ℕ
 reaches c (value a) =
-    pick (eqb a.op 1 || eqb a.op 2)
-    (a.address ∷ pick (eqb a.address (RESET c)) (PLL_PWR c 0 ∷ PLL_PWR c 1 ∷ []) []) []
+    pick (eqb (op_of a) 1 || eqb (op_of a) 2)
+    ((address_of a) ∷ pick (eqb (address_of a) (RESET c)) (PLL_PWR c 0 ∷ PLL_PWR c 1 ∷ []) []) []
 reaches c (refusal n) = []
 
 abbrev pub reach : Chip → List Step → List ℕ
@@ -70,7 +70,7 @@ done-keeps : (c : Chip) (access : Answer Access) (file : ℕ → ℕ) (x : ℕ)
     → member x (reaches c access) ≡ false → done c access file x ≡ file x
 done-keeps c (value a) file x e =
     let reset : ℕ = written a (file (RESET c)) in
-    keeps (eqb a.op 1 || eqb a.op 2) (eqb a.address (RESET c)) a.address x (PLL_PWR c 0) (PLL_PWR c 1)
+    keeps (eqb (op_of a) 1 || eqb (op_of a) 2) (eqb (address_of a) (RESET c)) (address_of a) x (PLL_PWR c 0) (PLL_PWR c 1)
     (held c 0 reset) (held c 1 reset) 0x2D (written a (file x)) (file x) e
 done-keeps c (refusal n) file x e = refl
 

@@ -1,4 +1,6 @@
 -- The values that the parts write give back each source and each divider of the settings.
+use Rattle.std.specs.Prelude.{Option, Some, None}
+use Rattle.config.specs.declared.RoscConfig.{RoscConfig}
 use mathlib.Core.{Bool.true, Bool.false, Path.◌≡◌, Path.refl, Path.ap, Path.ap₂, Path.◌∙◌}
 use mathlib.Core.List.{[], ◌∷◌}
 use Prim.Native.Nat.{ℕ, zero, suc, ◌+◌, ◌/◌, ◌%◌, ◌≤◌, ◌<◌}
@@ -12,9 +14,9 @@ use Rattle.divider.specs.{Clock.divided_hz, Gpout.gpout_whole}
 use Rattle.pll.specs.declared.PllConfig.{PllConfig}
 use Rattle.pll.specs.Setting.{valid_of}
 use Rattle.pll.proofs.Valid.{Valid, valid}
-use Rattle.config.specs.declared.{OptionRosc.OptionRosc, OptionPll.OptionPll, RefClkSrc.RefClkSrc, RefClkConfig.RefClkConfig}
+use Rattle.config.specs.declared.{RefClkSrc.RefClkSrc, RefClkConfig.RefClkConfig}
 use Rattle.config.specs.declared.{SysClkSrc.SysClkSrc, PeriClkSrc.PeriClkSrc, AuxClkSrc.AuxClkSrc, AuxClkConfig.AuxClkConfig}
-use Rattle.settings.specs.declared.{OptionCrystal.OptionCrystal, Sources.Sources}
+use Rattle.settings.specs.declared.{Crystal.Crystal, Sources.Sources}
 use Rattle.settings.specs.{Settings.ring_hz, Codes.ref_code, Codes.sys_select, Codes.sys_aux, Codes.peri_aux, Codes.aux_code}
 use Rattle.settings.specs.Frequencies.{pll_hz, sources_of, ref_source, ref_hz, sys_source, peri_source, aux_source}
 use Rattle.settings.proofs.Decoded.{Small}
@@ -82,34 +84,34 @@ pub pll-on : (c : Chip) (w : ℕ) (file : ℕ → ℕ) → held c w (file (RESET
     → pll_on c w file ≡ true
 pll-on c w file out power = rw (out, power)
 
-pll-true : (c : Chip) (w hz : ℕ) (o : OptionPll) (file : ℕ → ℕ) → pll_invalid hz o ≡ false
+pll-true : (c : Chip) (w hz : ℕ) (o : Option PllConfig) (file : ℕ → ℕ) → pll_invalid hz o ≡ false
     → held c w (file (RESET c)) ≡ false → PllSet c w o file → pll_from c w hz file ≡ pll_hz hz o
 unfolding pll_hz
-pll-true c w hz (OptionPll.Some p) file e out set =
+pll-true c w hz (Some p) file e out set =
     let is-valid = not-false (valid_of p hz) e in
     let r =
     pll-read p hz (file (PLL_CS c w)) (file (PLL_FBDIV_INT c w)) (file (PLL_PRIM c w)) (valid p hz is-valid)
     set.1 set.2 set.3 in
     rw (pll-on c w file out set.0, is-valid, r.refdiv, r.fbdiv, r.post1, r.post2)
-pll-true c w hz OptionPll.None file e out set = rw set
+pll-true c w hz None file e out set = rw set
 
 sources-are : (a b x y : ℕ) {a' b' x' y' : ℕ} → a ≡ a' → b ≡ b' → x ≡ x' → y ≡ y'
     → ◌≡◌ {A = Sources} (record { rosc = a; xosc = b; pll_sys = x; pll_usb = y })
     (record { rosc = a'; xosc = b'; pll_sys = x'; pll_usb = y' })
 sources-are a b x y e0 e1 e2 e3 = rw (e0, e1, e2, e3)
 
-pub sources-true : (c : Chip) (r : OptionRosc) (x : OptionCrystal) (file : ℕ → ℕ)
+pub sources-true : (c : Chip) (r : Option RoscConfig) (x : Option Crystal) (file : ℕ → ℕ)
     → sys_pll_invalid x ≡ false → usb_pll_invalid x ≡ false
     → held c 0 (file (RESET c)) ≡ false → held c 1 (file (RESET c)) ≡ false
     → pick (oscillates (file (ROSC_CTRL c))) (ring_hz r) 0 ≡ ring_hz r → CrystalSet c x file
     → sources_at c (sources_of r x).rosc (sources_of r x).xosc file ≡ sources_of r x
 unfolding sources_of sys_pll_invalid usb_pll_invalid
-sources-true c r (OptionCrystal.Some x) file e u out0 out1 ring set =
+sources-true c r (Some x) file e u out0 out1 ring set =
     let on : pick (oscillates (file (XOSC_CTRL c))) x.hz 0 ≡ x.hz = rw set.on in
     sources-are _ _ _ _ ring on
     (ap (λ (hz : ℕ). pll_from c 0 hz file) on ∙ pll-true c 0 x.hz x.sys file e out0 set.sys)
     (ap (λ (hz : ℕ). pll_from c 1 hz file) on ∙ pll-true c 1 x.hz x.usb file u out1 set.usb)
-sources-true c r OptionCrystal.None file e u out0 out1 ring set =
+sources-true c r None file e u out0 out1 ring set =
     let xosc : ℕ = pick (oscillates (file (XOSC_CTRL c))) 0 0 in
     sources-are _ _ _ _ ring (zero-hz (oscillates (file (XOSC_CTRL c))))
     (absent c 0 xosc file out0 set.0)

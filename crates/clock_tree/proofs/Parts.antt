@@ -1,5 +1,7 @@
 -- In each part of a sheet every step is one of the chip, and the part changes only its own registers; both follow
 -- from the kinds of its steps.
+use Rattle.std.specs.Prelude.{Option, Some, None}
+use Rattle.config.specs.declared.RoscConfig.{RoscConfig}
 use mathlib.Core.{Bool.Bool, Bool.true, Bool.false, Path.◌≡◌, Path.refl, List.List, List.[], List.◌∷◌, List.◌++◌}
 use Prim.Native.Nat.{ℕ}
 use lib.Dec.{eqb}
@@ -8,10 +10,11 @@ use Rattle.chip.specs.declared.{Chip.Chip, Chip.TheVariants.Rp2040, Chip.TheVari
 use Rattle.chip.specs.Chips.{facts_of}
 use Rattle.step.specs.declared.Step.{Step}
 use Rattle.step.specs.Kinds as kind
-use Rattle.config.specs.declared.{OptionRosc.OptionRosc, OptionPll.OptionPll, RefClkConfig.RefClkConfig}
-use Rattle.config.specs.declared.{SysClkSrc.SysClkSrc, Board.Board, OptionPeri.OptionPeri, OptionAux.OptionAux}
-use Rattle.config.specs.declared.OptionRtc.{OptionRtc}
-use Rattle.settings.specs.declared.{OptionCrystal.OptionCrystal, OptionCycles.OptionCycles, Sources.Sources}
+use Rattle.config.specs.declared.{RefClkConfig.RefClkConfig}
+use Rattle.pll.specs.declared.PllConfig.{PllConfig}
+use Rattle.config.specs.declared.{SysClkSrc.SysClkSrc, Board.Board, PeriClkSrc.PeriClkSrc, AuxClkConfig.AuxClkConfig}
+use Rattle.config.specs.declared.RtcClkConfig.{RtcClkConfig}
+use Rattle.settings.specs.declared.{Crystal.Crystal, Sources.Sources}
 use Rattle.settings.specs.Codes.{sys_select, sys_aux}
 use Rattle.registers.specs.declared.Access.{Access}
 use Rattle.registers.specs.Access.{has, rows, access_of}
@@ -86,53 +89,53 @@ unfolding access_of has rows head_part
 head Rp2040 = record { all = refl; inside = refl }
 head Rp235x = record { all = refl; inside = refl }
 
-pub ring : (c : Chip) (pass : ℕ) (r : OptionRosc) → Calm c (ring_own c) (ring_part pass r)
+pub ring : (c : Chip) (pass : ℕ) (r : Option RoscConfig) → Calm c (ring_own c) (ring_part pass r)
 unfolding access_of has rows ring_part
-ring Rp2040 pass (OptionRosc.Some r) = record { on = record { all = refl; inside = refl }; calm = λ test file. refl }
-ring Rp2040 pass OptionRosc.None = record { on = record { all = refl; inside = refl }; calm = λ test file. refl }
-ring Rp235x pass (OptionRosc.Some r) = record { on = record { all = refl; inside = refl }; calm = λ test file. refl }
-ring Rp235x pass OptionRosc.None = record { on = record { all = refl; inside = refl }; calm = λ test file. refl }
+ring Rp2040 pass (Some r) = record { on = record { all = refl; inside = refl }; calm = λ test file. refl }
+ring Rp2040 pass None = record { on = record { all = refl; inside = refl }; calm = λ test file. refl }
+ring Rp235x pass (Some r) = record { on = record { all = refl; inside = refl }; calm = λ test file. refl }
+ring Rp235x pass None = record { on = record { all = refl; inside = refl }; calm = λ test file. refl }
 
 -- a voltage that changes
-abbrev pub changed : Chip → Board → OptionCycles → List Step
+abbrev pub changed : Chip → Board → Option ℕ → List Step
 changed c b settling =
     step1 (facts_of c).voltage b.code ∷ (settling_steps settling ++ (step1 (facts_of c).brownout b.brownout ∷ []))
 
-voltage-of : (c : Chip) (b : Board) (same : Bool) (settling : OptionCycles)
+voltage-of : (c : Chip) (b : Board) (same : Bool) (settling : Option ℕ)
     → Calm c (voltage_own c) (pick same [] (changed c b settling))
 unfolding access_of has rows
 voltage-of Rp2040 b true settling = record { on = record { all = refl; inside = refl }; calm = λ test file. refl }
 voltage-of Rp235x b true settling = record { on = record { all = refl; inside = refl }; calm = λ test file. refl }
-voltage-of Rp2040 b false (OptionCycles.Some n) = record { on = record { all = refl; inside = refl }; calm = λ test file. refl }
-voltage-of Rp2040 b false OptionCycles.None = record { on = record { all = refl; inside = refl }; calm = λ test file. refl }
-voltage-of Rp235x b false (OptionCycles.Some n) = record { on = record { all = refl; inside = refl }; calm = λ test file. refl }
-voltage-of Rp235x b false OptionCycles.None = record { on = record { all = refl; inside = refl }; calm = λ test file. refl }
+voltage-of Rp2040 b false (Some n) = record { on = record { all = refl; inside = refl }; calm = λ test file. refl }
+voltage-of Rp2040 b false None = record { on = record { all = refl; inside = refl }; calm = λ test file. refl }
+voltage-of Rp235x b false (Some n) = record { on = record { all = refl; inside = refl }; calm = λ test file. refl }
+voltage-of Rp235x b false None = record { on = record { all = refl; inside = refl }; calm = λ test file. refl }
 
-pub voltage : (reading : ℕ) (b : Board) (settling : OptionCycles)
+pub voltage : (reading : ℕ) (b : Board) (settling : Option ℕ)
     → Calm b.chip (voltage_own b.chip) (voltage_part reading b settling)
 unfolding voltage_part
 voltage reading b settling = voltage-of b.chip b (eqb b.code reading) settling
 
 -- a crystal's part, by its PLLs
-abbrev pub crystal_steps : ℕ → OptionPll → OptionPll → List Step
+abbrev pub crystal_steps : ℕ → Option PllConfig → Option PllConfig → List Step
 crystal_steps delay a b =
     step1 kind.startup delay ∷ step0 kind.crystal_on ∷ step0 kind.wait_stable ∷ (pll_steps 0 a ++ pll_steps 1 b)
 
-crystal-of : (c : Chip) (delay : ℕ) (a b : OptionPll) → On c (crystal_own c) (crystal_steps delay a b)
+crystal-of : (c : Chip) (delay : ℕ) (a b : Option PllConfig) → On c (crystal_own c) (crystal_steps delay a b)
 unfolding access_of has rows
-crystal-of Rp2040 delay (OptionPll.Some p) (OptionPll.Some q) = record { all = refl; inside = refl }
-crystal-of Rp2040 delay (OptionPll.Some p) OptionPll.None = record { all = refl; inside = refl }
-crystal-of Rp2040 delay OptionPll.None (OptionPll.Some q) = record { all = refl; inside = refl }
-crystal-of Rp2040 delay OptionPll.None OptionPll.None = record { all = refl; inside = refl }
-crystal-of Rp235x delay (OptionPll.Some p) (OptionPll.Some q) = record { all = refl; inside = refl }
-crystal-of Rp235x delay (OptionPll.Some p) OptionPll.None = record { all = refl; inside = refl }
-crystal-of Rp235x delay OptionPll.None (OptionPll.Some q) = record { all = refl; inside = refl }
-crystal-of Rp235x delay OptionPll.None OptionPll.None = record { all = refl; inside = refl }
+crystal-of Rp2040 delay (Some p) (Some q) = record { all = refl; inside = refl }
+crystal-of Rp2040 delay (Some p) None = record { all = refl; inside = refl }
+crystal-of Rp2040 delay None (Some q) = record { all = refl; inside = refl }
+crystal-of Rp2040 delay None None = record { all = refl; inside = refl }
+crystal-of Rp235x delay (Some p) (Some q) = record { all = refl; inside = refl }
+crystal-of Rp235x delay (Some p) None = record { all = refl; inside = refl }
+crystal-of Rp235x delay None (Some q) = record { all = refl; inside = refl }
+crystal-of Rp235x delay None None = record { all = refl; inside = refl }
 
-pub crystal : (c : Chip) (x : OptionCrystal) → On c (crystal_own c) (crystal_part x)
+pub crystal : (c : Chip) (x : Option Crystal) → On c (crystal_own c) (crystal_part x)
 unfolding crystal_part
-crystal c (OptionCrystal.Some x) = crystal-of c x.delay x.sys x.usb
-crystal c OptionCrystal.None = record { all = refl; inside = refl }
+crystal c (Some x) = crystal-of c x.delay x.sys x.usb
+crystal c None = record { all = refl; inside = refl }
 
 pub source : (c : Chip) (f : Sources) → Calm c [] (source_part f)
 unfolding access_of has rows
@@ -163,33 +166,33 @@ pub system : (b : Board) (hz : ℕ) (src : SysClkSrc) → On b.chip (sys_own b.c
 unfolding sys_part switch_steps
 system b hz src = system-of b.chip (eqb (sys_select src) 0) hz (sys_aux src) (sys_select src) b.whole b.fraction
 
-pub peri : (c : Chip) (hz : ℕ) (o : OptionPeri) → Calm c (CLK_PERI_CTRL c ∷ []) (peri_part hz o)
+pub peri : (c : Chip) (hz : ℕ) (o : Option PeriClkSrc) → Calm c (CLK_PERI_CTRL c ∷ []) (peri_part hz o)
 unfolding access_of has rows peri_part
-peri Rp2040 hz (OptionPeri.Some src) = record { on = record { all = refl; inside = refl }; calm = λ test file. refl }
-peri Rp2040 hz OptionPeri.None = record { on = record { all = refl; inside = refl }; calm = λ test file. refl }
-peri Rp235x hz (OptionPeri.Some src) = record { on = record { all = refl; inside = refl }; calm = λ test file. refl }
-peri Rp235x hz OptionPeri.None = record { on = record { all = refl; inside = refl }; calm = λ test file. refl }
+peri Rp2040 hz (Some src) = record { on = record { all = refl; inside = refl }; calm = λ test file. refl }
+peri Rp2040 hz None = record { on = record { all = refl; inside = refl }; calm = λ test file. refl }
+peri Rp235x hz (Some src) = record { on = record { all = refl; inside = refl }; calm = λ test file. refl }
+peri Rp235x hz None = record { on = record { all = refl; inside = refl }; calm = λ test file. refl }
 
-pub usb : (c : Chip) (hz : ℕ) (o : OptionAux)
+pub usb : (c : Chip) (hz : ℕ) (o : Option AuxClkConfig)
     → Calm c (CLK_USB_CTRL c ∷ CLK_USB_DIV c ∷ []) (aux_part kind.usb_divider kind.usb_control 7 hz o)
 unfolding access_of has rows aux_part
-usb Rp2040 hz (OptionAux.Some a) = record { on = record { all = refl; inside = refl }; calm = λ test file. refl }
-usb Rp2040 hz OptionAux.None = record { on = record { all = refl; inside = refl }; calm = λ test file. refl }
-usb Rp235x hz (OptionAux.Some a) = record { on = record { all = refl; inside = refl }; calm = λ test file. refl }
-usb Rp235x hz OptionAux.None = record { on = record { all = refl; inside = refl }; calm = λ test file. refl }
+usb Rp2040 hz (Some a) = record { on = record { all = refl; inside = refl }; calm = λ test file. refl }
+usb Rp2040 hz None = record { on = record { all = refl; inside = refl }; calm = λ test file. refl }
+usb Rp235x hz (Some a) = record { on = record { all = refl; inside = refl }; calm = λ test file. refl }
+usb Rp235x hz None = record { on = record { all = refl; inside = refl }; calm = λ test file. refl }
 
-pub adc : (c : Chip) (hz : ℕ) (o : OptionAux)
+pub adc : (c : Chip) (hz : ℕ) (o : Option AuxClkConfig)
     → Calm c (CLK_ADC_CTRL c ∷ CLK_ADC_DIV c ∷ []) (aux_part kind.adc_divider kind.adc_control 8 hz o)
 unfolding access_of has rows aux_part
-adc Rp2040 hz (OptionAux.Some a) = record { on = record { all = refl; inside = refl }; calm = λ test file. refl }
-adc Rp2040 hz OptionAux.None = record { on = record { all = refl; inside = refl }; calm = λ test file. refl }
-adc Rp235x hz (OptionAux.Some a) = record { on = record { all = refl; inside = refl }; calm = λ test file. refl }
-adc Rp235x hz OptionAux.None = record { on = record { all = refl; inside = refl }; calm = λ test file. refl }
+adc Rp2040 hz (Some a) = record { on = record { all = refl; inside = refl }; calm = λ test file. refl }
+adc Rp2040 hz None = record { on = record { all = refl; inside = refl }; calm = λ test file. refl }
+adc Rp235x hz (Some a) = record { on = record { all = refl; inside = refl }; calm = λ test file. refl }
+adc Rp235x hz None = record { on = record { all = refl; inside = refl }; calm = λ test file. refl }
 
-pub rtc : (c : Chip) (hz : ℕ) (o : OptionRtc) → Calm c (CLK_RTC_CTRL ∷ CLK_RTC_DIV ∷ []) (rtc_part c hz o)
+pub rtc : (c : Chip) (hz : ℕ) (o : Option RtcClkConfig) → Calm c (CLK_RTC_CTRL ∷ CLK_RTC_DIV ∷ []) (rtc_part c hz o)
 unfolding access_of has rows rtc_part
-rtc Rp2040 hz (OptionRtc.Some r) = record { on = record { all = refl; inside = refl }; calm = λ test file. refl }
-rtc Rp2040 hz OptionRtc.None = record { on = record { all = refl; inside = refl }; calm = λ test file. refl }
+rtc Rp2040 hz (Some r) = record { on = record { all = refl; inside = refl }; calm = λ test file. refl }
+rtc Rp2040 hz None = record { on = record { all = refl; inside = refl }; calm = λ test file. refl }
 rtc Rp235x hz o = record { on = record { all = refl; inside = refl }; calm = λ test file. refl }
 
 pub last : (c : Chip) (mask : ℕ) → On c (last_own c) (last_part mask)

@@ -1,14 +1,16 @@
 -- The sources that run after each part, up to the crystal's part: the ring runs from the start, the crystal and the
 -- PLLs of the plan from their part on.
+use Rattle.std.specs.Prelude.{Option, Some, None}
+use Rattle.config.specs.declared.RoscConfig.{RoscConfig}
 use mathlib.Core.{Bool.Bool, Bool.true, Bool.false, Bool.◌&&◌, Bool.not, Path.◌≡◌, Path.refl, Path.ap, Path.◌∙◌}
 use mathlib.Core.List.{[], ◌∷◌}
 use Prim.Native.Nat.{ℕ, zero, suc}
 use lib.{Dec.eqb, ListN.get_or}
 use Rattle.base.proofs.Bools.{both_true}
 use Rattle.chip.specs.declared.{Chip.Chip, Chip.TheVariants.Rp2040, Chip.TheVariants.Rp235x}
-use Rattle.config.specs.declared.{OptionRosc.OptionRosc, OptionPll.OptionPll}
+use Rattle.pll.specs.declared.PllConfig.{PllConfig}
 use Rattle.config.specs.declared.{Board.Board}
-use Rattle.settings.specs.declared.{OptionCrystal.OptionCrystal, OptionCycles.OptionCycles, Sources.Sources}
+use Rattle.settings.specs.declared.{Crystal.Crystal, Sources.Sources}
 use Rattle.settings.specs.Frequencies.{pll_hz, sources_of}
 use Rattle.registers.specs.Access.{has, rows, access_of}
 use Rattle.registers.specs.Map.{RESET, XOSC_CTRL, ROSC_CTRL, CLK_REF_CTRL, CLK_SYS_CTRL, PLL_PWR}
@@ -111,15 +113,15 @@ head Rp235x =
       );
     }
 
-pub ring : (c : Chip) (pass : ℕ) (r : OptionRosc) → Walk c (source_runs c) (Headed c) (Headed c) (ring_part pass r)
+pub ring : (c : Chip) (pass : ℕ) (r : Option RoscConfig) → Walk c (source_runs c) (Headed c) (Headed c) (ring_part pass r)
 unfolding access_of has rows ring_part
-ring Rp2040 pass (OptionRosc.Some r) =
+ring Rp2040 pass (Some r) =
     record { walk = λ file p. (refl, record { ring = range-on r.range; reset = p.reset; sys = p.sys; usb = p.usb }) }
-ring Rp2040 pass OptionRosc.None =
+ring Rp2040 pass None =
     record { walk = λ file p. (refl, record { ring = p.ring; reset = p.reset; sys = p.sys; usb = p.usb }) }
-ring Rp235x pass (OptionRosc.Some r) =
+ring Rp235x pass (Some r) =
     record { walk = λ file p. (refl, record { ring = range-on r.range; reset = p.reset; sys = p.sys; usb = p.usb }) }
-ring Rp235x pass OptionRosc.None =
+ring Rp235x pass None =
     record { walk = λ file p. (refl, record { ring = p.ring; reset = p.reset; sys = p.sys; usb = p.usb }) }
 
 voltage-apart : (c : Chip) → (member (ROSC_CTRL c) (voltage_own c) ≡ false) × (member (RESET c) (voltage_own c) ≡ false)
@@ -127,7 +129,7 @@ voltage-apart : (c : Chip) → (member (ROSC_CTRL c) (voltage_own c) ≡ false) 
 voltage-apart Rp2040 = (refl, refl, refl, refl)
 voltage-apart Rp235x = (refl, refl, refl, refl)
 
-pub voltage : (reading : ℕ) (b : Board) (settling : OptionCycles)
+pub voltage : (reading : ℕ) (b : Board) (settling : Option ℕ)
     → Walk b.chip (source_runs b.chip) (Headed b.chip) (Headed b.chip) (voltage_part reading b settling)
 voltage reading b settling =
     let c : Chip = b.chip in
@@ -146,32 +148,32 @@ voltage reading b settling =
     }
 
 -- the crystal's part waits for no source
-crystal-quiet : (c : Chip) (delay : ℕ) (a b : OptionPll) (file : ℕ → ℕ) → all_waits c (source_runs c) (crystal_steps delay a b) file ≡ true
+crystal-quiet : (c : Chip) (delay : ℕ) (a b : Option PllConfig) (file : ℕ → ℕ) → all_waits c (source_runs c) (crystal_steps delay a b) file ≡ true
 unfolding access_of has rows
-crystal-quiet Rp2040 delay (OptionPll.Some p) (OptionPll.Some q) file = refl
-crystal-quiet Rp2040 delay (OptionPll.Some p) OptionPll.None file = refl
-crystal-quiet Rp2040 delay OptionPll.None (OptionPll.Some q) file = refl
-crystal-quiet Rp2040 delay OptionPll.None OptionPll.None file = refl
-crystal-quiet Rp235x delay (OptionPll.Some p) (OptionPll.Some q) file = refl
-crystal-quiet Rp235x delay (OptionPll.Some p) OptionPll.None file = refl
-crystal-quiet Rp235x delay OptionPll.None (OptionPll.Some q) file = refl
-crystal-quiet Rp235x delay OptionPll.None OptionPll.None file = refl
+crystal-quiet Rp2040 delay (Some p) (Some q) file = refl
+crystal-quiet Rp2040 delay (Some p) None file = refl
+crystal-quiet Rp2040 delay None (Some q) file = refl
+crystal-quiet Rp2040 delay None None file = refl
+crystal-quiet Rp235x delay (Some p) (Some q) file = refl
+crystal-quiet Rp235x delay (Some p) None file = refl
+crystal-quiet Rp235x delay None (Some q) file = refl
+crystal-quiet Rp235x delay None None file = refl
 
 -- the crystal's part keeps the ring and RESET
 crystal-apart : (c : Chip) → (member (ROSC_CTRL c) (crystal_own c) ≡ false) × (member (RESET c) (crystal_own c) ≡ false)
 crystal-apart Rp2040 = (refl, refl)
 crystal-apart Rp235x = (refl, refl)
 
-pll-runs : (c : Chip) (w hz : ℕ) (o : OptionPll) (file : ℕ → ℕ) → oscillates (file (XOSC_CTRL c)) ≡ true
+pll-runs : (c : Chip) (w hz : ℕ) (o : Option PllConfig) (file : ℕ → ℕ) → oscillates (file (XOSC_CTRL c)) ≡ true
     → held c w (file (RESET c)) ≡ false → PllSet c w o file → NonZero (pll_hz hz o) → pll_runs c w file ≡ true
 unfolding pll_hz
-pll-runs c w hz (OptionPll.Some p) file on out set nonzero = rw (on, pll-on c w file out set.0)
-pll-runs c w hz OptionPll.None file on out set nonzero = absurd (nonzero refl)
+pll-runs c w hz (Some p) file on out set nonzero = rw (on, pll-on c w file out set.0)
+pll-runs c w hz None file on out set nonzero = absurd (nonzero refl)
 
-running : (c : Chip) (r : OptionRosc) (x : OptionCrystal) (file : ℕ → ℕ) → oscillates (file (ROSC_CTRL c)) ≡ true
+running : (c : Chip) (r : Option RoscConfig) (x : Option Crystal) (file : ℕ → ℕ) → oscillates (file (ROSC_CTRL c)) ≡ true
     → file (RESET c) ≡ 0 → CrystalSet c x file → Running c (sources_of r x) file
 unfolding sources_of
-running c r (OptionCrystal.Some x) file on reset set =
+running c r (Some x) file on reset set =
     let out = held_none c (file (RESET c)) reset in
     record {
       ring = on;
@@ -179,7 +181,7 @@ running c r (OptionCrystal.Some x) file on reset set =
       sys = pll-runs c 0 x.hz x.sys file set.on out.0 set.sys;
       usb = pll-runs c 1 x.hz x.usb file set.on out.1 set.usb;
     }
-running c r OptionCrystal.None file on reset set =
+running c r None file on reset set =
     record {
       ring = on;
       xosc = λ nonzero. absurd (nonzero refl);
@@ -187,12 +189,12 @@ running c r OptionCrystal.None file on reset set =
       usb = λ nonzero. absurd (nonzero refl);
     }
 
-quiet : (c : Chip) (x : OptionCrystal) (file : ℕ → ℕ) → all_waits c (source_runs c) (crystal_part x) file ≡ true
+quiet : (c : Chip) (x : Option Crystal) (file : ℕ → ℕ) → all_waits c (source_runs c) (crystal_part x) file ≡ true
 unfolding crystal_part
-quiet c (OptionCrystal.Some x) file = crystal-quiet c x.delay x.sys x.usb file
-quiet c OptionCrystal.None file = refl
+quiet c (Some x) file = crystal-quiet c x.delay x.sys x.usb file
+quiet c None file = refl
 
-pub crystal : (c : Chip) (r : OptionRosc) (x : OptionCrystal)
+pub crystal : (c : Chip) (r : Option RoscConfig) (x : Option Crystal)
     → Walk c (source_runs c) (Headed c) (Running c (sources_of r x)) (crystal_part x)
 crystal c r x =
     let part = crystal_on c x in

@@ -1,4 +1,6 @@
 -- The registers after each part, by its steps, for either chip and from any file.
+use Rattle.std.specs.Prelude.{Option, Some, None}
+use Rattle.config.specs.declared.RoscConfig.{RoscConfig}
 use mathlib.Core.{Bool.Bool, Bool.true, Bool.false, Path.◌≡◌, Path.refl, Path.ap, Path.◌∙◌}
 use Prim.Native.Nat.{ℕ, ◌+◌, ◌-◌, ◌%◌}
 use native.Mathlib.Omega.{arith}
@@ -6,10 +8,11 @@ use lib.{Dec.eqb, Bits.bit_and}
 use Rattle.base.specs.Choice.{pick}
 use Rattle.chip.specs.declared.{Chip.Chip, Chip.TheVariants.Rp2040, Chip.TheVariants.Rp235x}
 use Rattle.step.specs.Kinds as kind
-use Rattle.config.specs.declared.{OptionRosc.OptionRosc, RoscRange.RoscRange, OptionPll.OptionPll, RefClkConfig.RefClkConfig}
-use Rattle.config.specs.declared.{SysClkSrc.SysClkSrc, Board.Board, PeriClkSrc.PeriClkSrc, OptionPeri.OptionPeri}
-use Rattle.config.specs.declared.{AuxClkConfig.AuxClkConfig, OptionAux.OptionAux, RtcClkConfig.RtcClkConfig, OptionRtc.OptionRtc}
-use Rattle.settings.specs.declared.OptionCrystal.{OptionCrystal}
+use Rattle.config.specs.declared.{RoscRange.RoscRange, RefClkConfig.RefClkConfig}
+use Rattle.pll.specs.declared.PllConfig.{PllConfig}
+use Rattle.config.specs.declared.{SysClkSrc.SysClkSrc, Board.Board, PeriClkSrc.PeriClkSrc}
+use Rattle.config.specs.declared.{AuxClkConfig.AuxClkConfig, RtcClkConfig.RtcClkConfig}
+use Rattle.settings.specs.declared.Crystal.{Crystal}
 use Rattle.settings.specs.{Settings.ring_hz, Codes.range_code, Codes.ref_code, Codes.sys_select, Codes.sys_aux, Codes.peri_aux, Codes.aux_code}
 use Rattle.registers.specs.Access.{has, rows, access_of}
 use Rattle.registers.specs.Map.{on, field, RESET, CLK_REF_CTRL, CLK_REF_DIV, CLK_SYS_CTRL, CLK_SYS_DIV, CLK_PERI_CTRL}
@@ -39,61 +42,61 @@ zero-hz true = refl
 zero-hz false = refl
 
 -- the ring oscillates
-pub ring-sets : (c : Chip) (pass : ℕ) (r : OptionRosc) (file : ℕ → ℕ)
+pub ring-sets : (c : Chip) (pass : ℕ) (r : Option RoscConfig) (file : ℕ → ℕ)
     → pick (oscillates (carried_out c (ring_part pass r) file (ROSC_CTRL c))) (ring_hz r) 0 ≡ ring_hz r
 unfolding access_of has rows ring_part
-ring-sets Rp2040 pass (OptionRosc.Some r) file = ap (λ (on : Bool). pick on r.hz 0) (range-on r.range)
-ring-sets Rp235x pass (OptionRosc.Some r) file = ap (λ (on : Bool). pick on r.hz 0) (range-on r.range)
-ring-sets c pass OptionRosc.None file = zero-hz (oscillates (carried_out c (ring_part pass OptionRosc.None) file (ROSC_CTRL c)))
+ring-sets Rp2040 pass (Some r) file = ap (λ (on : Bool). pick on r.hz 0) (range-on r.range)
+ring-sets Rp235x pass (Some r) file = ap (λ (on : Bool). pick on r.hz 0) (range-on r.range)
+ring-sets c pass None file = zero-hz (oscillates (carried_out c (ring_part pass None) file (ROSC_CTRL c)))
 
 -- the registers of a PLL hold its setting; an absent PLL has no power
-abbrev pub PllSet : Chip → ℕ → OptionPll → (ℕ → ℕ) → Type 0
-PllSet c w (OptionPll.Some p) file =
+abbrev pub PllSet : Chip → ℕ → Option PllConfig → (ℕ → ℕ) → Type 0
+PllSet c w (Some p) file =
     (file (PLL_PWR c w) ≡ 4)
     × (file (PLL_CS c w) ≡ REFDIV p.refdiv)
     × (file (PLL_FBDIV_INT c w) ≡ FBDIV p.fbdiv)
     × (file (PLL_PRIM c w) ≡ POSTDIV1 p.post_div1 + POSTDIV2 p.post_div2)
-PllSet c w OptionPll.None file = file (PLL_PWR c w) ≡ 0x2D
+PllSet c w None file = file (PLL_PWR c w) ≡ 0x2D
 
 -- the same for another file that agrees on these registers
-pub pll-moves : (c : Chip) (w : ℕ) (o : OptionPll) (f g : ℕ → ℕ) → f (PLL_PWR c w) ≡ g (PLL_PWR c w)
+pub pll-moves : (c : Chip) (w : ℕ) (o : Option PllConfig) (f g : ℕ → ℕ) → f (PLL_PWR c w) ≡ g (PLL_PWR c w)
     → f (PLL_CS c w) ≡ g (PLL_CS c w) → f (PLL_FBDIV_INT c w) ≡ g (PLL_FBDIV_INT c w) → f (PLL_PRIM c w) ≡ g (PLL_PRIM c w)
     → PllSet c w o g → PllSet c w o f
-pll-moves c w (OptionPll.Some p) f g e0 e1 e2 e3 h = (e0 ∙ h.0, e1 ∙ h.1, e2 ∙ h.2, e3 ∙ h.3)
-pll-moves c w OptionPll.None f g e0 e1 e2 e3 h = e0 ∙ h
+pll-moves c w (Some p) f g e0 e1 e2 e3 h = (e0 ∙ h.0, e1 ∙ h.1, e2 ∙ h.2, e3 ∙ h.3)
+pll-moves c w None f g e0 e1 e2 e3 h = e0 ∙ h
 
-pub record Plls (c : Chip) (a b : OptionPll) (file : ℕ → ℕ) : Type 0 where
+pub record Plls (c : Chip) (a b : Option PllConfig) (file : ℕ → ℕ) : Type 0 where
   pub on : oscillates (file (XOSC_CTRL c)) ≡ true
   pub sys : PllSet c 0 a file
   pub usb : PllSet c 1 b file
 
-crystal-of : (c : Chip) (delay : ℕ) (a b : OptionPll) (file : ℕ → ℕ)
+crystal-of : (c : Chip) (delay : ℕ) (a b : Option PllConfig) (file : ℕ → ℕ)
     → file (PLL_PWR c 0) ≡ 0x2D → file (PLL_PWR c 1) ≡ 0x2D → Plls c a b (carried_out c (crystal_steps delay a b) file)
 unfolding access_of has rows
-crystal-of Rp2040 delay (OptionPll.Some p) (OptionPll.Some q) file h k =
+crystal-of Rp2040 delay (Some p) (Some q) file h k =
     record { on = refl; sys = (refl, refl, refl, refl); usb = (refl, refl, refl, refl) }
-crystal-of Rp2040 delay (OptionPll.Some p) OptionPll.None file h k =
+crystal-of Rp2040 delay (Some p) None file h k =
     record { on = refl; sys = (refl, refl, refl, refl); usb = k }
-crystal-of Rp2040 delay OptionPll.None (OptionPll.Some q) file h k =
+crystal-of Rp2040 delay None (Some q) file h k =
     record { on = refl; sys = h; usb = (refl, refl, refl, refl) }
-crystal-of Rp2040 delay OptionPll.None OptionPll.None file h k = record { on = refl; sys = h; usb = k }
-crystal-of Rp235x delay (OptionPll.Some p) (OptionPll.Some q) file h k =
+crystal-of Rp2040 delay None None file h k = record { on = refl; sys = h; usb = k }
+crystal-of Rp235x delay (Some p) (Some q) file h k =
     record { on = refl; sys = (refl, refl, refl, refl); usb = (refl, refl, refl, refl) }
-crystal-of Rp235x delay (OptionPll.Some p) OptionPll.None file h k =
+crystal-of Rp235x delay (Some p) None file h k =
     record { on = refl; sys = (refl, refl, refl, refl); usb = k }
-crystal-of Rp235x delay OptionPll.None (OptionPll.Some q) file h k =
+crystal-of Rp235x delay None (Some q) file h k =
     record { on = refl; sys = h; usb = (refl, refl, refl, refl) }
-crystal-of Rp235x delay OptionPll.None OptionPll.None file h k = record { on = refl; sys = h; usb = k }
+crystal-of Rp235x delay None None file h k = record { on = refl; sys = h; usb = k }
 
-abbrev pub CrystalSet : Chip → OptionCrystal → (ℕ → ℕ) → Type 0
-CrystalSet c (OptionCrystal.Some x) file = Plls c x.sys x.usb file
-CrystalSet c OptionCrystal.None file = (PllSet c 0 OptionPll.None file) × (PllSet c 1 OptionPll.None file)
+abbrev pub CrystalSet : Chip → Option Crystal → (ℕ → ℕ) → Type 0
+CrystalSet c (Some x) file = Plls c x.sys x.usb file
+CrystalSet c None file = (PllSet c 0 None file) × (PllSet c 1 None file)
 
-pub crystal-sets : (c : Chip) (x : OptionCrystal) (file : ℕ → ℕ)
+pub crystal-sets : (c : Chip) (x : Option Crystal) (file : ℕ → ℕ)
     → file (PLL_PWR c 0) ≡ 0x2D → file (PLL_PWR c 1) ≡ 0x2D → CrystalSet c x (carried_out c (crystal_part x) file)
 unfolding crystal_part
-crystal-sets c (OptionCrystal.Some x) file h k = crystal-of c x.delay x.sys x.usb file h k
-crystal-sets c OptionCrystal.None file h k = (h, k)
+crystal-sets c (Some x) file h k = crystal-of c x.delay x.sys x.usb file h k
+crystal-sets c None file h k = (h, k)
 
 pub ref-sets : (c : Chip) (hz : ℕ) (r : RefClkConfig) (file : ℕ → ℕ) → let after = carried_out c (ref_part c hz r) file in
     (after (CLK_REF_CTRL c) ≡ REF_SRC (ref_code r.src)) × (after (CLK_REF_DIV c) ≡ INT c (r.div % 4))
@@ -122,7 +125,7 @@ sys-sets b hz src file =
     system-of b.chip (eqb (sys_select src) 0) hz (sys_aux src) (sys_select src) b.whole b.fraction file
 
 pub peri-sets : (c : Chip) (hz : ℕ) (src : PeriClkSrc) (file : ℕ → ℕ)
-    → carried_out c (peri_part hz (OptionPeri.Some src)) file (CLK_PERI_CTRL c) ≡ AUXSRC (peri_aux src) + ENABLE
+    → carried_out c (peri_part hz (Some src)) file (CLK_PERI_CTRL c) ≡ AUXSRC (peri_aux src) + ENABLE
 unfolding access_of has rows peri_part
 peri-sets Rp2040 hz src file = refl
 peri-sets Rp235x hz src file = refl
@@ -132,39 +135,39 @@ abbrev pub control : ℕ → ℕ → ℕ
 control phase aux = PHASE phase + AUXSRC aux + ENABLE
 
 pub usb-sets : (c : Chip) (hz : ℕ) (a : AuxClkConfig) (file : ℕ → ℕ)
-    → let after = carried_out c (aux_part kind.usb_divider kind.usb_control 7 hz (OptionAux.Some a)) file in
+    → let after = carried_out c (aux_part kind.usb_divider kind.usb_control 7 hz (Some a)) file in
     (after (CLK_USB_CTRL c) ≡ control a.phase (aux_code a.src)) × (after (CLK_USB_DIV c) ≡ INT c (a.div % 4))
 unfolding access_of has rows aux_part
 usb-sets Rp2040 hz a file = (refl, refl)
 usb-sets Rp235x hz a file = (refl, refl)
 
 pub adc-sets : (c : Chip) (hz : ℕ) (a : AuxClkConfig) (file : ℕ → ℕ)
-    → let after = carried_out c (aux_part kind.adc_divider kind.adc_control 8 hz (OptionAux.Some a)) file in
+    → let after = carried_out c (aux_part kind.adc_divider kind.adc_control 8 hz (Some a)) file in
     (after (CLK_ADC_CTRL c) ≡ control a.phase (aux_code a.src)) × (after (CLK_ADC_DIV c) ≡ INT c (a.div % 4))
 unfolding access_of has rows aux_part
 adc-sets Rp2040 hz a file = (refl, refl)
 adc-sets Rp235x hz a file = (refl, refl)
 
 pub rtc-sets : (hz : ℕ) (r : RtcClkConfig) (file : ℕ → ℕ)
-    → let after = carried_out Rp2040 (rtc_part Rp2040 hz (OptionRtc.Some r)) file in
+    → let after = carried_out Rp2040 (rtc_part Rp2040 hz (Some r)) file in
     (after CLK_RTC_CTRL ≡ control r.phase (aux_code r.src))
     × (after CLK_RTC_DIV ≡ packed Rp2040 r.div_int r.div_frac)
 unfolding access_of has rows rtc_part
 rtc-sets hz r file = (refl, refl)
 
 -- the part of a clock that the plan lacks sets nothing
-pub peri-absent : (c : Chip) (hz : ℕ) (file : ℕ → ℕ) (x : ℕ) → carried_out c (peri_part hz OptionPeri.None) file x ≡ file x
+pub peri-absent : (c : Chip) (hz : ℕ) (file : ℕ → ℕ) (x : ℕ) → carried_out c (peri_part hz None) file x ≡ file x
 unfolding access_of has rows peri_part
 peri-absent Rp2040 hz file x = refl
 peri-absent Rp235x hz file x = refl
 
 pub aux-absent : (c : Chip) (divider set clock hz : ℕ) (file : ℕ → ℕ) (x : ℕ)
-    → carried_out c (aux_part divider set clock hz OptionAux.None) file x ≡ file x
+    → carried_out c (aux_part divider set clock hz None) file x ≡ file x
 unfolding access_of has rows aux_part
 aux-absent Rp2040 divider set clock hz file x = refl
 aux-absent Rp235x divider set clock hz file x = refl
 
-pub rtc-absent : (c : Chip) (hz : ℕ) (file : ℕ → ℕ) (x : ℕ) → carried_out c (rtc_part c hz OptionRtc.None) file x ≡ file x
+pub rtc-absent : (c : Chip) (hz : ℕ) (file : ℕ → ℕ) (x : ℕ) → carried_out c (rtc_part c hz None) file x ≡ file x
 unfolding access_of has rows rtc_part
 rtc-absent Rp2040 hz file x = refl
 rtc-absent Rp235x hz file x = refl

@@ -1,5 +1,7 @@
 -- The stored frequencies are true: the last part that writes a register of the clock tree fixes its value, and that
 -- value gives the stored frequency.
+use Rattle.std.specs.Prelude.{Option, Some, None}
+use Rattle.config.specs.declared.PeriClkSrc.{PeriClkSrc}
 use mathlib.Core.{Bool.Bool, Bool.false, Bool.◌||◌, Path.◌≡◌, Path.refl, Path.ap, Path.◌∙◌}
 use mathlib.Core.List.{List, [], ◌∷◌}
 use Prim.Native.Nat.{ℕ, suc, ◌≤◌}
@@ -9,10 +11,11 @@ use Rattle.base.proofs.Bools.{both_false}
 use Rattle.chip.specs.declared.{Chip.Chip, Chip.TheVariants.Rp2040, Chip.TheVariants.Rp235x}
 use Rattle.chip.specs.Chips.{facts_of}
 use Rattle.step.specs.Kinds as kind
-use Rattle.config.specs.declared.{ChipConfig.ChipConfig, OptionPll.OptionPll, OptionPeri.OptionPeri}
+use Rattle.config.specs.declared.{ChipConfig.ChipConfig}
+use Rattle.pll.specs.declared.PllConfig.{PllConfig}
 use Rattle.config.specs.Board.{board_of}
-use Rattle.config.specs.declared.{OptionAux.OptionAux, RtcClkConfig.RtcClkConfig, OptionRtc.OptionRtc}
-use Rattle.settings.specs.declared.{Settings.Settings, Sources.Sources, Frequencies.Frequencies, OptionCrystal.OptionCrystal}
+use Rattle.config.specs.declared.{AuxClkConfig.AuxClkConfig, RtcClkConfig.RtcClkConfig}
+use Rattle.settings.specs.declared.{Settings.Settings, Sources.Sources, Frequencies.Frequencies, Crystal.Crystal}
 use Rattle.settings.specs.{Settings.settings_of, Settings.ring_hz, Typed.Typed, Typed.RtcTyped}
 use Rattle.settings.specs.Frequencies.{sys_hz, peri_hz, aux_hz, rtc_hz, sources_in, ref_in, sys_in, frequencies_of}
 use Rattle.settings.proofs.Decoded.{AuxSmall}
@@ -121,12 +124,12 @@ ended reading s before =
     }
 
 -- the crystal's part and its PLLs, at the sheet's end
-crystal-moves : (c : Chip) (x : OptionCrystal) (f g : ℕ → ℕ) → f (XOSC_CTRL c) ≡ g (XOSC_CTRL c)
-    → ((o : OptionPll) → PllSet c 0 o g → PllSet c 0 o f) → ((o : OptionPll) → PllSet c 1 o g → PllSet c 1 o f)
+crystal-moves : (c : Chip) (x : Option Crystal) (f g : ℕ → ℕ) → f (XOSC_CTRL c) ≡ g (XOSC_CTRL c)
+    → ((o : Option PllConfig) → PllSet c 0 o g → PllSet c 0 o f) → ((o : Option PllConfig) → PllSet c 1 o g → PllSet c 1 o f)
     → CrystalSet c x g → CrystalSet c x f
-crystal-moves c (OptionCrystal.Some x) f g e sys usb h =
+crystal-moves c (Some x) f g e sys usb h =
     record { on = ap oscillates e ∙ h.on; sys = sys x.sys h.sys; usb = usb x.usb h.usb }
-crystal-moves c OptionCrystal.None f g e sys usb h = (sys OptionPll.None h.0, usb OptionPll.None h.1)
+crystal-moves c None f g e sys usb h = (sys None h.0, usb None h.1)
 
 crystal-ends : (reading : ℕ) (s : Settings) (before : ℕ → ℕ)
     → CrystalSet s.board.chip s.xosc (up_to 13 reading s before)
@@ -172,49 +175,49 @@ divider-same : (c : Chip) (f g : ℕ → ℕ) → f CLK_PERI_DIV ≡ g CLK_PERI_
 divider-same Rp2040 f g e = refl
 divider-same Rp235x f g e = ap (int_from Rp235x 2) e
 
-peri-runs : (c : Chip) (hz : ℕ) (o : OptionPeri) (f : Sources) (now system divider : ℕ) (file before after : ℕ → ℕ)
+peri-runs : (c : Chip) (hz : ℕ) (o : Option PeriClkSrc) (f : Sources) (now system divider : ℕ) (file before after : ℕ → ℕ)
     → after (CLK_PERI_CTRL c) ≡ carried_out c (peri_part hz o) file (CLK_PERI_CTRL c)
     → file (CLK_PERI_CTRL c) ≡ before (CLK_PERI_CTRL c) → now ≡ system → divider ≡ 1
     → Runs (has_peri o) (peri_from f now (after (CLK_PERI_CTRL c)) divider) (peri_hz f system o) (CLK_PERI_CTRL c) before after
-peri-runs c hz (OptionPeri.Some src) f now system divider file before after e0 e1 e2 e3 =
+peri-runs c hz (Some src) f now system divider file before after e0 e1 e2 e3 =
     ap (λ (n : ℕ). peri_from f n (after (CLK_PERI_CTRL c)) divider) e2
     ∙ peri-true f system src (after (CLK_PERI_CTRL c)) divider (e0 ∙ peri-sets c hz src file) e3
-peri-runs c hz OptionPeri.None f now system divider file before after e0 e1 e2 e3 =
+peri-runs c hz None f now system divider file before after e0 e1 e2 e3 =
     e0 ∙ peri-absent c hz file (CLK_PERI_CTRL c) ∙ e1
 
-usb-runs : (c : Chip) (hz : ℕ) (o : OptionAux) (f : Sources) (file before after : ℕ → ℕ) → AuxSmall o
+usb-runs : (c : Chip) (hz : ℕ) (o : Option AuxClkConfig) (f : Sources) (file before after : ℕ → ℕ) → AuxSmall o
     → let set = carried_out c (aux_part kind.usb_divider kind.usb_control 7 hz o) file in
     after (CLK_USB_CTRL c) ≡ set (CLK_USB_CTRL c) → after (CLK_USB_DIV c) ≡ set (CLK_USB_DIV c)
     → file (CLK_USB_CTRL c) ≡ before (CLK_USB_CTRL c)
     → Runs (has_aux o) (usb_at c f after) (aux_hz f o) (CLK_USB_CTRL c) before after
-usb-runs c hz (OptionAux.Some a) f file before after small e0 e1 e2 =
+usb-runs c hz (Some a) f file before after small e0 e1 e2 =
     let set = usb-sets c hz a file in
     aux-true c f a (after (CLK_USB_CTRL c)) (after (CLK_USB_DIV c)) small (e0 ∙ set.0) (e1 ∙ set.1)
-usb-runs c hz OptionAux.None f file before after small e0 e1 e2 =
+usb-runs c hz None f file before after small e0 e1 e2 =
     e0 ∙ aux-absent c kind.usb_divider kind.usb_control 7 hz file (CLK_USB_CTRL c) ∙ e2
 
-adc-runs : (c : Chip) (hz : ℕ) (o : OptionAux) (f : Sources) (file before after : ℕ → ℕ) → AuxSmall o
+adc-runs : (c : Chip) (hz : ℕ) (o : Option AuxClkConfig) (f : Sources) (file before after : ℕ → ℕ) → AuxSmall o
     → let set = carried_out c (aux_part kind.adc_divider kind.adc_control 8 hz o) file in
     after (CLK_ADC_CTRL c) ≡ set (CLK_ADC_CTRL c) → after (CLK_ADC_DIV c) ≡ set (CLK_ADC_DIV c)
     → file (CLK_ADC_CTRL c) ≡ before (CLK_ADC_CTRL c)
     → Runs (has_aux o) (adc_at c f after) (aux_hz f o) (CLK_ADC_CTRL c) before after
-adc-runs c hz (OptionAux.Some a) f file before after small e0 e1 e2 =
+adc-runs c hz (Some a) f file before after small e0 e1 e2 =
     let set = adc-sets c hz a file in
     aux-true c f a (after (CLK_ADC_CTRL c)) (after (CLK_ADC_DIV c)) small (e0 ∙ set.0) (e1 ∙ set.1)
-adc-runs c hz OptionAux.None f file before after small e0 e1 e2 =
+adc-runs c hz None f file before after small e0 e1 e2 =
     e0 ∙ aux-absent c kind.adc_divider kind.adc_control 8 hz file (CLK_ADC_CTRL c) ∙ e2
 
 -- only a plan for the RP2040 has an RTC
-abbrev RtcOf : Chip → OptionRtc → Type 0
+abbrev RtcOf : Chip → Option RtcClkConfig → Type 0
 RtcOf Rp2040 o = Unit {0}
-RtcOf Rp235x (OptionRtc.Some r) = ⊥
-RtcOf Rp235x OptionRtc.None = Unit {0}
+RtcOf Rp235x (Some r) = ⊥
+RtcOf Rp235x None = Unit {0}
 
 rtc-of : (k : ChipConfig) → RtcOf (board_of k).chip (board_of k).rtc
 rtc-of (ChipConfig.Rp2040 k) = tt
 rtc-of (ChipConfig.Rp235x k) = tt
 
-rtc-whole : (source hz : ℕ) (r : RtcClkConfig) → rtc_bad source hz (OptionRtc.Some r) ≡ false
+rtc-whole : (source hz : ℕ) (r : RtcClkConfig) → rtc_bad source hz (Some r) ≡ false
     → (1 ≤ r.div_int) × (r.div_int ≤ 16777215)
 unfolding rtc_bad
 rtc-whole source hz r e =
@@ -223,18 +226,18 @@ rtc-whole source hz r e =
     let h2 = none_more (still || whole_bad 16777215 r.div_int) 3 r.phase h3.0 in
     whole-good 16777215 r.div_int (both_false still (whole_bad 16777215 r.div_int) h2.0).1
 
-rtc-runs : (c : Chip) (source hz : ℕ) (o : OptionRtc) (f : Sources) (file before after : ℕ → ℕ)
+rtc-runs : (c : Chip) (source hz : ℕ) (o : Option RtcClkConfig) (f : Sources) (file before after : ℕ → ℕ)
     → RtcOf c o → RtcTyped o → rtc_bad source hz o ≡ false
     → let set = carried_out c (rtc_part c hz o) file in
     after CLK_RTC_CTRL ≡ set CLK_RTC_CTRL → after CLK_RTC_DIV ≡ set CLK_RTC_DIV → file CLK_RTC_CTRL ≡ before CLK_RTC_CTRL
     → Runs (has_rtc o) (rtc_at f after) (rtc_hz f o) CLK_RTC_CTRL before after
-rtc-runs Rp2040 source hz (OptionRtc.Some r) f file before after one typed good e0 e1 e2 =
+rtc-runs Rp2040 source hz (Some r) f file before after one typed good e0 e1 e2 =
     let set = rtc-sets hz r file in
     let w = rtc-whole source hz r good in
     rtc-true f r.src r.phase r.div_int r.div_frac (after CLK_RTC_CTRL) (after CLK_RTC_DIV) w.0 w.1 typed
     (e0 ∙ set.0) (e1 ∙ set.1)
-rtc-runs Rp235x source hz (OptionRtc.Some r) f file before after one typed good e0 e1 e2 = absurd one
-rtc-runs c source hz OptionRtc.None f file before after one typed good e0 e1 e2 =
+rtc-runs Rp235x source hz (Some r) f file before after one typed good e0 e1 e2 = absurd one
+rtc-runs c source hz None f file before after one typed good e0 e1 e2 =
     e0 ∙ rtc-absent c hz file CLK_RTC_CTRL ∙ e2
 
 -- ---- all clocks, over the sources that the sheet stores

@@ -1,5 +1,7 @@
 -- No wait of a sheet is endless, since this holds of each part. From the head on nothing is in reset, which the PLLs
 -- and the last release need; every other condition of a wait is set in its own part.
+use Rattle.std.specs.Prelude.{Option, Some, None}
+use Rattle.config.specs.declared.RoscConfig.{RoscConfig}
 use mathlib.Core.{Bool.Bool, Bool.true, Bool.false, Bool.◌&&◌, Bool.not, Path.◌≡◌, Path.refl, Path.ap, Path.◌∙◌}
 use mathlib.Core.List.{List, [], ◌∷◌, ◌++◌}
 use Prim.Native.Nat.{ℕ, ◌+◌, ◌-◌, ◌%◌, ◌^◌}
@@ -17,9 +19,9 @@ use Rattle.pll.specs.declared.PllConfig.{PllConfig}
 use Rattle.pll.specs.{Ranges.reference_min, Ranges.reference_max, Ranges.vco_min, Ranges.vco_max}
 use Rattle.pll.specs.Setting.{reference_of, vco_of, valid_of}
 use Rattle.pll.proofs.Valid.{Valid, valid}
-use Rattle.config.specs.declared.{OptionRosc.OptionRosc, OptionPll.OptionPll, RefClkConfig.RefClkConfig}
+use Rattle.config.specs.declared.{RefClkConfig.RefClkConfig}
 use Rattle.config.specs.declared.{SysClkSrc.SysClkSrc, Board.Board}
-use Rattle.settings.specs.declared.{OptionCrystal.OptionCrystal, Frequencies.Frequencies}
+use Rattle.settings.specs.declared.{Crystal.Crystal, Frequencies.Frequencies}
 use Rattle.settings.specs.{Settings.settings_of, Codes.ref_code, Codes.sys_select, Codes.sys_aux}
 use Rattle.settings.specs.Frequencies.{sources_of, sources_in, frequencies_of}
 use Rattle.refusals.specs.Rules.{pll_invalid, sys_pll_invalid, usb_pll_invalid}
@@ -121,10 +123,10 @@ record Lit (c : Chip) (file : ℕ → ℕ) : Type 0 where
   on : oscillates (file (XOSC_CTRL c)) ≡ true
 
 -- a PLL's steps, by whether it is the USB PLL
-pll : (c : Chip) (usb : Bool) (hz : ℕ) (o : OptionPll) → pll_invalid hz o ≡ false
+pll : (c : Chip) (usb : Bool) (hz : ℕ) (o : Option PllConfig) → pll_invalid hz o ≡ false
     → Walk c (can_come c hz) (Lit c) (Lit c) (pll_steps (bit usb) o)
 unfolding access_of has rows
-pll Rp2040 false hz (OptionPll.Some p) e = record {
+pll Rp2040 false hz (Some p) e = record {
   walk = λ file lit. (
     ap (λ (b : Bool). b && true)
         (pll-locks Rp2040 0 hz p (carried_out Rp2040 (powered 0 p) file) (valid p hz (not-false (valid_of p hz) e))
@@ -132,7 +134,7 @@ pll Rp2040 false hz (OptionPll.Some p) e = record {
     record { reset = lit.reset; on = lit.on },
   );
 }
-pll Rp2040 true hz (OptionPll.Some p) e = record {
+pll Rp2040 true hz (Some p) e = record {
   walk = λ file lit. (
     ap (λ (b : Bool). b && true)
         (pll-locks Rp2040 1 hz p (carried_out Rp2040 (powered 1 p) file) (valid p hz (not-false (valid_of p hz) e))
@@ -140,7 +142,7 @@ pll Rp2040 true hz (OptionPll.Some p) e = record {
     record { reset = lit.reset; on = lit.on },
   );
 }
-pll Rp235x false hz (OptionPll.Some p) e = record {
+pll Rp235x false hz (Some p) e = record {
   walk = λ file lit. (
     ap (λ (b : Bool). b && true)
         (pll-locks Rp235x 0 hz p (carried_out Rp235x (powered 0 p) file) (valid p hz (not-false (valid_of p hz) e))
@@ -148,7 +150,7 @@ pll Rp235x false hz (OptionPll.Some p) e = record {
     record { reset = lit.reset; on = lit.on },
   );
 }
-pll Rp235x true hz (OptionPll.Some p) e = record {
+pll Rp235x true hz (Some p) e = record {
   walk = λ file lit. (
     ap (λ (b : Bool). b && true)
         (pll-locks Rp235x 1 hz p (carried_out Rp235x (powered 1 p) file) (valid p hz (not-false (valid_of p hz) e))
@@ -156,9 +158,9 @@ pll Rp235x true hz (OptionPll.Some p) e = record {
     record { reset = lit.reset; on = lit.on },
   );
 }
-pll c usb hz OptionPll.None e = record { walk = λ file lit. (refl, lit) }
+pll c usb hz None e = record { walk = λ file lit. (refl, lit) }
 
-plls : (c : Chip) (hz : ℕ) (a b : OptionPll) → pll_invalid hz a ≡ false → pll_invalid hz b ≡ false
+plls : (c : Chip) (hz : ℕ) (a b : Option PllConfig) → pll_invalid hz a ≡ false → pll_invalid hz b ≡ false
     → Walk c (can_come c hz) (Lit c) (Lit c) (pll_steps 0 a ++ pll_steps 1 b)
 plls c hz a b e u = pll c false hz a e then pll c true hz b u
 
@@ -166,7 +168,7 @@ plls c hz a b e u = pll c false hz a e then pll c true hz b u
 abbrev started : ℕ → List Step
 started delay = step1 kind.startup delay ∷ step0 kind.crystal_on ∷ step0 kind.wait_stable ∷ []
 
-crystal-of : (c : Chip) (hz delay : ℕ) (a b : OptionPll) → pll_invalid hz a ≡ false → pll_invalid hz b ≡ false
+crystal-of : (c : Chip) (hz delay : ℕ) (a b : Option PllConfig) → pll_invalid hz a ≡ false → pll_invalid hz b ≡ false
     → Comes c hz (crystal_steps delay a b)
 unfolding access_of has rows
 crystal-of Rp2040 hz delay a b e u =
@@ -182,11 +184,11 @@ crystal-of Rp235x hz delay a b e u =
           (rest.0, record { reset = rest.1.reset });
     }
 
-crystal : (c : Chip) (r : OptionRosc) (x : OptionCrystal) → sys_pll_invalid x ≡ false → usb_pll_invalid x ≡ false
+crystal : (c : Chip) (r : Option RoscConfig) (x : Option Crystal) → sys_pll_invalid x ≡ false → usb_pll_invalid x ≡ false
     → Comes c (sources_of r x).xosc (crystal_part x)
 unfolding crystal_part sources_of sys_pll_invalid usb_pll_invalid
-crystal c r (OptionCrystal.Some x) e u = crystal-of c x.hz x.delay x.sys x.usb e u
-crystal c r OptionCrystal.None e u = record { walk = λ file p. (refl, p) }
+crystal c r (Some x) e u = crystal-of c x.hz x.delay x.sys x.usb e u
+crystal c r None e u = record { walk = λ file p. (refl, p) }
 
 -- ---- the clocks
 

@@ -6,7 +6,7 @@ use Rattle.base.specs.{Choice.pick, Answer.Answer, Answer.value, Answer.refusal}
 use Rattle.chip.specs.declared.Chip.{Chip}
 use Rattle.step.specs.declared.Step.{Step}
 use Rattle.registers.specs.declared.Access.{Access}
-use Rattle.registers.specs.Access.{access_of}
+use Rattle.registers.specs.Access.{access_of, op_of, address_of, mask_of, value_of}
 use Rattle.registers.specs.Map.{on, RESET, PLL_PWR}
 
 -- the value of a field of a register: its lowest bit, its width, the register's value
@@ -15,11 +15,11 @@ bits_at low width v = v / 2 ^ low % 2 ^ width
 
 -- whether an access changes the register at an address: op 1 writes all of it, op 2 the bits in the mask
 abbrev pub writes : Access → ℕ → Bool
-writes a address = (eqb a.op 1 || eqb a.op 2) && eqb a.address address
+writes a address = (eqb (op_of a) 1 || eqb (op_of a) 2) && eqb (address_of a) address
 
 -- the value of the register after such an access
 abbrev pub written : Access → ℕ → ℕ
-written a before = pick (eqb a.op 1) a.value (before - bit_and before a.mask + a.value)
+written a before = pick (eqb (op_of a) 1) (value_of a) (before - bit_and before (mask_of a) + (value_of a))
 
 -- whether RESET, by its value, holds a PLL in reset: bits 12 and 13 of the RP2040, 14 and 15 of the RP235x
 abbrev pub held : Chip → ℕ → ℕ → Bool

@@ -1,9 +1,10 @@
 -- The stored frequencies are true: after the steps of a sheet, from any register values, each clock of the plan runs
 -- at the frequency that the sheet stores for it, and the control of an absent clock is unchanged.
+use Rattle.std.specs.Prelude.{Option, Some, None}
 use mathlib.Core.{Bool.Bool, Bool.true, Bool.false, Path.◌≡◌}
 use Rattle.std.specs.Prelude.{ℕ}
 use Rattle.chip.specs.declared.Chip.{Chip}
-use Rattle.config.specs.declared.{ClockConfig.ClockConfig, OptionPeri.OptionPeri, OptionAux.OptionAux, OptionRtc.OptionRtc}
+use Rattle.config.specs.declared.{ClockConfig.ClockConfig, PeriClkSrc.PeriClkSrc, AuxClkConfig.AuxClkConfig, RtcClkConfig.RtcClkConfig}
 use Rattle.settings.specs.declared.{Settings.Settings, Frequencies.Frequencies, Sources.Sources}
 use Rattle.settings.specs.{Settings.settings_of, Frequencies.frequencies_of, Typed.Typed}
 use Rattle.refusals.specs.Refusals.{Accepted}
@@ -13,17 +14,17 @@ use Rattle.clock_tree.specs.Machine.{carried_out}
 use Rattle.clock_tree.specs.Tree.{sources_at, ref_at, sys_at, peri_at, usb_at, adc_at, rtc_at, peri_divider}
 
 -- whether a plan has the clock
-abbrev pub has_peri : OptionPeri → Bool
-has_peri (OptionPeri.Some src) = true
-has_peri OptionPeri.None = false
+abbrev pub has_peri : Option PeriClkSrc → Bool
+has_peri (Some src) = true
+has_peri None = false
 
-abbrev pub has_aux : OptionAux → Bool
-has_aux (OptionAux.Some a) = true
-has_aux OptionAux.None = false
+abbrev pub has_aux : Option AuxClkConfig → Bool
+has_aux (Some a) = true
+has_aux None = false
 
-abbrev pub has_rtc : OptionRtc → Bool
-has_rtc (OptionRtc.Some r) = true
-has_rtc OptionRtc.None = false
+abbrev pub has_rtc : Option RtcClkConfig → Bool
+has_rtc (Some r) = true
+has_rtc None = false
 
 -- a clock of the plan runs at the stored frequency; the control register of an absent clock keeps its value
 abbrev pub Runs : Bool → ℕ → ℕ → ℕ → (ℕ → ℕ) → (ℕ → ℕ) → Type 0

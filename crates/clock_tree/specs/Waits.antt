@@ -10,7 +10,7 @@ use Rattle.config.specs.declared.ClockConfig.{ClockConfig}
 use Rattle.settings.specs.{Settings.settings_of, Frequencies.sources_in}
 use Rattle.refusals.specs.Refusals.{Accepted}
 use Rattle.registers.specs.declared.Access.{Access}
-use Rattle.registers.specs.Access.{access_of}
+use Rattle.registers.specs.Access.{access_of, op_of, address_of, mask_of, value_of}
 use Rattle.registers.specs.Map.{RESET, RESET_DONE, CLK_REF_CTRL, CLK_REF_SELECTED, CLK_SYS_CTRL, CLK_SYS_SELECTED}
 use Rattle.registers.specs.Map.{XOSC_CTRL, XOSC_STATUS, ROSC_CTRL, PLL_CS}
 use Rattle.sheet_steps.specs.Steps.{steps_of}
@@ -27,16 +27,16 @@ locks c w crystal file =
 -- whether a wait can end, by the register that it reads; a wait on any other register cannot
 abbrev pub can_come : Chip → ℕ → Access → (ℕ → ℕ) → Bool
 can_come c crystal a file =
-    pick (eqb a.address (RESET_DONE c)) (eqb (bit_and (file (RESET c)) a.mask) 0)
-    (pick (eqb a.address (CLK_SYS_SELECTED c)) (eqb a.value (2 ^ bits_at 0 1 (file (CLK_SYS_CTRL c))))
-    (pick (eqb a.address (CLK_REF_SELECTED c)) (eqb a.value (2 ^ bits_at 0 2 (file (CLK_REF_CTRL c))))
-    (pick (eqb a.address (XOSC_STATUS c)) (oscillates (file (XOSC_CTRL c)))
-    (pick (eqb a.address (PLL_CS c 0)) (locks c 0 crystal file)
-    (pick (eqb a.address (PLL_CS c 1)) (locks c 1 crystal file) false)))))
+    pick (eqb (address_of a) (RESET_DONE c)) (eqb (bit_and (file (RESET c)) (mask_of a)) 0)
+    (pick (eqb (address_of a) (CLK_SYS_SELECTED c)) (eqb (value_of a) (2 ^ bits_at 0 1 (file (CLK_SYS_CTRL c))))
+    (pick (eqb (address_of a) (CLK_REF_SELECTED c)) (eqb (value_of a) (2 ^ bits_at 0 2 (file (CLK_REF_CTRL c))))
+    (pick (eqb (address_of a) (XOSC_STATUS c)) (oscillates (file (XOSC_CTRL c)))
+    (pick (eqb (address_of a) (PLL_CS c 0)) (locks c 0 crystal file)
+    (pick (eqb (address_of a) (PLL_CS c 1)) (locks c 1 crystal file) false)))))
 
 -- the test holds at each wait, for its access and the registers at that moment
 abbrev pub at_wait : (Access → (ℕ → ℕ) → Bool) → Answer Access → (ℕ → ℕ) → Bool
-at_wait test (value a) file = pick (eqb a.op 3) (test a file) true
+at_wait test (value a) file = pick (eqb (op_of a) 3) (test a file) true
 at_wait test (refusal n) file = false
 
 abbrev pub all_waits : Chip → (Access → (ℕ → ℕ) → Bool) → List Step → (ℕ → ℕ) → Bool
@@ -73,8 +73,8 @@ sys_runs c file =
 
 abbrev pub source_runs : Chip → Access → (ℕ → ℕ) → Bool
 source_runs c a file =
-    pick (eqb a.address (CLK_SYS_SELECTED c)) (sys_runs c file)
-    (pick (eqb a.address (CLK_REF_SELECTED c)) (ref_runs c file) true)
+    pick (eqb (address_of a) (CLK_SYS_SELECTED c)) (sys_runs c file)
+    (pick (eqb (address_of a) (CLK_REF_SELECTED c)) (ref_runs c file) true)
 
 -- provided that the ring and the reference clock run before, as after a reset of the chip
 abbrev pub SourcesRun : Type 0

@@ -2,18 +2,17 @@
 // values of its sheet.
 #![tactic(auto)]
 
-use input::Line;
 use std::io;
 
 fn main(rt: HostRuntime) -> io::Result<()> {
     let mut line = [0u8; 11];
     let mut out = [0u8; 256];
     match input::read_line(&mut rt.stdin(), &mut line) {
-        Line::Bytes(n) => {
+        Ok(n) => {
             let size = report::report(&line, n, &mut out);
             rt.write_all(&out[..size])
         }
-        Line::Unread => {
+        Err(_) => {
             let mut refused = [0u8; 11];
             let size = replies::put_unread(&mut refused);
             rt.write_all(&refused[..size])

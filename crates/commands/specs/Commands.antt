@@ -1,15 +1,18 @@
 -- The text interface: the answer to a line (docs/PROGRAMS.md, Program dizbaral).
-use mathlib.Core.{List.List, Option.Option, Option.none, Option.some}
+use Rattle.std.specs.Prelude.{Option, Some, None}
+use mathlib.Core.{List.List}
 use Rattle.std.specs.Prelude.{ℕ}
 use lib.{Dec.eqb, ListN.length, ListN.take}
 use Rattle.base.specs.{Answer.Answer, Choice.pick}
 use Rattle.text.specs.{Ascii.ascii, Ascii.same, Words.up_to, Words.index_from}
 use Rattle.config.specs.declared.ClockConfig.{ClockConfig}
 use Rattle.fields.specs.Row.{nth, byte_at}
-use Rattle.words.specs.Words.{State, given}
+use Rattle.words.specs.declared.Words.{Words}
+use Rattle.words.specs.Words.{unread, given}
+use Rattle.commands.specs.declared.Command.{Command}
 use Rattle.wording.specs.Words.{explain_text}
 use Rattle.step_words.specs.Steps.{steps_text}
-use Rattle.orders.specs.{Line.end_after, Orders.unread, Orders.order_of}
+use Rattle.orders.specs.{Line.end_after, Orders.order_of}
 use Rattle.verdict.specs.Verdict.{check_text}
 use Rattle.commands.specs.{Texts.help_text, Texts.usage_text, Case.case_of}
 
@@ -20,13 +23,21 @@ command_named word =
     (pick (same word (ascii "help")) 0 (pick (same word (ascii "explain")) 1
     (pick (same word (ascii "steps")) 2 (pick (same word (ascii "check")) 3 4))))
 
+-- a command by that number
+abbrev pub command_number : Option Command → ℕ
+command_number (Some Command.Help) = 0
+command_number (Some Command.Explain) = 1
+command_number (Some Command.Steps) = 2
+command_number (Some Command.Check) = 3
+command_number None = 4
+
 -- `explain` takes READING SHEET
 abbrev pub explained : List ℕ → List ℕ → List ℕ
 explained n bytes = explain_text (byte_at n 0) (take (nth n 1) bytes)
 
-abbrev pub explain_read : Option State → List ℕ
-explain_read (some s) = explained s.row s.sheet
-explain_read none = usage_text 1
+abbrev pub explain_read : Option Words → List ℕ
+explain_read (Some s) = explained s.row s.sheet
+explain_read None = usage_text 1
 
 unfoldable pub explain_of : List ℕ → ℕ → List ℕ
 explain_of line at = explain_read (given line (ascii "bx") at unread)
@@ -35,24 +46,24 @@ explain_of line at = explain_read (given line (ascii "bx") at unread)
 abbrev pub listed : List ℕ → List ℕ → List ℕ
 listed n bytes = steps_text (take (nth n 0) bytes)
 
-abbrev pub steps_read : Option State → List ℕ
-steps_read (some s) = listed s.row s.sheet
-steps_read none = usage_text 2
+abbrev pub steps_read : Option Words → List ℕ
+steps_read (Some s) = listed s.row s.sheet
+steps_read None = usage_text 2
 
 unfoldable pub steps_of : List ℕ → ℕ → List ℕ
 steps_of line at = steps_read (given line (ascii "x") at unread)
 
 -- `check` takes READING SHEET ORDER
 abbrev pub checked : ℕ → List ℕ → Option (Answer ClockConfig) → List ℕ
-checked reading sheet (some order) = check_text reading sheet order
-checked reading sheet none = usage_text 3
+checked reading sheet (Some order) = check_text reading sheet order
+checked reading sheet None = usage_text 3
 
 unfoldable pub compared_of : List ℕ → List ℕ → List ℕ → ℕ → List ℕ
 compared_of n bytes line at = checked (byte_at n 0) (take (nth n 1) bytes) (order_of line at (byte_at n 0))
 
-abbrev pub check_read : List ℕ → ℕ → Option State → List ℕ
-check_read line at (some s) = compared_of s.row s.sheet line at
-check_read line at none = usage_text 3
+abbrev pub check_read : List ℕ → ℕ → Option Words → List ℕ
+check_read line at (Some s) = compared_of s.row s.sheet line at
+check_read line at None = usage_text 3
 
 -- the order follows the second word after the command
 unfoldable pub check_of : List ℕ → ℕ → List ℕ

@@ -1,11 +1,11 @@
 // Answers a case of docs/CASES.md, with the meaning of its refusal.
 ghost use Rattle.std.specs.Prelude.{◌≡◌};
-ghost use Rattle.base.specs.Placed.{Placed};
-ghost use Rattle.base.specs.Answer.{number_is};
+ghost use Rattle.base.specs.Writing.{Puts};
+ghost use Rattle.base.specs.Answer.{answer_of};
 ghost use Rattle.commands.specs.Case.{is_plain, is_state, is_case, unknown_text, number_meaning, meaning_of, no_case, said_text, case_of};
 
-use crate::texts::put_usage;
-use base::Number;
+use crate::texts::write_usage;
+use base::{Refusal, Writer};
 
 // Whether a word is the name of a case that takes numbers only.
 fn is_plain(word: &[u8]) -> bool
@@ -46,64 +46,66 @@ fn is_case(word: &[u8]) -> bool
 }
 
 // The answer to a first word that names no command and no case.
-fn put_unknown(out: &mut [u8], word: &[u8]) -> usize
-    ensures { Placed out.old 0 (unknown_text word.now) result out.new }
+#[tactic(auto, using(base::proofs::Writing::writing), unfolding(crate::specs::Case::unknown_text))]
+fn write_unknown(out: &mut Writer<'_, u8>, word: &[u8])
+    ensures { Puts out.old (unknown_text word.now) out.new }
 {
-    let at = text::put_bytes(out, 0, b"no such command: ");
-    let at = text::put_bytes(out, at, word);
-    text::put_bytes(out, at, b"\nsee dizbaral help\n")
+    out.put_all(b"no such command: ");
+    out.put_all(word);
+    out.put_all(b"\nsee dizbaral help\n");
 }
 
 // The meaning of a refusal and a newline, where its number was read.
-fn put_number(out: &mut [u8], at: usize, number: Number) -> usize
-    ensures { Placed out.old at (number_meaning (number_is number)) result out.new }
+#[tactic(auto, using(base::proofs::Writing::writing))]
+fn write_number(out: &mut Writer<'_, u8>, number: Result<u32, Refusal>)
+    ensures { Puts out.old (number_meaning (answer_of number)) out.new }
 {
-    match number {
-        Number::Value(n) => {
-            let at = meanings::put_refusal(out, at, base::least(n as usize, 255) as u8);
-            text::put_byte(out, at, b'\n')
-        }
-        Number::Refused(_) => base::least(at, out.len()),
+    if let Ok(n) = number {
+        meanings::write_refusal(out, n.min(255) as u8);
+        out.put(b'\n');
     }
 }
 
 // The meaning of an answer that begins with `refused` and a number.
-fn put_meaning(out: &mut [u8], at: usize, said: &[u8]) -> usize
-    ensures { Placed out.old at (meaning_of said.now) result out.new }
+#[tactic(auto, using(base::proofs::Writing::writing), unfolding(crate::specs::Case::meaning_of))]
+fn write_meaning(out: &mut Writer<'_, u8>, said: &[u8])
+    ensures { Puts out.old (meaning_of said.now) out.new }
 {
     if text::same_bytes(orders::first_word(said), b"refused") {
-        return put_number(out, at, text::number(orders::word_after(said, 7)));
+        write_number(out, text::number(orders::word_after(said, 7)));
     }
-    base::least(at, out.len())
 }
 
 // The answer to a line that is no case: the usage of a case, or that its first word is unknown.
-fn put_no_case(out: &mut [u8], word: &[u8]) -> usize
-    ensures { Placed out.old 0 (no_case word.now) result out.new }
+#[tactic(auto, unfolding(crate::specs::Case::no_case))]
+fn write_no_case(out: &mut Writer<'_, u8>, word: &[u8])
+    ensures { Puts out.old (no_case word.now) out.new }
 {
     if is_case(word) {
-        return put_usage(out, 0);
+        write_usage(out, 0);
+    } else {
+        write_unknown(out, word);
     }
-    put_unknown(out, word)
 }
 
 // The answer to a case, and the meaning of a refusal after it.
-fn put_said(line: &[u8], said: &[u8], out: &mut [u8]) -> usize
-    ensures { Placed out.old 0 (said_text line.now said.now) result out.new }
+#[tactic(auto, using(base::proofs::Writing::writing), unfolding(crate::specs::Case::said_text))]
+fn write_said(out: &mut Writer<'_, u8>, line: &[u8], said: &[u8])
+    ensures { Puts out.old (said_text line.now said.now) out.new }
 {
     if text::same_bytes(said, b"bad case") {
-        return put_no_case(out, orders::first_word(line));
+        return write_no_case(out, orders::first_word(line));
     }
-    let at = text::put_bytes(out, 0, said);
-    let at = text::put_byte(out, at, b'\n');
-    put_meaning(out, at, said)
+    out.put_all(said);
+    out.put(b'\n');
+    write_meaning(out, said);
 }
 
-// Puts the answer to a case as the program `answers` prints it, at most 4096 bytes, and the meaning of a refusal after it.
-pub(crate) fn put_case(line: &[u8], out: &mut [u8]) -> usize
-    ensures { Placed out.old 0 (case_of line.now) result out.new }
+// Writes the answer to a case as the program `answers` prints it, at most 4096 bytes, and the meaning of a refusal after it.
+pub(crate) fn write_case(out: &mut Writer<'_, u8>, line: &[u8])
+    ensures { Puts out.old (case_of line.now) out.new }
 {
     let mut said = [0u8; 4096];
     let n = cases::answer(line, &mut said);
-    put_said(line, &said[..n], out)
+    write_said(out, line, &said[..n]);
 }

@@ -6,127 +6,133 @@ mod made;
 mod texts;
 
 ghost use Rattle.std.specs.Prelude.{◌≡◌};
+ghost use Rattle.base.specs.Answer.{answer_in};
 ghost use Rattle.base.specs.Placed.{Placed};
-ghost use Rattle.orders.specs.Orders.{order_is};
-ghost use Rattle.commands.specs.Commands.{command_named, explained, explain_of, listed, steps_of};
+ghost use Rattle.base.specs.Writing.{Puts};
+ghost use Rattle.commands.specs.Commands.{command_named, command_number, explain_of, steps_of};
 ghost use Rattle.commands.specs.Commands.{checked, compared_of, check_of, answer_of};
 
-use config::Planned;
+use base::Writer;
 use fields::byte_at;
 pub use made::{Made, make};
-use orders::Order;
-use step::MAX_BYTES;
-pub use texts::put_usage;
+use orders::Planned;
+pub use texts::write_usage;
 use words::Words;
 
-// The number of the command with this name: 0 help, also for an empty word, 1 explain, 2 steps, 3 check; 4 is no command.
-fn command(word: &[u8]) -> u8
-    ensures { result ≡ command_named word.now }
-{
-    if word.len() == 0 {
-        return 0;
-    }
-    if text::same_bytes(word, b"help") {
-        return 0;
-    }
-    if text::same_bytes(word, b"explain") {
-        return 1;
-    }
-    if text::same_bytes(word, b"steps") {
-        return 2;
-    }
-    if text::same_bytes(word, b"check") {
-        return 3;
-    }
-    4
+// A command; any other first word is the name of a case.
+#[derive(Clone, Copy, Debug, PartialEq, Eq)]
+enum Command {
+    Help,
+    Explain,
+    Steps,
+    Check,
 }
 
-// A sheet in words, from the numbers and the bytes that were read.
-fn put_explained(n: &[u32; 128], bytes: &[u8; 2048], out: &mut [u8]) -> usize
-    ensures { Placed out.old 0 (explained n.now bytes.now) result out.new }
-{
-    let sheet = base::first(bytes, base::wide(n[1]) as usize);
-    wording::explain(out, 0, byte_at(n, 0), sheet)
+impl Command {
+    // The command with this name; the empty word asks for help.
+    #[tactic(auto, using(std::proofs::lemmas::Bool::Decides::nat_tests), unfolding(crate::specs::Commands::command_named))]
+    fn named(word: &[u8]) -> Option<Command>
+        ensures { command_number result ≡ command_named word.now }
+    {
+        if word.len() == 0 {
+            return Some(Command::Help);
+        }
+        if text::same_bytes(word, b"help") {
+            return Some(Command::Help);
+        }
+        if text::same_bytes(word, b"explain") {
+            return Some(Command::Explain);
+        }
+        if text::same_bytes(word, b"steps") {
+            return Some(Command::Steps);
+        }
+        if text::same_bytes(word, b"check") {
+            return Some(Command::Check);
+        }
+        None
+    }
 }
 
 // `explain` takes READING SHEET.
-fn put_explain(line: &[u8], at: usize, out: &mut [u8]) -> usize
-    ensures { Placed out.old 0 (explain_of line.now at) result out.new }
+#[tactic(auto, unfolding(crate::specs::Commands::explain_of))]
+fn write_explain(out: &mut Writer<'_, u8>, line: &[u8], at: usize)
+    ensures { Puts out.old (explain_of line.now at) out.new }
 {
-    let mut n = [0u32; 128];
-    let mut kept = [0u8; MAX_BYTES];
-    let mut sheet = [0u8; 2048];
-    match words::read(b"bx", line, at, &mut n, &mut kept, &mut sheet) {
-        Words::Read(_) => put_explained(&n, &sheet, out),
-        Words::Bad => put_usage(out, 1),
+    match Words::read(b"bx", line, at) {
+        Some(words) => {
+            wording::write_explanation(out, byte_at(&words.row, 0), words.sheet_at(1));
+        }
+        None => write_usage(out, 1),
     }
 }
 
-// Each step of a sheet, from the numbers and the bytes that were read.
-fn put_listed(n: &[u32; 128], bytes: &[u8; 2048], out: &mut [u8]) -> usize
-    ensures { Placed out.old 0 (listed n.now bytes.now) result out.new }
-{
-    let sheet = base::first(bytes, base::wide(n[0]) as usize);
-    step_words::put_steps(out, 0, sheet)
-}
-
 // `steps` takes SHEET.
-fn put_list(line: &[u8], at: usize, out: &mut [u8]) -> usize
-    ensures { Placed out.old 0 (steps_of line.now at) result out.new }
+#[tactic(auto, unfolding(crate::specs::Commands::steps_of))]
+fn write_steps(out: &mut Writer<'_, u8>, line: &[u8], at: usize)
+    ensures { Puts out.old (steps_of line.now at) out.new }
 {
-    let mut n = [0u32; 128];
-    let mut kept = [0u8; MAX_BYTES];
-    let mut sheet = [0u8; 2048];
-    match words::read(b"x", line, at, &mut n, &mut kept, &mut sheet) {
-        Words::Read(_) => put_listed(&n, &sheet, out),
-        Words::Bad => put_usage(out, 2),
+    match Words::read(b"x", line, at) {
+        Some(words) => step_words::write_steps(out, words.sheet_at(0)),
+        None => write_usage(out, 2),
     }
 }
 
 // A sheet compared with an order; the usage of `check` where the words are no order.
-fn put_checked(reading: u8, sheet: &[u8], order: Order, out: &mut [u8]) -> usize
-    ensures { Placed out.old 0 (checked reading sheet.now (order_is order)) result out.new }
+fn write_checked(out: &mut Writer<'_, u8>, reading: u8, sheet: &[u8], order: Option<Planned>)
+    ensures { Puts out.old (checked reading sheet.now (answer_in order)) out.new }
 {
     match order {
-        Order::Plan(plan) => verdict::check(out, 0, reading, sheet, Planned::Plan(plan)),
-        Order::Refused(number) => verdict::check(out, 0, reading, sheet, Planned::Refused(number)),
-        Order::Bad => put_usage(out, 3),
+        Some(planned) => verdict::write_verdict(out, reading, sheet, planned),
+        None => write_usage(out, 3),
     }
 }
 
-// The same from the numbers and the bytes that were read, with the order after the word that ends at `at`.
-fn put_compared(n: &[u32; 128], bytes: &[u8; 2048], line: &[u8], at: usize, out: &mut [u8]) -> usize
-    ensures { Placed out.old 0 (compared_of n.now bytes.now line.now at) result out.new }
+// The same for the words that were read, with the order after the word that ends at `at`.
+#[tactic(auto, unfolding(crate::specs::Commands::compared_of))]
+fn write_compared(out: &mut Writer<'_, u8>, words: &Words, line: &[u8], at: usize)
+    ensures { Puts out.old (compared_of words.now.row words.now.sheet line.now at) out.new }
 {
-    let sheet = base::first(bytes, base::wide(n[1]) as usize);
-    let reading = byte_at(n, 0);
-    put_checked(reading, sheet, orders::read_order(line, at, reading), out)
+    let reading = byte_at(&words.row, 0);
+    write_checked(
+        out,
+        reading,
+        words.sheet_at(1),
+        orders::read_order(line, at, reading),
+    );
 }
 
 // `check` takes READING SHEET ORDER.
-fn put_check(line: &[u8], at: usize, out: &mut [u8]) -> usize
-    ensures { Placed out.old 0 (check_of line.now at) result out.new }
+#[tactic(auto, unfolding(crate::specs::Commands::check_of))]
+fn write_check(out: &mut Writer<'_, u8>, line: &[u8], at: usize)
+    ensures { Puts out.old (check_of line.now at) out.new }
 {
-    let mut n = [0u32; 128];
-    let mut kept = [0u8; MAX_BYTES];
-    let mut sheet = [0u8; 2048];
     let end = orders::end_after(line, orders::end_after(line, at));
-    match words::read(b"bx", &line[..end], at, &mut n, &mut kept, &mut sheet) {
-        Words::Read(_) => put_compared(&n, &sheet, line, end, out),
-        Words::Bad => put_usage(out, 3),
+    match Words::read(b"bx", &line[..end], at) {
+        Some(words) => write_compared(out, &words, line, end),
+        None => write_usage(out, 3),
     }
 }
 
-// Puts the answer to a line at the start of the buffer and returns the index past it. Refusals are part of the text.
+// Writes the answer to a line. Refusals are part of the text.
+#[tactic(auto, unfolding(crate::specs::Commands::answer_of))]
+fn write_answer(out: &mut Writer<'_, u8>, line: &[u8])
+    ensures { Puts out.old (answer_of line.now) out.new }
+{
+    let at = text::index_from(line, 0, b' ');
+    match Command::named(orders::first_word(line)) {
+        Some(Command::Help) => texts::write_help(out),
+        Some(Command::Explain) => write_explain(out, line, at),
+        Some(Command::Steps) => write_steps(out, line, at),
+        Some(Command::Check) => write_check(out, line, at),
+        None => case::write_case(out, line),
+    }
+}
+
+// Puts the answer to a line at the start of the buffer and returns the index past it.
 pub fn answer(line: &[u8], out: &mut [u8]) -> usize
     ensures { Placed out.old 0 (answer_of line.now) result out.new }
 {
-    let at = text::index_from(line, 0, b' ');
-    match command(orders::first_word(line)) {
-        0 => texts::put_help(out),
-        1 => put_explain(line, at, out),
-        2 => put_list(line, at, out),
-        3 => put_check(line, at, out),
-        _ => case::put_case(line, out),
-    }
+    let mut writer = Writer::new(out);
+    write_answer(&mut writer, line);
+    writer.at
 }

@@ -1,14 +1,14 @@
 // The fixed texts: help, and the usage of each command.
-ghost use Rattle.base.specs.Placed.{Placed};
+ghost use Rattle.base.specs.Writing.{Puts};
 ghost use Rattle.commands.specs.Texts.{help_text, usage_text};
 
-// Puts the commands and the forms of an order, on one screen.
-pub(crate) fn put_help(out: &mut [u8]) -> usize
-    ensures { Placed out.old 0 help_text result out.new }
+use base::Writer;
+
+// Writes the commands and the forms of an order, on one screen.
+pub(crate) fn write_help(out: &mut Writer<'_, u8>)
+    ensures { Puts out.old help_text out.new }
 {
-    text::put_bytes(
-        out,
-        0,
+    out.put_all(
         b"Clock sheets of the RP2040 and the RP235x.\n\
         \n\
         dizbaral check READING SHEET ORDER    is this sheet the one that was ordered?\n\
@@ -33,35 +33,20 @@ pub(crate) fn put_help(out: &mut [u8]) -> usize
         \x20   default\n\
         \x20   manual HZ REFDIV FBDIV POST1 POST2 CODE    of the RP2040 alone\n\
         \x20   plan NUMBERS                               48, of the RP235x 43\n",
-    )
+    );
 }
 
-// Puts the answer to words that a command does not take, with those that it takes: 1 explain, 2 steps, 3 check, 4 make, any other
-// a case.
-pub fn put_usage(out: &mut [u8], command: u8) -> usize
-    ensures { Placed out.old 0 (usage_text command) result out.new }
+// Writes the answer to words that a command does not take, with those that it takes: 1 explain, 2 steps, 3 check, 4 make, any
+// other a case.
+#[tactic(auto, unfolding(crate::specs::Texts::usage_text))]
+pub fn write_usage(out: &mut Writer<'_, u8>, command: u8)
+    ensures { Puts out.old (usage_text command) out.new }
 {
     match command {
-        1 => text::put_bytes(
-            out,
-            0,
-            b"bad case\nexplain takes READING SHEET: see dizbaral help\n",
-        ),
-        2 => text::put_bytes(out, 0, b"bad case\nsteps takes SHEET: see dizbaral help\n"),
-        3 => text::put_bytes(
-            out,
-            0,
-            b"bad case\ncheck takes READING SHEET ORDER: see dizbaral help\n",
-        ),
-        4 => text::put_bytes(
-            out,
-            0,
-            b"bad case\nmake takes FILE READING ORDER: see dizbaral help\n",
-        ),
-        _ => text::put_bytes(
-            out,
-            0,
-            b"bad case\ndocs/CASES.md has the words that each case takes\n",
-        ),
+        1 => out.put_all(b"bad case\nexplain takes READING SHEET: see dizbaral help\n"),
+        2 => out.put_all(b"bad case\nsteps takes SHEET: see dizbaral help\n"),
+        3 => out.put_all(b"bad case\ncheck takes READING SHEET ORDER: see dizbaral help\n"),
+        4 => out.put_all(b"bad case\nmake takes FILE READING ORDER: see dizbaral help\n"),
+        _ => out.put_all(b"bad case\ndocs/CASES.md has the words that each case takes\n"),
     }
 }

@@ -1,4 +1,6 @@
 -- The presets, each with the values that the Rust has (docs/FORMAT.md, Presets).
+use Rattle.std.specs.Prelude.{Option, Some, None}
+use Rattle.config.specs.declared.RoscConfig.{RoscConfig}
 use Rattle.std.specs.Prelude.{ℕ, eqb, ltb}
 use Rattle.base.specs.{Choice.pick, Answer.Answer, Answer.value, Answer.refusal}
 use Rattle.chip.specs.declared.{Chip.Chip, Chip.TheVariants.Rp2040, Chip.TheVariants.Rp235x}
@@ -6,21 +8,16 @@ use Rattle.chip.specs.Chips.{facts_of}
 use Rattle.chip.specs.declared.voltage.{CoreVoltage.CoreVoltage, CoreVoltage235.CoreVoltage235}
 use Rattle.pll.specs.declared.PllConfig.{PllConfig}
 use Rattle.pll.specs.{Setting.valid_of, Search.setting, Search.search_of, Usb.usb_of}
-use Rattle.config.specs.declared.{RoscRange.RoscRange, OptionRosc.OptionRosc, OptionPll.OptionPll}
-use Rattle.config.specs.declared.{OptionXosc.OptionXosc, RefClkSrc.RefClkSrc, SysClkSrc.SysClkSrc}
-use Rattle.config.specs.declared.{PeriClkSrc.PeriClkSrc, AuxClkSrc.AuxClkSrc, OptionPeri.OptionPeri}
-use Rattle.config.specs.declared.{OptionAux.OptionAux, OptionRtc.OptionRtc, OptionU32.OptionU32}
-use Rattle.config.specs.declared.{ChipConfig.ChipConfig, ClockConfig.ClockConfig, Planned.Planned}
-
--- The answer that each variant of `Planned` means.
-abbrev pub planned_is : Planned → Answer ClockConfig
-planned_is (Planned.Plan p) = value p
-planned_is (Planned.Refused n) = refusal n
+use Rattle.config.specs.declared.{RoscRange.RoscRange}
+use Rattle.config.specs.declared.{XoscConfig.XoscConfig, RefClkSrc.RefClkSrc, SysClkSrc.SysClkSrc}
+use Rattle.config.specs.declared.{PeriClkSrc.PeriClkSrc, AuxClkSrc.AuxClkSrc}
+use Rattle.config.specs.declared.{RtcClkConfig.RtcClkConfig}
+use Rattle.config.specs.declared.{ChipConfig.ChipConfig, ClockConfig.ClockConfig}
 
 -- A ring oscillator with all drive strengths 0.
-abbrev pub ring_config : ℕ → RoscRange → ℕ → OptionRosc
+abbrev pub ring_config : ℕ → RoscRange → ℕ → Option RoscConfig
 ring_config hz range div =
-    OptionRosc.Some
+    Some
     (record {
       hz = hz;
       range = range;
@@ -29,49 +26,49 @@ ring_config hz range div =
     })
 
 -- A crystal with these PLLs and the delay multiplier 128.
-abbrev pub feeding_both : ℕ → PllConfig → PllConfig → OptionXosc
+abbrev pub feeding_both : ℕ → PllConfig → PllConfig → Option XoscConfig
 feeding_both hz sys usb =
-    OptionXosc.Some
-    (record { hz = hz; sys_pll = OptionPll.Some sys; usb_pll = OptionPll.Some usb; delay_multiplier = 128 })
+    Some
+    (record { hz = hz; sys_pll = Some sys; usb_pll = Some usb; delay_multiplier = 128 })
 
 -- The USB PLL is the one that gives 48 MHz from 12 MHz.
-abbrev pub feeding : ℕ → PllConfig → OptionXosc
+abbrev pub feeding : ℕ → PllConfig → Option XoscConfig
 feeding hz sys = feeding_both hz sys (setting 120 6 5)
 
 -- The system clock is undivided. The voltage and the RTC are for the RP2040; the RP235x has 1.10 V and no RTC.
-abbrev pub plain : Chip → CoreVoltage → OptionRtc → ChipConfig
+abbrev pub plain : Chip → CoreVoltage → Option RtcClkConfig → ChipConfig
 plain Rp2040 voltage clock =
     ChipConfig.Rp2040 (record { core_voltage = voltage; div_int = 1; div_frac = 0; rtc_clk = clock })
 plain Rp235x voltage clock = ChipConfig.Rp235x (record { core_voltage = CoreVoltage235.V1_10; div_int = 1; div_frac = 0 })
 
 -- Every preset with a crystal has these clocks; the RTC has 48 MHz / 1024.
-abbrev pub from_plls : Chip → CoreVoltage → OptionRosc → OptionXosc → ClockConfig
+abbrev pub from_plls : Chip → CoreVoltage → Option RoscConfig → Option XoscConfig → ClockConfig
 from_plls chip voltage rosc xosc =
     record {
-      chip = plain chip voltage (OptionRtc.Some (record { src = AuxClkSrc.PllUsb; div_int = 1024; div_frac = 0; phase = 0 }));
+      chip = plain chip voltage (Some (record { src = AuxClkSrc.PllUsb; div_int = 1024; div_frac = 0; phase = 0 }));
       rosc = rosc;
       xosc = xosc;
       ref_clk = record { src = RefClkSrc.Xosc; div = 1 };
       sys_clk_src = SysClkSrc.PllSys;
-      peri_clk_src = OptionPeri.Some PeriClkSrc.Sys;
-      usb_clk = OptionAux.Some (record { src = AuxClkSrc.PllUsb; div = 1; phase = 0 });
-      adc_clk = OptionAux.Some (record { src = AuxClkSrc.PllUsb; div = 1; phase = 0 });
-      voltage_stabilization_delay_us = OptionU32.None;
+      peri_clk_src = Some PeriClkSrc.Sys;
+      usb_clk = Some (record { src = AuxClkSrc.PllUsb; div = 1; phase = 0 });
+      adc_clk = Some (record { src = AuxClkSrc.PllUsb; div = 1; phase = 0 });
+      voltage_stabilization_delay_us = None;
     }
 
 -- No ring and no crystal: every clock has 0 Hz.
 abbrev pub default_plan : Chip → ClockConfig
 default_plan chip =
     record {
-      chip = plain chip CoreVoltage.V1_10 OptionRtc.None;
-      rosc = OptionRosc.None;
-      xosc = OptionXosc.None;
+      chip = plain chip CoreVoltage.V1_10 None;
+      rosc = None;
+      xosc = None;
       ref_clk = record { src = RefClkSrc.Rosc; div = 1 };
       sys_clk_src = SysClkSrc.Rosc;
-      peri_clk_src = OptionPeri.None;
-      usb_clk = OptionAux.None;
-      adc_clk = OptionAux.None;
-      voltage_stabilization_delay_us = OptionU32.None;
+      peri_clk_src = None;
+      usb_clk = None;
+      adc_clk = None;
+      voltage_stabilization_delay_us = None;
     }
 
 -- With a 12 MHz crystal the system clock has 125 MHz on the RP2040 and 150 MHz on the RP235x.
@@ -85,15 +82,15 @@ rosc_plan chip =
     record {
       chip =
           plain chip CoreVoltage.V1_10
-          (OptionRtc.Some (record { src = AuxClkSrc.Rosc; div_int = 2986; div_frac = 171; phase = 0 }));
+          (Some (record { src = AuxClkSrc.Rosc; div_int = 2986; div_frac = 171; phase = 0 }));
       rosc = ring_config 140000000 RoscRange.High 1;
-      xosc = OptionXosc.None;
+      xosc = None;
       ref_clk = record { src = RefClkSrc.Rosc; div = 1 };
       sys_clk_src = SysClkSrc.Rosc;
-      peri_clk_src = OptionPeri.Some PeriClkSrc.Rosc;
-      usb_clk = OptionAux.None;
-      adc_clk = OptionAux.Some (record { src = AuxClkSrc.Rosc; div = 3; phase = 0 });
-      voltage_stabilization_delay_us = OptionU32.None;
+      peri_clk_src = Some PeriClkSrc.Rosc;
+      usb_clk = None;
+      adc_clk = Some (record { src = AuxClkSrc.Rosc; div = 3; phase = 0 });
+      voltage_stabilization_delay_us = None;
     }
 
 -- The RP2040 needs 1.15 V above 133 MHz.
@@ -122,4 +119,4 @@ system_plan chip hz =
 
 -- For the RP2040: no ring, and 5 for a PLL that is not valid.
 unfoldable pub manual_plan : ℕ → PllConfig → CoreVoltage → Answer ClockConfig
-manual_plan hz p voltage = pick (valid_of p hz) (value (from_plls Rp2040 voltage OptionRosc.None (feeding hz p))) (refusal 5)
+manual_plan hz p voltage = pick (valid_of p hz) (value (from_plls Rp2040 voltage None (feeding hz p))) (refusal 5)

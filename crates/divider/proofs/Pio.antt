@@ -18,3 +18,5 @@ pio-tested system target = go (eqb target 0) refl
         → pick b (refusal 17) (tested (system * 256 / target)) ≡ tested (system * 256 / target)
     go true e = rw (eqb-true target 0 e, div-zero)
     go false e = refl
+
+pub ruleset tested_alone = pio-tested

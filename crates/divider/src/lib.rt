@@ -2,17 +2,17 @@
 #![tactic(auto)]
 
 ghost use Rattle.std.specs.Prelude.{◌≡◌, ◌≤◌};
-ghost use Rattle.base.specs.Answer.{number_is};
+ghost use Rattle.base.specs.Answer.{answer_of};
 ghost use Rattle.divider.specs.Clock.{divided_hz};
 ghost use Rattle.divider.specs.Delay.{startup_sum, cycles_per_us, settling_cycles};
 ghost use Rattle.divider.specs.Gpout.{gpout_clock, gpout_whole, gpout_of, gpout_in};
 ghost use Rattle.divider.specs.Pio.{pio_of};
 
-use base::Number;
+use base::Refusal;
 use chip::Chip;
 
 // The refusal of an unknown Gpout source or of a whole part that is too large.
-const NO_GPOUT: u8 = 23;
+const NO_GPOUT: Refusal = Refusal::GpoutSource;
 
 // Cycles per microsecond where the ring has no frequency: from reset it runs at 12 MHz at most.
 const NO_RING: u64 = 12;
@@ -25,52 +25,55 @@ pub enum GpoutDiv {
 }
 
 // The source over whole + fraction / scale, in Hz, rounded down; a divider of 0 gives 0.
+#[tactic(auto, using(crate::proofs::Bounds::bounds), unfolding(crate::specs::Clock::divided_hz))]
 pub fn divided_hz(scale: u32, source: u32, whole: u32, fraction: u16) -> u64
     ensures { result ≡ divided_hz scale source whole fraction }
 {
-    base::quotient(
-        source as u64 * scale as u64,
-        whole as u64 * scale as u64 + fraction as u64,
-    )
+    let scale = u64::from(scale);
+    let divisor = u64::from(whole) * scale + u64::from(fraction);
+    (u64::from(source) * scale)
+        .checked_div(divisor)
+        .unwrap_or(0)
 }
 
 // The crystal's startup delay before its division by 256.
+#[tactic(auto, using(crate::proofs::Bounds::bounds), unfolding(crate::specs::Delay::startup_sum))]
 pub fn startup_sum(hz: u32, multiplier: u32) -> u64
     ensures { result ≡ startup_sum hz multiplier }
 {
-    (hz / 1000) as u64 * multiplier as u64 + 128
+    u64::from(hz / 1000) * u64::from(multiplier) + 128
 }
 
 // Cycles that take at least a microsecond: the ring's MHz rounded up.
+#[tactic(auto, unfolding(crate::specs::Delay::cycles_per_us))]
 fn cycles_per_us(ring_hz: u32) -> u64
     ensures { (result ≡ cycles_per_us ring_hz) × (result ≤ 4295) }
 {
     if ring_hz == 0 {
         NO_RING
     } else {
-        (ring_hz as u64 + 999999) / 1000000
+        (u64::from(ring_hz) + 999999) / 1000000
     }
 }
 
 // Cycles that take at least the settling time of the core voltage.
+#[tactic(auto, unfolding(crate::specs::Delay::settling_cycles))]
 pub fn settling_cycles(time_us: u32, ring_hz: u32) -> u64
     ensures { result ≡ settling_cycles time_us ring_hz }
 {
-    time_us as u64 * cycles_per_us(ring_hz)
+    u64::from(time_us) * cycles_per_us(ring_hz)
 }
 
-// The clock number of a Gpout source code, 10 where the code is unknown.
+// The clock number of a Gpout source code; 10, which no stored frequency has, where the code is unknown.
+#[tactic(auto, unfolding(crate::specs::Gpout::gpout_clock))]
 fn gpout_clock(chip: Chip, source: u8) -> u8
     ensures { result ≡ gpout_clock chip source }
 {
-    let on = chip.facts();
-    let clocks = on.gpout;
-    let code = source as usize;
-    if code < clocks.len() {
-        clocks[code]
-    } else {
-        10
-    }
+    chip.facts()
+        .gpout
+        .get(usize::from(source))
+        .copied()
+        .unwrap_or(10)
 }
 
 // A whole part of 0 counts as 65536, as in the datasheets; the Rust takes 65535.
@@ -81,6 +84,7 @@ fn gpout_whole(div_int: u32) -> u32
 }
 
 // The frequency of a Gpout from that of its source. The divider is at least 1, so the result is at most the source.
+#[tactic(auto, using(crate::proofs::Bounds::bounds))]
 fn gpout_hz(scale: u32, source: u32, div_int: u32, div_frac: u16) -> u32
     ensures { result ≡ divided_hz scale source (gpout_whole div_int) div_frac }
 {
@@ -88,53 +92,52 @@ fn gpout_hz(scale: u32, source: u32, div_int: u32, div_frac: u16) -> u32
     divided_hz(scale, source, whole, div_frac) as u32
 }
 
-fn gpout_freq(chip: Chip, source: u8, div_int: u32, div_frac: u16, freqs: &[u32; 10]) -> Number
-    ensures { number_is result ≡ gpout_of chip source div_int div_frac freqs.now }
+#[tactic(auto, unfolding(crate::specs::Gpout::gpout_of))]
+fn gpout_freq(
+    chip: Chip,
+    source: u8,
+    div_int: u32,
+    div_frac: u16,
+    freqs: &[u32; 10],
+) -> Result<u32, Refusal>
+    ensures { answer_of result ≡ gpout_of chip source div_int div_frac freqs.now }
 {
     let facts = chip.facts();
     if facts.top_whole < div_int {
-        return Number::Refused(NO_GPOUT);
+        return Err(NO_GPOUT);
     }
-    let clock = gpout_clock(chip, source) as usize;
-    if clock < 10 {
-        Number::Value(gpout_hz(facts.scale, freqs[clock], div_int, div_frac))
-    } else {
-        Number::Refused(NO_GPOUT)
-    }
+    let clock = gpout_clock(chip, source);
+    let hz = *freqs.get(usize::from(clock)).ok_or(NO_GPOUT)?;
+    Ok(gpout_hz(facts.scale, hz, div_int, div_frac))
 }
 
 // The frequency of a Gpout from its source code, its divider and the ten stored frequencies; 23 for an unknown code or a whole
 // part over the chip's greatest.
-pub fn get_freq(source: u8, divider: GpoutDiv, freqs: &[u32; 10]) -> Number
-    ensures { number_is result ≡ gpout_in divider source freqs.now }
+pub fn get_freq(source: u8, divider: GpoutDiv, freqs: &[u32; 10]) -> Result<u32, Refusal>
+    ensures { answer_of result ≡ gpout_in divider source freqs.now }
 {
     match divider {
-        GpoutDiv::Rp2040 { whole, fraction } => gpout_freq(
-            Chip::Rp2040,
-            source,
-            whole,
-            fraction as u16,
-            freqs,
-        ),
-        GpoutDiv::Rp235x { whole, fraction } => gpout_freq(
-            Chip::Rp235x,
-            source,
-            whole,
-            fraction,
-            freqs,
-        ),
+        GpoutDiv::Rp2040 { whole, fraction } => {
+            gpout_freq(Chip::Rp2040, source, whole, u16::from(fraction), freqs)
+        }
+        GpoutDiv::Rp235x { whole, fraction } => {
+            gpout_freq(Chip::Rp235x, source, whole, fraction, freqs)
+        }
     }
 }
 
 // The divider, in 256ths, for a PIO state machine to run at the target; 17 where it is not 256 to 16777215. A target of 0 gives
 // the quotient 0, which is out of range.
-pub fn calculate_pio_clock_divider_value(sys_hz: u32, target_hz: u32) -> Number
-    ensures { number_is result ≡ pio_of sys_hz target_hz }
+#[tactic(auto, using(crate::proofs::Pio::tested_alone), unfolding(crate::specs::Pio::pio_of))]
+pub fn calculate_pio_clock_divider_value(sys_hz: u32, target_hz: u32) -> Result<u32, Refusal>
+    ensures { answer_of result ≡ pio_of sys_hz target_hz }
 {
-    let divider = base::quotient(sys_hz as u64 * 256, target_hz as u64);
-    if base::in_range(256, 16777215, divider) {
-        Number::Value(divider as u32)
+    let divider = (u64::from(sys_hz) * 256)
+        .checked_div(u64::from(target_hz))
+        .unwrap_or(0);
+    if (256..=16777215).contains(&divider) {
+        Ok(divider as u32)
     } else {
-        Number::Refused(17)
+        Err(Refusal::PioDivider)
     }
 }

@@ -1,5 +1,6 @@
 // Reads arguments and files, and writes files.
-use crate::said;
+use crate::said::{self, Reason};
+use base::Writer;
 use std::env::{Env, FillError};
 use std::fs::{OpenFile, OpenOptions};
 use std::io::{Read, Write};
@@ -21,21 +22,23 @@ pub(crate) struct Stopped {
     pub(crate) printed: io::Result<()>,
 }
 
-// The reason why a file is not read or written, from the system's error number; 6 for any other error.
-fn reason(error: &io::Error) -> u8 {
+// The reason why a file is not read or written, from the system's error number.
+fn reason(error: &io::Error) -> Reason {
     match error.raw_os_error() {
-        Some(ENOENT) => 1,
-        Some(EISDIR) => 2,
-        Some(EACCES) => 3,
-        Some(EEXIST) => 4,
-        _ => 6,
+        Some(ENOENT) => Reason::NoFile,
+        Some(EISDIR) => Reason::Directory,
+        Some(EACCES) => Reason::Denied,
+        Some(EEXIST) => Reason::Exists,
+        _ => Reason::Other,
     }
 }
 
 // Prints the name of a file and the reason why it is not read or written.
-fn complain(rt: &impl Print, name: &[u8], why: u8) -> Stopped {
+fn complain(rt: &impl Print, name: &[u8], why: Reason) -> Stopped {
     let mut out = [0u8; 4200];
-    let size = said::put_trouble(&mut out, name, why);
+    let mut line = Writer::new(&mut out);
+    said::write_trouble(&mut line, name, why);
+    let size = line.at;
     Stopped {
         printed: rt.write_all(base::first(&out, size)),
     }
@@ -49,7 +52,7 @@ pub(crate) fn too_long(rt: &impl Print) -> Stopped {
 
 // The name of a file as a path. A path is text, so no file has any other name here.
 fn path_of<'a>(rt: &impl Print, name: &'a [u8]) -> Result<&'a str, Stopped> {
-    str::from_utf8(name).map_err(|_| complain(rt, name, 6))
+    str::from_utf8(name).map_err(|_| complain(rt, name, Reason::Other))
 }
 
 // Reads until the buffer is full or the file ends, and answers the number of bytes.
@@ -74,15 +77,17 @@ fn read_file(rt: &impl Files, path: &str, bytes: &mut [u8]) -> io::Result<usize>
 // Puts the bytes of a file into the line in hex.
 fn join_file(
     rt: &(impl Files + Print),
-    line: &mut [u8],
-    at: usize,
+    line: &mut Writer<'_, u8>,
     name: &[u8],
-) -> Result<usize, Stopped> {
+) -> Result<(), Stopped> {
     let mut bytes = [0u8; 2049];
     let path = path_of(rt, name)?;
     match read_file(rt, path, &mut bytes) {
-        Ok(n) if n <= 2048 => Ok(text::put_hex(line, at, base::first(&bytes, n))),
-        Ok(_) => Err(complain(rt, name, 5)),
+        Ok(n) if n <= 2048 => {
+            text::write_hex(line, base::first(&bytes, n));
+            Ok(())
+        }
+        Ok(_) => Err(complain(rt, name, Reason::TooLong)),
         Err(error) => Err(complain(rt, name, reason(&error))),
     }
 }
@@ -90,29 +95,18 @@ fn join_file(
 // Puts a word into the line: an argument, or for @FILE the bytes of the file.
 fn join_word(
     rt: &(impl Files + Print),
-    line: &mut [u8],
-    at: usize,
+    line: &mut Writer<'_, u8>,
     word: &[u8],
-) -> Result<usize, Stopped> {
-    if word.len() == 0 {
-        return Ok(at);
-    }
-    if word[0] == b'@' {
+) -> Result<(), Stopped> {
+    match word {
         // No file has an empty name, so the message names the sign itself.
-        if word.len() == 1 {
-            return Err(complain(rt, word, 1));
+        [b'@'] => Err(complain(rt, word, Reason::NoFile)),
+        [b'@', name @ ..] => join_file(rt, line, name),
+        _ => {
+            line.put_all(word);
+            Ok(())
         }
-        return join_file(rt, line, at, &word[1..]);
     }
-    Ok(text::put_bytes(line, at, word))
-}
-
-// A space before every word but the first.
-fn put_space(line: &mut [u8], at: usize, is_first: bool) -> usize {
-    if is_first {
-        return at;
-    }
-    text::put_byte(line, at, b' ')
 }
 
 // Joins the arguments from `from` on, with one space between.
@@ -121,7 +115,8 @@ pub(crate) fn join(
     line: &mut [u8],
     from: usize,
 ) -> Result<usize, Stopped> {
-    let mut at = 0;
+    let room = line.len();
+    let mut line = Writer::new(line);
     for i in from..usize::MAX {
         let mut word = [0u8; 8192];
         let n = match rt.arg(i, &mut word) {
@@ -129,13 +124,15 @@ pub(crate) fn join(
             Err(FillError::NotPresent) => break,
             Err(FillError::TooLong) => return Err(too_long(rt)),
         };
-        let start = put_space(line, at, i == from);
-        at = join_word(rt, line, start, base::first(&word, n))?;
-        if line.len() <= at {
+        if i != from {
+            line.put(b' ');
+        }
+        join_word(rt, &mut line, base::first(&word, n))?;
+        if room <= line.at {
             return Err(too_long(rt));
         }
     }
-    Ok(at)
+    Ok(line.at)
 }
 
 // Writes bytes to an open file, and sees them stored: closing a file reports no error.
@@ -183,7 +180,9 @@ fn write_new(
 // Replaces a file by these bytes. They are written to a new file first, so the old file is kept until they are whole.
 pub(crate) fn replace(rt: &(impl Files + Print), path: &[u8], bytes: &[u8]) -> Result<(), Stopped> {
     let mut name = [0u8; 4200];
-    let n = said::put_new_name(&mut name, path);
+    let mut writer = Writer::new(&mut name);
+    said::write_new_name(&mut writer, path);
+    let n = writer.at;
     write_new(
         rt,
         path_of(rt, base::first(&name, n))?,

@@ -5,6 +5,7 @@
 mod files;
 mod said;
 
+use base::Writer;
 use commands::Made;
 use std::env::{Env, FillError};
 use std::io;
@@ -36,13 +37,15 @@ fn answer(rt: &(impl Env + Files + Print)) -> io::Result<()> {
 // Prints the length of a sheet that was made, its refusal, or the usage of `make`.
 fn say(rt: &impl Print, made: Made) -> io::Result<()> {
     let mut out = [0u8; 65536];
-    let size = said::put_made(&mut out, made);
+    let mut writer = Writer::new(&mut out);
+    said::write_made(&mut writer, made);
+    let size = writer.at;
     print(rt, &out, size)
 }
 
 // Writes a sheet that was made to its file and prints its length; otherwise prints the refusal or the usage of `make`.
 fn keep(rt: &(impl Files + Print), path: &[u8], made: Made, sheet: &[u8]) -> io::Result<()> {
-    if let Made::Length(n) = made {
+    if let Some(Ok(n)) = made {
         if let Err(stopped) = files::replace(rt, path, base::first(sheet, n)) {
             return stopped.printed;
         }
@@ -72,7 +75,7 @@ fn make(rt: &(impl Env + Files + Print)) -> io::Result<()> {
         Err(FillError::TooLong) => return files::too_long(rt).printed,
     };
     if n == 0 {
-        return say(rt, Made::Bad);
+        return say(rt, None);
     }
     match files::join(rt, &mut line, 3) {
         Ok(end) => make_line(rt, &path[..n], &line, end),

@@ -1,10 +1,22 @@
 // The messages about a sheet that was made, and about a file that is not read or written.
 ghost use Rattle.std.specs.Prelude.{◌≡◌, take};
-ghost use Rattle.base.specs.Placed.{Placed};
+ghost use Rattle.base.specs.Writing.{Puts};
 ghost use Rattle.text.specs.Ascii.{ascii, same};
-ghost use Rattle.dizbaral.specs.Said.{made_text, reason_text, trouble_line, new_name};
+ghost use Rattle.dizbaral.specs.Said.{made_text, reason_number, reason_text, trouble_line, new_name};
 
+use base::Writer;
 use commands::Made;
+
+// Why a file is not read or written.
+#[derive(Clone, Copy, Debug, PartialEq, Eq)]
+pub(crate) enum Reason {
+    NoFile,
+    Directory,
+    Denied,
+    Exists,
+    TooLong,
+    Other,
+}
 
 // Whether a word is `make`.
 pub(crate) fn is_make(word: &[u8; 8], n: usize) -> bool
@@ -13,48 +25,52 @@ pub(crate) fn is_make(word: &[u8; 8], n: usize) -> bool
     text::same_bytes(base::first(word, n), b"make")
 }
 
-// Puts the length of a sheet, its refusal, or the usage of `make`.
-pub(crate) fn put_made(out: &mut [u8], made: Made) -> usize
-    ensures { Placed out.old 0 (made_text made) result out.new }
+// Writes the length of a sheet, its refusal, or the usage of `make`.
+#[tactic(auto, using(base::proofs::Writing::writing))]
+pub(crate) fn write_made(out: &mut Writer<'_, u8>, made: Made)
+    ensures { Puts out.old (made_text made) out.new }
 {
     match made {
-        Made::Length(n) => {
-            let at = text::put_bytes(out, 0, b"made ");
-            let at = text::put_decimal(out, at, n as u64);
-            text::put_bytes(out, at, b" bytes\n")
+        Some(Ok(n)) => {
+            out.put_all(b"made ");
+            text::write_decimal(out, n as u64);
+            out.put_all(b" bytes\n");
         }
-        Made::Refused(number) => wording::put_refused(out, 0, b"order: ", number),
-        Made::Bad => commands::put_usage(out, 4),
+        Some(Err(why)) => wording::write_refused(out, b"order: ", u8::from(why)),
+        None => commands::write_usage(out, 4),
     }
 }
 
-// Puts the reason why a file is not read or written; 5 is a file that is too long.
-fn put_reason(out: &mut [u8], at: usize, why: u8) -> usize
-    ensures { Placed out.old at (reason_text why) result out.new }
+// Writes the reason why a file is not read or written.
+#[tactic(auto, unfolding(crate::specs::Said::reason_text))]
+fn write_reason(out: &mut Writer<'_, u8>, why: Reason)
+    ensures { Puts out.old (reason_text (reason_number why)) out.new }
 {
     match why {
-        1 => text::put_bytes(out, at, b"there is no such file\n"),
-        2 => text::put_bytes(out, at, b"it is a directory\n"),
-        3 => text::put_bytes(out, at, b"permission denied\n"),
-        4 => text::put_bytes(out, at, b"it is there already\n"),
-        5 => text::put_bytes(out, at, b"it is longer than 2048 bytes\n"),
-        _ => text::put_bytes(out, at, b"it cannot be read or written\n"),
+        Reason::NoFile => out.put_all(b"there is no such file\n"),
+        Reason::Directory => out.put_all(b"it is a directory\n"),
+        Reason::Denied => out.put_all(b"permission denied\n"),
+        Reason::Exists => out.put_all(b"it is there already\n"),
+        Reason::TooLong => out.put_all(b"it is longer than 2048 bytes\n"),
+        Reason::Other => out.put_all(b"it cannot be read or written\n"),
     }
 }
 
-// Puts a line with the name of a file and the reason.
-pub(crate) fn put_trouble(out: &mut [u8], name: &[u8], why: u8) -> usize
-    ensures { Placed out.old 0 (trouble_line name.now why) result out.new }
+// Writes a line with the name of a file and the reason.
+#[tactic(auto, using(base::proofs::Writing::writing), unfolding(crate::specs::Said::trouble_line))]
+pub(crate) fn write_trouble(out: &mut Writer<'_, u8>, name: &[u8], why: Reason)
+    ensures { Puts out.old (trouble_line name.now (reason_number why)) out.new }
 {
-    let at = text::put_bytes(out, 0, name);
-    let at = text::put_bytes(out, at, b": ");
-    put_reason(out, at, why)
+    out.put_all(name);
+    out.put_all(b": ");
+    write_reason(out, why);
 }
 
-// Puts the name of the new file that will replace another.
-pub(crate) fn put_new_name(out: &mut [u8], path: &[u8]) -> usize
-    ensures { Placed out.old 0 (new_name path.now) result out.new }
+// Writes the name of the new file that will replace another.
+#[tactic(auto, using(base::proofs::Writing::writing))]
+pub(crate) fn write_new_name(out: &mut Writer<'_, u8>, path: &[u8])
+    ensures { Puts out.old (new_name path.now) out.new }
 {
-    let at = text::put_bytes(out, 0, path);
-    text::put_bytes(out, at, b".new")
+    out.put_all(path);
+    out.put_all(b".new");
 }

@@ -11,7 +11,9 @@ use Rattle.step.specs.declared.Step.{Step}
 use Rattle.step.specs.Kinds as kind
 use Rattle.fields.specs.Row.{nth, ten_at}
 use Rattle.runner.specs.declared.Stepper.{Stepper}
-use Rattle.runner.specs.Run.{Progress, done, handed, passed, waiting, Outcome, stored_by, freqs_after, stepper_of}
+use Rattle.runner.specs.declared.Reply.{Reply}
+use Rattle.runner.specs.declared.Reply.TheVariants.{Done, Handed, Passed, Waiting}
+use Rattle.runner.specs.Run.{Outcome, stored_by, freqs_after, stepper_of}
 use Rattle.boards.specs.declared.Bench.{Bench}
 use Rattle.boards.specs.Bench.{bench_of}
 use Rattle.numbers.proofs.PartRows.{row-whole}
@@ -60,11 +62,11 @@ stored-long step freqs = go (eqb step.kind kind.store)
     go true = length-set freqs step.f0 step.f1
     go false = refl
 
-after-long : (a : Answer Progress) (freqs : List ℕ) → length (freqs_after a freqs) ≡ length freqs
-after-long (value done) freqs = refl
-after-long (value (handed step)) freqs = stored-long step freqs
-after-long (value passed) freqs = refl
-after-long (value waiting) freqs = refl
+after-long : (a : Answer Reply) (freqs : List ℕ) → length (freqs_after a freqs) ≡ length freqs
+after-long (value Done) freqs = refl
+after-long (value (Handed step)) freqs = stored-long step freqs
+after-long (value Passed) freqs = refl
+after-long (value Waiting) freqs = refl
 after-long (refusal n) freqs = refl
 
 -- a board by its fourteen numbers

@@ -13,9 +13,11 @@ use Rattle.settings.specs.{Settings.settings_of, Typed.Typed}
 use Rattle.refusals.specs.Refusals.{Accepted}
 use Rattle.sheet.specs.Writer.{sheet_bytes}
 use Rattle.runner.specs.declared.Runner.{Runner}
-use Rattle.runner.specs.Run.{Progress, done, handed, passed, waiting, Begun, HandsFormed, fresh, stepper_of, advance_of, started_with, start_of}
+use Rattle.runner.specs.declared.Reply.{Reply}
+use Rattle.runner.specs.declared.Reply.TheVariants.{Done, Handed, Passed, Waiting}
+use Rattle.runner.specs.Run.{Begun, HandsFormed, fresh, stepper_of, advance_of, started_with, start_of}
 use Rattle.runner.specs.Calls.{Call, call, after, after_calls, flags_of}
-use Rattle.runner.proofs.{Starts.start-refused, Starts.start-kept, Steps.turn-formed, OneSheet.one-sheet}
+use Rattle.runner.proofs.{Starts.start-refused, Starts.start-kept, Steps.turn_formed, OneSheet.one-sheet}
 use Rattle.boards.specs.History.{Own, start, poll, single_after, single_answers}
 use Rattle.bring_up.specs.Wait.{runner_after, call_answer, OnTheWay}
 use Rattle.bring_up.proofs.{ComesUp.comes-up, Run.sheet-size}
@@ -71,7 +73,7 @@ module _ (r : Runner) (sheet : List ℕ) (ready : Bool) where
 
   pub formed : HandsFormed (advance_of r sheet ready).answer
   unfolding advance_of stepper_of
-  formed = turn-formed _ _ _ _ _
+  formed = turn_formed _ _ _ _ _
 
 -- the numbers and bytes that a start leaves, by its answer
 started_by : Held → Begun Runner → Held
@@ -146,11 +148,11 @@ module _ (h : Held) (sheet : List ℕ) (ok : bad_size (length sheet) ≡ false) 
   not_done : (i : ℕ) → OnTheWay (call_answer sheet ready i) → number_of h sheet ready i ≡ 0 → ⊥
   not_done i w z = go (call_answer sheet ready i) refl w (formed (runner_after sheet ready i) sheet (ready i))
     where
-      go : (a : Answer Progress) → call_answer sheet ready i ≡ a → OnTheWay a → HandsFormed a → ⊥
-      go (value done) e w f = w
-      go (value (handed s)) e w f = omega (arith, z, number_is i, ap (answer_number progress_number) e, word-from s f)
-      go (value passed) e w f = omega (arith, z, number_is i, ap (answer_number progress_number) e)
-      go (value waiting) e w f = omega (arith, z, number_is i, ap (answer_number progress_number) e)
+      go : (a : Answer Reply) → call_answer sheet ready i ≡ a → OnTheWay a → HandsFormed a → ⊥
+      go (value Done) e w f = w
+      go (value (Handed s)) e w f = omega (arith, z, number_is i, ap (answer_number progress_number) e, word-from s f)
+      go (value Passed) e w f = omega (arith, z, number_is i, ap (answer_number progress_number) e)
+      go (value Waiting) e w f = omega (arith, z, number_is i, ap (answer_number progress_number) e)
       go (refusal n) e w f = w
 
 -- the sheet of an accepted plan brings the board up by exported calls

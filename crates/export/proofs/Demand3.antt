@@ -1,10 +1,11 @@
 -- Demand 3 holds of the exported calls by their contracts alone: a number below the refusals is a length, so the call is a call
 -- of `init`, of which demand 3 holds.
-use mathlib.Core.{Path.◌≡◌, Path.refl, Path.ap, Logic.◌↔◌, List.List, Option.Option, Option.none, Option.some}
+use Rattle.std.specs.Prelude.{Option, Some, None}
+use mathlib.Core.{Path.◌≡◌, Path.refl, Path.ap, Logic.◌↔◌, List.List}
 use Prim.Native.Nat.{ℕ, ◌<◌}
 use native.Mathlib.Omega.{arith}
 use Rattle.base.specs.Answer.{Answer, value, refusal}
-use Rattle.base.specs.declared.Length.TheVariants.{Bytes}
+use Rattle.std.specs.Prelude.{Ok}
 use Rattle.config.specs.declared.ClockConfig.{ClockConfig}
 use Rattle.config.specs.Presets.{system_plan, system_plan_from}
 use Rattle.settings.specs.Settings.{settings_of}
@@ -17,8 +18,8 @@ use Rattle.export.specs.Demand3.{settings_in, Sheets, PlanSheets, SystemSheets, 
 -- a call that answers a length is a call of `init`
 record Wrote (plan : Option ClockConfig) (reading : ℕ) (before : List ℕ) (r : ℕ) (after : List ℕ) : Type 0 where
   pub config : ClockConfig
-  pub is : plan ≡ some config
-  pub call : InitCall config reading before (Bytes r) after
+  pub is : plan ≡ Some config
+  pub call : InitCall config reading before (Ok r) after
 
 length-of : (a : Answer ℕ) (r : ℕ) → r ≡ answer_number itself a → r < refusals → value r ≡ a
 length-of (value n) r e low = ap value e
@@ -26,7 +27,7 @@ length-of (refusal n) r e low = absurd (omega arith)
 
 wrote : (plan : Option (Answer ClockConfig)) {reading r : ℕ} {before after : List ℕ}
     → SheetCall plan reading before r after → r < refusals → Wrote (plan_given plan) reading before r after
-wrote (some (value plan)) {reading} {r} {before} c low =
+wrote (Some (value plan)) {reading} {r} {before} c low =
     record {
       config = plan;
       is = refl;
@@ -37,8 +38,8 @@ wrote (some (value plan)) {reading} {r} {before} c low =
             typed = c.typed;
           };
     }
-wrote (some (refusal n)) c low = absurd (omega (arith, c.answer))
-wrote none c low = absurd (omega (arith, c.answer))
+wrote (Some (refusal n)) c low = absurd (omega (arith, c.answer))
+wrote None c low = absurd (omega (arith, c.answer))
 
 both : (p q : Option ClockConfig) (reading : ℕ) (b b' c c' : List ℕ) (r s : ℕ)
     → Wrote p reading b r b' → Wrote q reading c s c'
@@ -46,9 +47,9 @@ both : (p q : Option ClockConfig) (reading : ℕ) (b b' c c' : List ℕ) (r s : 
 both p q reading b b' c c' r s first second =
     let x = first.config in
     let y = second.config in
-    let same = demand-3 x y reading b b' c c' (Bytes r) (Bytes s) r s first.call refl second.call refl in
+    let same = demand-3 x y reading b b' c c' (Ok r) (Ok s) r s first.call refl second.call refl in
     rw (first.is, second.is) (
-      (λ e. ap some (same.0 e)),
+      (λ e. ap Some (same.0 e)),
       (λ e. same.1 (let inner : settings_of x reading ≡ settings_of y reading = cc in inner)),
     )
 

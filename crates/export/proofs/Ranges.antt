@@ -7,7 +7,8 @@ use Rattle.base.proofs.Bools.{in-range}
 use Rattle.step.specs.declared.Step.{Step}
 use Rattle.step.specs.{Layout.kinds, Steps.pack_of, Steps.known, Steps.kind_in, Steps.WellFormed}
 use Rattle.step.proofs.Laws.{kind-in, pack-lt}
-use Rattle.runner.specs.Run.{Progress, done, handed, passed, waiting}
+use Rattle.runner.specs.declared.Reply.{Reply}
+use Rattle.runner.specs.declared.Reply.TheVariants.{Done, Handed, Passed, Waiting}
 use Rattle.export.specs.Ranges.{ProgressRange, Ranges}
 
 is_true : (b : Bool) → T b → b ≡ true
@@ -22,11 +23,11 @@ word-from s w =
     let known = (in-range 1 kinds s.kind (is_true _ w.is_known)).0 in
     omega (arith, kind, known)
 
-progress-range : (p : Progress) → ProgressRange p
-progress-range done = omega arith
-progress-range passed = omega arith
-progress-range waiting = omega arith
-progress-range (handed s) = λ w. (word-from s w, pack-lt s)
+progress-range : (p : Reply) → ProgressRange p
+progress-range Done = omega arith
+progress-range Passed = omega arith
+progress-range Waiting = omega arith
+progress-range (Handed s) = λ w. (word-from s w, pack-lt s)
 
 pub ranges : Ranges
 ranges =

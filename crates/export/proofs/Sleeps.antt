@@ -1,6 +1,7 @@
 -- The numbers of slots read back as the slots, and slots are written as the same numbers. So what holds of slots holds of any
 -- sequence of exported sleeps and wakes.
-use mathlib.Core.{Bool.Bool, Bool.true, Bool.◌&&◌, Option.some}
+use Rattle.std.specs.Prelude.{Some}
+use mathlib.Core.{Bool.Bool, Bool.true, Bool.◌&&◌}
 use mathlib.Core.{List.List, List.[], List.◌∷◌, List.◌++◌, List.append-nil, Path.◌≡◌, Path.refl, Path.sym, Path.ap, Path.◌∙◌}
 use Prim.Native.Nat.{ℕ, zero, suc, ◌+◌, ◌≤◌}
 use native.Mathlib.Omega.{arith}
@@ -88,7 +89,7 @@ again ns is =
     ) (row-whole 48 ns is.all)
 
 asked : (call : List Slot → ℕ → List ℕ → SleepOutcome) (ns : List ℕ) → IsSlots ns → (slot : ℕ) (words : List ℕ)
-    → asked_with call ns slot words ≡ some (call (slots_in ns 0) slot (words_at words 0))
+    → asked_with call ns slot words ≡ Some (call (slots_in ns 0) slot (words_at words 0))
 asked call ns is slot words = rw is.flags (either_way (ltb 3 slot) (λ e. rw e) (λ e. rw e))
 
 module _ (ns : List ℕ) (is : IsSlots ns) (slot : ℕ) (words : List ℕ) where
@@ -144,9 +145,9 @@ exported-wakes h t slot few ws last eleven words steps slots' words' steps' r ha
     let woke : wake_of (board_after registers h).slots slot words ≡ woken (board_after registers h).slots ws =
     (history registers refl h slot words).answers ∙ rw (le-ltb 3 slot (omega arith), last) in
     let same : wake_of (slots_in (slots_after h) 0) slot words ≡ woken (slots_in (slots_after h) 0) ws = rw before.0 woke in
-    let call : asked_with wake_of (slots_after h) slot words ≡ some (woken (slots_in (slots_after h) 0) ws) =
+    let call : asked_with wake_of (slots_after h) slot words ≡ Some (woken (slots_in (slots_after h) 0) ws) =
     asked wake_of (slots_after h) before.1 slot words
-    ∙ ap (λ (w : List ℕ). some (wake_of (slots_in (slots_after h) 0) slot w)) (row-whole 11 words handed) ∙ ap some same in
+    ∙ ap (λ (w : List ℕ). Some (wake_of (slots_in (slots_after h) 0) slot w)) (row-whole 11 words handed) ∙ ap Some same in
     let o = rw call at c in
     record {
       words_back = o.words_left ∙ sets-all ws words (eleven ∙ sym handed);

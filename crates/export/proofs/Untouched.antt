@@ -1,6 +1,7 @@
 -- A refusal leaves what was lent unchanged. For the runner and the bench this follows from runner/proofs/Untouched; for the other
 -- calls, from the fact that their values have numbers below the refusals.
-use mathlib.Core.{Bool.Bool, Bool.true, Bool.false, Bool.not, Logic.inl, Logic.inr, Option.Option, Option.none, Option.some}
+use Rattle.std.specs.Prelude.{Option, Some, None}
+use mathlib.Core.{Bool.Bool, Bool.true, Bool.false, Bool.not, Logic.inl, Logic.inr}
 use mathlib.Core.{List.List, List.[], List.◌∷◌, List.flat_map, Path.◌≡◌, Path.refl, Path.sym, Path.ap, Path.◌∙◌}
 use Prim.Native.Nat.{ℕ, ◌+◌, ◌*◌, ◌≤◌}
 use native.Mathlib.Omega.{arith}
@@ -17,13 +18,16 @@ use Rattle.bring_up.proofs.Run.{sheet-size}
 use Rattle.pll.specs.declared.PllConfig.{PllConfig}
 use Rattle.pll.specs.Search.{keep, rising, falling}
 use Rattle.lister.specs.Lister.{in_order, meets, list_of, has_room, listed_of, listed_in}
-use Rattle.margin.specs.Margin.{Sides, margin_of}
+use Rattle.margin.specs.Margin.{margin_of}
+use Rattle.margin.specs.declared.Margin.{Margin}
 use Rattle.fields.specs.Row.{nth}
 use Rattle.runner.specs.declared.{Stepper.Stepper, Runner.Runner}
-use Rattle.runner.specs.Run.{Progress, done, handed, passed, waiting, Outcome, Begun, begun, started, HandsFormed, stepper_of}
+use Rattle.runner.specs.declared.Reply.{Reply}
+use Rattle.runner.specs.declared.Reply.TheVariants.{Done, Handed, Passed, Waiting}
+use Rattle.runner.specs.Run.{Outcome, Begun, HandsFormed, stepper_of, outcome}
 use Rattle.runner.specs.Run.{advance_of, started_with, start_of}
 use Rattle.runner.specs.Calls.{stepper_timed_out, timed_out, Untouched as Stays}
-use Rattle.runner.proofs.{Starts.start-refused, Starts.start-kept, Steps.turn-formed, Untouched.stepper-keeps, Untouched.refusal-keeps}
+use Rattle.runner.proofs.{Starts.start-refused, Starts.start-kept, Steps.turn_formed, Untouched.stepper-keeps, Untouched.refusal-keeps}
 use Rattle.boards.specs.declared.Bench.{Bench}
 use Rattle.boards.specs.{Bench.eight_of, Bench.start_all_of, History.poll}
 use Rattle.boards.proofs.Benches.{all-refused, all-kept}
@@ -49,13 +53,13 @@ carried : {A : Type 0} (f : A → List ℕ) (same out : A) (x : Outcome A) {r : 
     → f same ≡ before → f out ≡ timed_out → Refused r → SaveTimeout r before after timed_out
 carried {A} f same out x {r} {before} {after} {timed_out} = go x.answer x.next
   where
-    go : (a : Answer Progress) (y : A) → HandsFormed a → Stays same out (record { answer = a; next = y })
+    go : (a : Answer Reply) (y : A) → HandsFormed a → Stays same out (record { answer = a; next = y })
         → r ≡ answer_number progress_number a → after ≡ f y → f same ≡ before → f out ≡ timed_out → Refused r
         → SaveTimeout r before after timed_out
-    go (value done) y w u e l s o low = absurd (omega arith)
-    go (value passed) y w u e l s o low = absurd (omega arith)
-    go (value waiting) y w u e l s o low = absurd (omega arith)
-    go (value (handed t)) y w u e l s o low = absurd (omega (arith, word-from t w))
+    go (value Done) y w u e l s o low = absurd (omega arith)
+    go (value Passed) y w u e l s o low = absurd (omega arith)
+    go (value Waiting) y w u e l s o low = absurd (omega arith)
+    go (value (Handed t)) y w u e l s o low = absurd (omega (arith, word-from t w))
     go (refusal n) y w (inl k) e l s o low = inl (l ∙ ap f k ∙ s)
     go (refusal n) y w (inr (m, k)) e l s o low = inr (e ∙ ap (λ (j : ℕ). refusals + j) m, l ∙ ap f k ∙ o)
 
@@ -82,7 +86,7 @@ board-number ns kept n sheet ready few m =
 
 board-formed : (b : Stepper) (len : ℕ) (kept sheet : List ℕ) (ready : Bool) → HandsFormed (stepper_of b len kept sheet ready).answer
 unfolding stepper_of
-board-formed b len kept sheet ready = turn-formed _ _ _ _ _
+board-formed b len kept sheet ready = turn_formed _ _ _ _ _
 
 bench-keeps : (ns kept : List ℕ) (n : ℕ) (sheet : List ℕ) (ready : Bool) → Refused (bench_number ns kept n sheet ready)
     → SaveTimeout (bench_number ns kept n sheet ready) ns (bench_leaves ns kept n sheet ready)
@@ -99,9 +103,9 @@ bench-keeps ns kept n sheet ready r =
     (λ m. inl (sym (bad-leaves ns kept n sheet ready few (leb-false (nth ns (14 * n + 3)) 1 m)))))
 
 -- a start that answers a refusal's number changes nothing
-start-refuses : {A : Type 0} (b next : A) (x : Begun A) (bad : Bool) → (bad ≡ true → begun (refusal 20) b ≡ x)
-    → (bad ≡ false → begun (value started) next ≡ x) → {r : ℕ} → r ≡ answer_number go_number x.answer → Refused r
-    → x ≡ begun (refusal 20) b
+start-refuses : {A : Type 0} (b next : A) (x : Begun A) (bad : Bool) → (bad ≡ true → outcome (refusal 20) b ≡ x)
+    → (bad ≡ false → outcome (value tt) next ≡ x) → {r : ℕ} → r ≡ answer_number go_number x.answer → Refused r
+    → x ≡ outcome (refusal 20) b
 start-refuses {A} b next x bad refused taken e low =
     either_way bad (λ t. sym (refused t))
     (λ t. absurd (omega (arith, e, ap (λ (y : Begun A). answer_number go_number y.answer) (taken t), low.0)))
@@ -137,9 +141,9 @@ init-keeps p reading buffer r =
 
 sheets-keep : (plan : Option (Answer ClockConfig)) {reading r : ℕ} {before after : List ℕ}
     → SheetCall plan reading before r after → Refused r → after ≡ before
-sheets-keep (some (value p)) {reading} {r} {before} c low = c.bytes ∙ init-keeps p reading before (rw c.answer at low)
-sheets-keep (some (refusal n)) c low = c.bytes
-sheets-keep none c low = c.bytes
+sheets-keep (Some (value p)) {reading} {r} {before} c low = c.bytes ∙ init-keeps p reading before (rw c.answer at low)
+sheets-keep (Some (refusal n)) c low = c.bytes
+sheets-keep None c low = c.bytes
 
 -- a list has at most two bytes for each setting that is tried
 keep-few : (test : PllConfig → Bool) (cs : List PllConfig) → length (keep test cs) ≤ length cs
@@ -160,7 +164,7 @@ list-keeps input target before r =
     either_way (has_room input target (length before))
     (λ e. let low = rw e at r in absurd (omega (arith, low.0, keep-few (meets input target) in_order, order-long))) (λ e. rw e)
 
-margin-keeps : (a : Answer Sides) (before : List ℕ) → Refused (answer_number margin-done a) → limits_after a before ≡ before
+margin-keeps : (a : Answer Margin) (before : List ℕ) → Refused (answer_number margin-done a) → limits_after a before ≡ before
 margin-keeps (value s) before r = absurd (omega arith)
 margin-keeps (refusal n) before r = refl
 
@@ -176,8 +180,8 @@ row_keeps (refusal n) c low = c.numbers
 slots-keep : (o : Option SleepOutcome) {slots words steps slots' words' steps' : List ℕ} {r : ℕ} → length steps ≡ 28
     → SlotsCall o slots words steps r slots' words' steps' → Refused r
     → (slots' ≡ slots) × (words' ≡ words) × (steps' ≡ steps)
-slots-keep none few c low = (c.slots_left, c.words_left, c.steps_left)
-slots-keep (some o) {slots} {words} {steps} {slots'} {words'} {steps'} {r} few c low = go o.answer refl
+slots-keep None few c low = (c.slots_left, c.words_left, c.steps_left)
+slots-keep (Some o) {slots} {words} {steps} {slots'} {words'} {steps'} {r} few c low = go o.answer refl
   where
     go : (a : Answer (List Step)) → o.answer ≡ a → (slots' ≡ slots) × (words' ≡ words) × (steps' ≡ steps)
     go (value s) e =

@@ -1,6 +1,7 @@
 -- Refusals 15 and then 25 precede every other refusal of the preset from a crystal. This follows from the exported call's
 -- contract alone: without a plan there is nothing else to refuse.
-use mathlib.Core.{Path.◌≡◌, List.List, Option.some}
+use Rattle.std.specs.Prelude.{Some}
+use mathlib.Core.{Path.◌≡◌, List.List}
 use Prim.Native.Nat.{ℕ}
 use Rattle.base.specs.Answer.{Answer, refusal}
 use Rattle.config.specs.declared.ClockConfig.{ClockConfig}
@@ -8,12 +9,12 @@ use Rattle.config.proofs.Systems.{system-from-15, system-from-25}
 use Rattle.export.specs.{Sheet.SheetCall, UsbFirst.Refuses, UsbFirst.UsbRefusalFirst}
 
 refuses : (plan : Answer ClockConfig) (n reading r : ℕ) (before after : List ℕ) → plan ≡ refusal n
-    → SheetCall (some plan) reading before r after → Refuses n r before after
-refuses plan n reading r before after e call = let none = rw e at call in (none.answer, none.bytes)
+    → SheetCall (Some plan) reading before r after → Refuses n r before after
+refuses plan n reading r before after e call = let None = rw e at call in (None.answer, None.bytes)
 
 pub usb-refusal-before-others : UsbRefusalFirst
 usb-refusal-before-others on from hz reading r before after chip named call =
     let preset = rw named at call in (
       (λ n e. refuses _ 15 reading r before after (system-from-15 chip from hz n e) preset),
-      λ n sys e none. refuses _ 25 reading r before after (system-from-25 chip from hz n sys e none) preset,
+      λ n sys e None. refuses _ 25 reading r before after (system-from-25 chip from hz n sys e None) preset,
     )

@@ -1,7 +1,8 @@
 -- Sequences of exported calls: the numbers and bytes that the caller holds after each, and the answers. The theorems are in
 -- proofs/Calls (a runner), proofs/BenchCalls (a bench) and proofs/Sleeps (slots): after any calls the caller holds the numbers of
 -- the runner, bench or slots after the same calls.
-use mathlib.Core.{Bool.Bool, Bool.false, Path.◌≡◌, List.List, List.[], List.◌∷◌, Option.some}
+use Rattle.std.specs.Prelude.{Some}
+use mathlib.Core.{Bool.Bool, Bool.false, Path.◌≡◌, List.List, List.[], List.◌∷◌}
 use Rattle.std.specs.Prelude.{ℕ, zero, suc, ◌+◌, ◌*◌, ◌≤◌, ◌<◌}
 use lib.{Dec.eqb, ListN.length, ListN.get_or, ListN.drop, ListN.replicate, Seq.sets}
 use Rattle.base.specs.Choice.{pick, bit}
@@ -173,7 +174,7 @@ pub record ExportedRestores (ws slots words steps slots' words' steps' : List �
 
 abbrev pub ExportedWakes : Type 0
 ExportedWakes =
-    (h : List SleepEvent) → Elevens h → (slot : ℕ) → slot < 4 → (ws : List ℕ) → last_sleep h slot ≡ some ws → length ws ≡ 11
+    (h : List SleepEvent) → Elevens h → (slot : ℕ) → slot < 4 → (ws : List ℕ) → last_sleep h slot ≡ Some ws → length ws ≡ 11
     → (words steps slots' words' steps' : List ℕ) (r : ℕ) → length words ≡ 11
     → SlotsCall (asked_with wake_of (slots_after h) slot words) (slots_after h) words steps r slots' words' steps'
     → ExportedRestores ws (slots_after h) words steps slots' words' steps'

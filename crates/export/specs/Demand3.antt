@@ -1,6 +1,7 @@
 -- Demand 3 of the exported calls: two sheets are equal exactly when their plans agree in every setting (docs/FORMAT.md, Settings
 -- that count).
-use mathlib.Core.{Path.◌≡◌, Logic.◌↔◌, List.List, Option.Option, Option.none, Option.some}
+use Rattle.std.specs.Prelude.{Option, Some, None}
+use mathlib.Core.{Path.◌≡◌, Logic.◌↔◌, List.List}
 use Rattle.std.specs.Prelude.{ℕ, ◌<◌}
 use Rattle.base.specs.Answer.{Answer}
 use Rattle.config.specs.declared.ClockConfig.{ClockConfig}
@@ -13,8 +14,8 @@ use Rattle.export.specs.Sheet.{plan_given, SheetCall, preset_on, plan_on}
 
 -- the settings of a plan, where there is one
 abbrev pub settings_in : Option ClockConfig → ℕ → Option Settings
-settings_in (some plan) reading = some (settings_of plan reading)
-settings_in none reading = none
+settings_in (Some plan) reading = Some (settings_of plan reading)
+settings_in None reading = None
 
 -- two calls at one reading, of any two plans, with any two buffers, that both answer lengths
 abbrev pub Sheets : Option (Answer ClockConfig) → Option (Answer ClockConfig) → Type 0

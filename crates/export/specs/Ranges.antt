@@ -3,16 +3,17 @@ use Rattle.std.specs.Prelude.{ℕ, ◌^◌, ◌≤◌, ◌<◌}
 use Rattle.base.specs.Answer.{refusal}
 use Rattle.pll.specs.declared.PllConfig.{PllConfig}
 use Rattle.step.specs.Steps.{WellFormed}
-use Rattle.runner.specs.Run.{Progress, done, handed, passed, waiting}
+use Rattle.runner.specs.declared.Reply.{Reply}
+use Rattle.runner.specs.declared.Reply.TheVariants.{Done, Handed, Passed, Waiting}
 use Rattle.numbers.specs.Answers.{refusals, malformed, itself, answer_number, setting_number, level_number}
 use Rattle.numbers.specs.Run.{progress_number}
 
 -- an answer that hands out no step has a number below 2 ^ 48; a well-formed step has one from 2 ^ 58 on
-abbrev pub ProgressRange : Progress → Type 0
-ProgressRange done = progress_number done < refusals
-ProgressRange passed = progress_number passed < refusals
-ProgressRange waiting = progress_number waiting < refusals
-ProgressRange (handed s) = WellFormed s → (2 ^ 58 ≤ progress_number (handed s)) × (progress_number (handed s) < 2 ^ 64)
+abbrev pub ProgressRange : Reply → Type 0
+ProgressRange Done = progress_number Done < refusals
+ProgressRange Passed = progress_number Passed < refusals
+ProgressRange Waiting = progress_number Waiting < refusals
+ProgressRange (Handed s) = WellFormed s → (2 ^ 58 ≤ progress_number (Handed s)) × (progress_number (Handed s) < 2 ^ 64)
 
 pub record Ranges : Type 1 where
   -- values are below 2 ^ 48: a setting whose dividers fit their types, a voltage whose code and level fit 5 bits,
@@ -25,4 +26,4 @@ pub record Ranges : Type 1 where
   pub refused : {A : Type 0} (f : A → ℕ) (n : ℕ) → n < 256
       → (refusals ≤ answer_number f (refusal n)) × (answer_number f (refusal n) < malformed)
   pub malformed_below : malformed < 2 ^ 58
-  pub progress : (p : Progress) → ProgressRange p
+  pub progress : (p : Reply) → ProgressRange p

@@ -1,7 +1,8 @@
 -- A refusal leaves what was lent unchanged, for every exported call that may write: where the answer is a refusal or malformed,
 -- each lent number and byte keeps its value. The one exception is the lock timeout of `dizbaral_run` and `dizbaral_bench_run`,
 -- the first refusal 22 of a run.
-use mathlib.Core.{Bool.Bool, Path.◌≡◌, Logic.◌⊎◌, List.List, Option.Option}
+use Rattle.std.specs.Prelude.{Option}
+use mathlib.Core.{Bool.Bool, Path.◌≡◌, Logic.◌⊎◌, List.List}
 use Rattle.std.specs.Prelude.{ℕ, ◌+◌, ◌^◌, ◌≤◌, ◌<◌, length, get_or, set}
 use Rattle.base.specs.Answer.{Answer}
 use Rattle.config.specs.declared.ClockConfig.{ClockConfig}

@@ -1,6 +1,7 @@
 -- The order of the refusals of `dizbaral_system_sheet_from`: 15 first, then 25, then those of the sheet (docs/FORMAT.md,
 -- Refusals).
-use mathlib.Core.{Path.◌≡◌, List.List, Option.some}
+use Rattle.std.specs.Prelude.{Some}
+use mathlib.Core.{Path.◌≡◌, List.List}
 use Rattle.std.specs.Prelude.{ℕ, ◌+◌}
 use Rattle.base.specs.Answer.{value, refusal}
 use Rattle.chip.specs.declared.Chip.{Chip}
@@ -18,7 +19,7 @@ Refuses n r before after = (r ≡ refusals + n) × (after ≡ before)
 -- finds no system PLL, and otherwise 25 where there is no USB PLL.
 abbrev pub UsbRefusalFirst : Type 0
 UsbRefusalFirst =
-    (on from hz reading r : ℕ) (before after : List ℕ) (chip : Chip) → chip_numbered on ≡ some chip
+    (on from hz reading r : ℕ) (before after : List ℕ) (chip : Chip) → chip_numbered on ≡ Some chip
     → SheetCall (preset_on (λ chip. system_plan_from chip from hz) (chip_numbered on)) reading before r after
     → ((n : ℕ) → search_of from hz ≡ refusal n → Refuses 15 r before after)
     × ((n : ℕ) (sys : PllConfig) → search_of from hz ≡ value sys → usb_of from ≡ refusal n → Refuses 25 r before after)

@@ -3,6 +3,7 @@
 ghost use Rattle.std.specs.Prelude.{◌≡◌};
 ghost use Rattle.numbers.specs.Bench.{bench_number, bench_leaves, StartAllCall};
 
+use base::Refusal;
 use numbers::answers;
 use step::MAX_BYTES;
 
@@ -37,7 +38,7 @@ pub extern "C" fn dizbaral_bench_run(
     ensures bench_after { bench.new ≡ bench_leaves bench.old kept.now board sheet.now ready }
 {
     if 7 < board {
-        return answers::refused(28);
+        return answers::refused(Refusal::NoBoard);
     }
     let mut one = numbers::bench::runner_at(bench, board);
     if 1 < one[3] {

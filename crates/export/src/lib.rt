@@ -6,8 +6,7 @@ pub mod bench;
 pub mod read;
 pub mod slots;
 
-ghost use Rattle.std.specs.Prelude.{◌≡◌, length};
-ghost use Rattle.std.proofs.Math.Option.{some};
+ghost use Rattle.std.specs.Prelude.{◌≡◌, length, Some};
 ghost use Rattle.base.specs.Answer.{value};
 ghost use Rattle.divider.specs.Pio.{pio_of};
 ghost use Rattle.pll.specs.Setting.{valid_of, output_of};
@@ -16,21 +15,20 @@ ghost use Rattle.speed_book.specs.Book.{crystal, table};
 ghost use Rattle.speed_book.specs.Lookup.{lookup_in};
 ghost use Rattle.pll.specs.Usb.{usb_of};
 ghost use Rattle.margin.specs.Margin.{margin_of};
-ghost use Rattle.config.specs.Presets.{planned_is, system_plan, system_plan_from};
+ghost use Rattle.config.specs.Presets.{system_plan, system_plan_from};
+ghost use Rattle.base.specs.Answer.{answer_of};
 ghost use Rattle.lister.specs.Lister.{listed_of, listed_in};
 ghost use Rattle.bring_up.specs.ComesUp.{longest_wait};
-ghost use Rattle.numbers.specs.Plan.{plan_read_is};
 ghost use Rattle.numbers.specs.Answers.{answer_number, itself, setting_number, dividers_are, done, limits_after, chip_numbered, on_chip};
 ghost use Rattle.numbers.specs.Answers.{voltage_number, divider_numbered, gpout_number};
 ghost use Rattle.export.specs.Sheet.{SheetCall, preset_on, given, plan_on};
 ghost use Rattle.numbers.specs.Run.{run_number, run_leaves, StartCall};
 ghost use Rattle.numbers.specs.Access.{AccessCall};
 
-use config::{ClockConfig, Planned};
+use base::Refusal;
+use config::ClockConfig;
 use margin::Margin;
 use numbers::answers;
-use numbers::answers::{OptionChip, OptionDiv};
-use numbers::plan::PlanRead;
 use pll::PllConfig;
 use step::MAX_BYTES;
 
@@ -85,11 +83,11 @@ pub extern "C" fn dizbaral_target_margin(
     ensures limits_after { limits.new ≡ limits_after (margin_of input_hz target_hz) limits.old }
 {
     match margin::target_margin(input_hz, target_hz) {
-        Margin::Between(lower, higher) => {
+        Ok(Margin { lower, higher }) => {
             *limits = [answers::limit(lower), answers::limit(higher)];
             0
         }
-        Margin::Refused(number) => answers::refused(number),
+        Err(why) => answers::refused(why),
     }
 }
 
@@ -130,7 +128,7 @@ pub extern "C" fn dizbaral_output_frequency(
         post_div1,
         post_div2,
     };
-    answers::number(setting.output_frequency(input_hz))
+    answers::number(setting.output_frequency(input_hz).map(u64::from))
 }
 
 // The voltage code and brownout level of a regulator reading. Refusal: 18; an unknown chip is malformed.
@@ -139,8 +137,8 @@ pub extern "C" fn dizbaral_core_voltage(chip: u8, reading: u8) -> u64
     ensures { result ≡ on_chip (λ on. voltage_number on reading) (chip_numbered chip) }
 {
     match answers::chip(chip) {
-        OptionChip::Some(on) => answers::voltage(on, reading),
-        OptionChip::None => answers::MALFORMED,
+        Some(on) => answers::voltage(on, reading),
+        None => answers::MALFORMED,
     }
 }
 
@@ -149,7 +147,7 @@ pub extern "C" fn dizbaral_core_voltage(chip: u8, reading: u8) -> u64
 pub extern "C" fn dizbaral_pio_divider(sys_hz: u32, target_hz: u32) -> u64
     ensures { result ≡ answer_number itself (pio_of sys_hz target_hz) }
 {
-    answers::number(divider::calculate_pio_clock_divider_value(sys_hz, target_hz))
+    answers::number(divider::calculate_pio_clock_divider_value(sys_hz, target_hz).map(u64::from))
 }
 
 // The frequency of a Gpout in Hz. Refusal: 23; an unknown chip or a fraction of too many bits is malformed.
@@ -164,35 +162,35 @@ pub extern "C" fn dizbaral_gpout_frequency(
     ensures { result ≡ gpout_number (divider_numbered whole fraction (chip_numbered chip)) source freqs.now }
 {
     match answers::divider(chip, whole, fraction) {
-        OptionDiv::Some(divider) => answers::number(divider::get_freq(source, divider, freqs)),
-        OptionDiv::None => answers::MALFORMED,
+        Some(divider) => answers::number(divider::get_freq(source, divider, freqs).map(u64::from)),
+        None => answers::MALFORMED,
     }
 }
 
 // Writes a plan's sheet and answers its length. Refusals: 18, 1 to 14, 19.
 fn write(plan: ClockConfig, reading: u8, sheet: &mut [u8]) -> u64
-    ensures { SheetCall (some (value plan)) reading sheet.old result sheet.new }
+    ensures { SheetCall (Some (value plan)) reading sheet.old result sheet.new }
 {
-    answers::length(sheet::init(plan, reading, sheet))
+    answers::number(sheet::init(plan, reading, sheet).map(|n| n as u64))
 }
 
 // Writes the sheet of a preset's plan, or answers the preset's refusal.
-fn write_planned(plan: Planned, reading: u8, sheet: &mut [u8]) -> u64
-    ensures { SheetCall (some (planned_is plan)) reading sheet.old result sheet.new }
+fn write_planned(plan: Result<ClockConfig, Refusal>, reading: u8, sheet: &mut [u8]) -> u64
+    ensures { SheetCall (Some (answer_of plan)) reading sheet.old result sheet.new }
 {
     match plan {
-        Planned::Plan(config) => write(config, reading, sheet),
-        Planned::Refused(number) => answers::refused(number),
+        Ok(config) => write(config, reading, sheet),
+        Err(why) => answers::refused(why),
     }
 }
 
 // Writes the sheet of a plan that is given as numbers; numbers of no plan are malformed.
-fn write_given(plan: PlanRead, reading: u8, sheet: &mut [u8]) -> u64
-    ensures { SheetCall (given (plan_read_is plan)) reading sheet.old result sheet.new }
+fn write_given(plan: Option<ClockConfig>, reading: u8, sheet: &mut [u8]) -> u64
+    ensures { SheetCall (given plan) reading sheet.old result sheet.new }
 {
     match plan {
-        PlanRead::Plan(config) => write(config, reading, sheet),
-        PlanRead::Bad => answers::MALFORMED,
+        Some(config) => write(config, reading, sheet),
+        None => answers::MALFORMED,
     }
 }
 
@@ -202,8 +200,8 @@ pub extern "C" fn dizbaral_system_sheet(chip: u8, hz: u32, reading: u8, sheet: &
     ensures { SheetCall (preset_on (λ on. system_plan on hz) (chip_numbered chip)) reading sheet.old result sheet.new }
 {
     match answers::chip(chip) {
-        OptionChip::Some(on) => write_planned(ClockConfig::system_freq(on, hz), reading, sheet),
-        OptionChip::None => answers::MALFORMED,
+        Some(on) => write_planned(ClockConfig::system_freq(on, hz), reading, sheet),
+        None => answers::MALFORMED,
     }
 }
 
@@ -219,12 +217,12 @@ pub extern "C" fn dizbaral_system_sheet_from(
     ensures { SheetCall (preset_on (λ on. system_plan_from on crystal_hz hz) (chip_numbered chip)) reading sheet.old result sheet.new }
 {
     match answers::chip(chip) {
-        OptionChip::Some(on) => write_planned(
+        Some(on) => write_planned(
             ClockConfig::system_freq_from(on, crystal_hz, hz),
             reading,
             sheet,
         ),
-        OptionChip::None => answers::MALFORMED,
+        None => answers::MALFORMED,
     }
 }
 
@@ -234,8 +232,8 @@ pub extern "C" fn dizbaral_plan_sheet(chip: u8, plan: &[u32], reading: u8, sheet
     ensures { SheetCall (plan_on plan.now (chip_numbered chip)) reading sheet.old result sheet.new }
 {
     match answers::chip(chip) {
-        OptionChip::Some(on) => write_given(numbers::plan::plan(on, plan), reading, sheet),
-        OptionChip::None => answers::MALFORMED,
+        Some(on) => write_given(numbers::plan::plan(on, plan), reading, sheet),
+        None => answers::MALFORMED,
     }
 }
 
@@ -245,7 +243,7 @@ pub extern "C" fn dizbaral_list(input_hz: u32, target_hz: u32, list: &mut [u8]) 
     ensures value { result ≡ answer_number itself (listed_of input_hz target_hz (length list.old)) }
     ensures list_after { list.new ≡ listed_in input_hz target_hz list.old }
 {
-    answers::length(lister::list_exact(input_hz, target_hz, list))
+    answers::number(lister::list_exact(input_hz, target_hz, list).map(|n| n as u64))
 }
 
 // Starts a runner with a sheet and answers 0; any numbers may be given before. Refusal: 20.

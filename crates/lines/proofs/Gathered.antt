@@ -5,7 +5,8 @@ use Prim.Native.Nat.{ℕ, suc, ◌+◌, ◌≤◌, ◌<◌}
 use native.Mathlib.{Nat.add-zero, Nat.zero-add, Decide.dec_le, Omega.arith}
 use borrow.Author.Tests.{ne_eqb, lt-ltb, le-ltb}
 use lib.{ListN.length, ListN.take, ListN.drop, ListN.set, Seq.sets, Seq.sets-eq, Seq.take-append_seam}
-use Rattle.lines.specs.Lines.{Held, held_of, held_text, fed, feeds, NoNewline, FedLine, FedTooMuch}
+use Rattle.lines.specs.declared.Held.{Held}
+use Rattle.lines.specs.Lines.{held_of, held_text, fed, feeds, NoNewline, FedLine, FedTooMuch}
 
 feeds-line : (line before : List ℕ) (n : ℕ) → NoNewline line → n + length line ≤ 4096
     → feeds (held_of before n) line ≡ held_of (sets before n line) (n + length line)

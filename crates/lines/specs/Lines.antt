@@ -1,20 +1,20 @@
 -- A text that arrives in pieces of any size is answered line by line, in the order of the lines (docs/PROGRAMS.md, Programs
 -- answers and limits).
 use mathlib.Core.{Path.◌≡◌, List.List, List.[], List.◌∷◌, List.◌++◌}
-use Rattle.std.specs.Prelude.{ℕ, ◌+◌, ◌≤◌, ◌<◌}
-use lib.{Dec.eqb, Dec.ltb, ListN.length, ListN.take, ListN.set, Seq.sets}
+use Rattle.std.specs.Prelude.{Option, Some, None, IfSome, ℕ, ◌+◌, ◌≤◌, ◌<◌}
+use lib.{Dec.eqb, Dec.ltb, ListN.length, ListN.take, ListN.set, ListN.replicate, Seq.sets}
 use Rattle.base.specs.{Choice.pick, Placed.past}
 use Rattle.replies.specs.Reply.{bad_case}
 use Rattle.cases.specs.Cases.{answer_to}
-use Rattle.lines.specs.declared.Fed.{Fed}
+use Rattle.lines.specs.declared.Held.{Held}
 
 -- what is held of a line: its bytes at the start of a buffer of 4096, and their count; 4097 marks a line that is too long
-pub record Held : Type 0 where
-  pub bytes : List ℕ
-  pub len : ℕ
-
 abbrev pub held_of : List ℕ → ℕ → Held
 held_of bytes len = record { bytes = bytes; len = len }
+
+-- no line has begun
+abbrev pub no_line : Held
+no_line = held_of (replicate 4096 0) 0
 
 -- the answer to the held line and a newline; a line that is too long is no case
 unfoldable pub held_text : Held → List ℕ
@@ -39,12 +39,13 @@ unfoldable pub feeds_out : Held → List ℕ → List ℕ → List ℕ
 feeds_out s out [] = out
 feeds_out s out (b ∷ bs) = feeds_out (fed s b) (fed_out s out b) bs
 
--- the call that takes a byte; the answer ends after its newline, or at the end of a buffer of fewer than 3478 bytes
-pub record Feeding (s : Held) (b : ℕ) (out : List ℕ) (r : Fed) (held' out' : List ℕ) : Type 0 where
-  pub held : held_of held' r.len ≡ fed s b
-  pub answer : r.answer ≡ pick (eqb b 10) (past out 0 (held_text s)) 0
-  pub inside : r.answer ≤ length out
-  pub whole : 3478 ≤ length out → r.answer ≡ pick (eqb b 10) (length (held_text s)) 0
+-- the call that takes a byte and answers, for a newline, the index after the answer; that is the end of its newline, or the end of
+-- a buffer of fewer than 3478 bytes
+pub record Feeding (s : Held) (b : ℕ) (out : List ℕ) (r : Option ℕ) (s' : Held) (out' : List ℕ) : Type 0 where
+  pub held : s' ≡ fed s b
+  pub answer : r ≡ pick (eqb b 10) (Some (past out 0 (held_text s))) None
+  pub inside : IfSome r (λ n. n ≤ length out)
+  pub whole : 3478 ≤ length out → r ≡ pick (eqb b 10) (Some (length (held_text s))) None
   pub buffer : out' ≡ fed_out s out b
 
 -- a line of up to 4096 bytes without a newline is answered as those bytes, whatever the buffer held before; a longer line is no

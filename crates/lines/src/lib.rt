@@ -3,94 +3,99 @@
 
 ghost use Rattle.std.specs.Prelude.{◌≡◌, ◌≤◌, length};
 ghost use Rattle.base.specs.Placed.{Placed};
-ghost use Rattle.lines.specs.Lines.{held_of, held_text, pushed, feeds, feeds_out, Feeding};
+ghost use Rattle.lines.specs.Lines.{no_line, held_text, pushed, feeds, feeds_out, Feeding};
 
 use std::io::{Input, Read};
 
-// The number of bytes held after a byte is taken, 4097 for a line of more than 4096; and the answer's length, 0 where there is
-// none.
+// What is held of a line: its first bytes, and their number, which is 4097 for a line of more than 4096.
 #[derive(Drop)]
-pub struct Fed {
+pub struct Held {
+    pub bytes: [u8; 4096],
     pub len: usize,
-    pub answer: usize,
 }
 
-// Adds a byte to the held line and answers its new length, 4097 where it is too long.
-fn push(held: &mut [u8; 4096], len: usize, b: u8) -> usize
-    ensures { held_of held.new result ≡ pushed (held_of held.old len) b }
-{
-    if len < 4096 {
-        held[len] = b;
-        return len + 1;
+impl Held {
+    // No line has begun.
+    pub fn new() -> Held
+        ensures { result ≡ no_line }
+    {
+        Held {
+            bytes: [0; 4096],
+            len: 0,
+        }
     }
-    4097
+
+    // Adds a byte to the line.
+    fn push(&mut self, b: u8)
+        ensures { self.new ≡ pushed self.old b }
+    {
+        if self.len < 4096 {
+            self.bytes[self.len] = b;
+            self.len += 1;
+        } else {
+            self.len = 4097;
+        }
+    }
+
+    // Writes the answer to the line and a newline, and answers the index after them.
+    #[tactic(auto, using(std::proofs::lemmas::Bool::Decides::nat_tests), unfolding(crate::specs::Lines::held_text))]
+    fn answer(&self, out: &mut [u8]) -> usize
+        ensures placed { Placed out.old 0 (held_text self.now) result out.new }
+        ensures short { length (held_text self.now) ≤ 3478 }
+    {
+        let len = self.len;
+        if 4096 < len {
+            let bad = replies::put_bad(out);
+            return base::put(out, bad, b'\n');
+        }
+        let end = cases::answer(&self.bytes[..len], out);
+        base::put(out, end, b'\n')
+    }
+
+    // Takes a byte. A newline closes the line, whose answer is written; it answers the index after it.
+    #[tactic(auto, using(std::proofs::lemmas::Bool::Decides::nat_tests), unfolding(crate::specs::Lines::fed, crate::specs::Lines::fed_out))]
+    fn feed(&mut self, b: u8, out: &mut [u8]) -> Option<usize>
+        ensures { Feeding self.old b out.old result self.new out.new }
+    {
+        if b == b'\n' {
+            let n = self.answer(out);
+            self.len = 0;
+            return Some(n);
+        }
+        self.push(b);
+        None
+    }
 }
 
-// Writes the answer to the held line and a newline, and answers the index after them.
-fn answer(held: &[u8], len: usize, out: &mut [u8]) -> usize
-    ensures placed { Placed out.old 0 (held_text (held_of held.now len)) result out.new }
-    ensures short { length (held_text (held_of held.now len)) ≤ 3478 }
+// Answers each line that the piece closes, in order, and holds the bytes after the last newline.
+#[tactic(auto, unfolding(crate::specs::Lines::feeds, crate::specs::Lines::feeds_out))]
+pub fn take_piece(rt: &impl Print, piece: &[u8], held: &mut Held, out: &mut [u8])
+    ensures held { held.new ≡ feeds held.old piece.now }
+    ensures out { out.new ≡ feeds_out held.old out.old piece.now }
 {
-    if 4096 < len {
-        let bad = replies::put_bad(out);
-        return text::put_byte(out, bad, b'\n');
+    for b in piece {
+        if let Some(n) = held.feed(*b, out) {
+            // A failed write is not reported: what is held does not depend on it.
+            let _ = rt.write_all(&out[..n]);
+        }
     }
-    let end = cases::answer(base::first(held, len), out);
-    text::put_byte(out, end, b'\n')
-}
-
-// Takes a byte. A newline closes the held line, which is then answered.
-fn feed(held: &mut [u8; 4096], len: usize, b: u8, out: &mut [u8]) -> Fed
-    ensures { Feeding (held_of held.old len) b out.old result held.new out.new }
-{
-    if b == b'\n' {
-        let n = answer(held, len, out);
-        return Fed { len: 0, answer: n };
-    }
-    let len = push(held, len, b);
-    Fed { len, answer: 0 }
-}
-
-// Answers each line that the piece closes, in order, and holds the bytes after the last newline; answers how many are held.
-pub fn take_piece(
-    rt: &impl Print,
-    piece: &[u8],
-    held: &mut [u8; 4096],
-    before: usize,
-    out: &mut [u8],
-) -> usize
-    ensures held { held_of held.new result ≡ feeds (held_of held.old before) piece.now }
-    ensures out { out.new ≡ feeds_out (held_of held.old before) out.old piece.now }
-{
-    let mut len = before;
-    let mut at = 0;
-    while at < piece.len() {
-        let next = feed(held, len, piece[at], out);
-        let n = next.answer;
-        // A failed write is not reported: what is held does not depend on it.
-        let _ = rt.write_all(&out[..n]);
-        len = next.len;
-        at += 1;
-    }
-    len
 }
 
 // Answers the lines of standard input; the last line may lack its newline. A failed read counts as the end of the input.
 pub fn serve(rt: &(impl Input + Print)) {
     let mut reader = rt.reader();
-    let mut held = [0u8; 4096];
+    let mut held = Held::new();
     let mut out = [0u8; 4096];
     let mut piece = [0u8; 65536];
-    let mut len = 0;
     // The count bounds the loop, as every loop has to end; no input has 2 ^ 64 pieces.
     for _ in 0..u64::MAX {
         let n = reader.read(&mut piece).unwrap_or(0);
         if n == 0 {
             break;
         }
-        len = take_piece(rt, &piece[..n], &mut held, len, &mut out);
+        take_piece(rt, &piece[..n], &mut held, &mut out);
     }
-    if 0 < len {
-        let _last = take_piece(rt, b"\n", &mut held, len, &mut out);
+    if 0 < held.len {
+        take_piece(rt, b"\n", &mut held, &mut out);
     }
 }

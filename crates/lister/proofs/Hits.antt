@@ -20,9 +20,6 @@ use Rattle.lister.proofs.{Writing.nothing, Walks.same-feedback, Walks.none_kept,
 abbrev pub divides : ℕ → ℕ → Bool
 divides p1 q = in_range 1 p1 (q / p1) && eqb (q % p1) 0
 
-pub post2-most : (p1 q : ℕ) → divides p1 q ≡ true → q / p1 ≤ p1
-post2-most p1 q e = (in-range 1 p1 (q / p1) (both_true (in_range 1 p1 (q / p1)) (eqb (q % p1) 0) e).0).1
-
 -- of the post 2 from n down to 1, at most one makes a product with post 1
 module _ (fb p1 : ℕ) (positive : 1 ≤ p1) where
   no-product : (q n : ℕ) → ((k : ℕ) → 1 ≤ k → k ≤ n → p1 * k ≡ q → ⊥)

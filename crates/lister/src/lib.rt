@@ -2,61 +2,67 @@
 #![tactic(auto)]
 
 ghost use Rattle.std.specs.Prelude.{◌≡◌, ◌+◌, ◌≤◌, [], ◌∷◌, length, set};
-ghost use Rattle.base.specs.Answer.{length_is};
+ghost use Rattle.base.specs.Answer.{answer_of};
 ghost use Rattle.pll.specs.Ranges.{reference_min, feedback_max};
 ghost use Rattle.pll.specs.Law.{VcoPermits};
-ghost use Rattle.pll.specs.Search.{setting, keep};
+ghost use Rattle.pll.specs.Search.{keep};
 ghost use Rattle.lister.specs.Lister.{meets, list_of, listed_of, listed_in};
 ghost use Rattle.lister.specs.Order.{at_post1, at_feedback, has_product, Wrote};
 
-use base::{Length, Number};
+use base::Refusal;
+use pll::PllConfig;
 
-// Sets the byte at an index; an index past the buffer changes nothing.
+// Sets the byte at an index; an index past the buffer changes nothing. It is a test and an index: of `get_mut` a proof
+// would know no byte.
 fn set_byte(buf: &mut [u8], at: usize, value: u8)
     ensures { buf.new ≡ set buf.old at value }
 {
-    if buf.len() <= at {
-        return;
+    if at < buf.len() {
+        buf[at] = value;
     }
-    buf[at] = value;
 }
 
 // Puts the two bytes of a setting at an index, as far as the buffer reaches, and answers the index past them.
-fn put(buf: &mut [u8], at: usize, fbdiv: u64, post1: u64, post2: u64) -> usize
-    requires { (at ≤ 5000) × (fbdiv ≤ feedback_max) × (post1 ≤ 7) × (post2 ≤ 7) }
-    ensures { Wrote buf.old at (setting fbdiv post1 post2 ∷ []) buf.new result }
+fn put(buf: &mut [u8], at: usize, c: PllConfig) -> usize
+    requires { (at ≤ 5000) × (c.fbdiv ≤ feedback_max) × (c.post_div1 ≤ 7) × (c.post_div2 ≤ 7) }
+    ensures { Wrote buf.old at (c ∷ []) buf.new result }
 {
-    let word = fbdiv * 128 + post1 * 16 + post2 * 2;
-    set_byte(buf, at, (word / 256) as u8);
-    set_byte(buf, at + 1, (word % 256) as u8);
+    let word = c.fbdiv * 128 + u16::from(c.post_div1) * 16 + u16::from(c.post_div2) * 2;
+    let [high, low] = word.to_be_bytes();
+    set_byte(buf, at, high);
+    set_byte(buf, at + 1, low);
     at + 2
 }
 
 // Puts the setting with a given feedback divider, post 1 and post product, if there is one.
-fn put_post1(buf: &mut [u8], at: usize, fbdiv: u64, post1: u64, product: u64) -> usize
+fn put_post1(buf: &mut [u8], at: usize, fbdiv: u32, post1: u32, product: u32) -> usize
     requires { (at ≤ 5000) × (fbdiv ≤ feedback_max) × (1 ≤ post1) × (post1 ≤ 7) }
     ensures wrote { Wrote buf.old at (keep (has_product product) (at_post1 fbdiv post1)) buf.new result }
     ensures upper_bound { result ≤ at + 2 }
 {
     let post2 = product / post1;
-    if base::in_range(1, post1, post2) & (product % post1 == 0) {
-        put(buf, at, fbdiv, post1, post2)
+    if (1..=post1).contains(&post2) && product % post1 == 0 {
+        let c = PllConfig {
+            refdiv: 1,
+            fbdiv: fbdiv as u16,
+            post_div1: post1 as u8,
+            post_div2: post2 as u8,
+        };
+        put(buf, at, c)
     } else {
         at
     }
 }
 
 // Puts the settings with a given feedback divider and post product, the greatest post 1 first.
-fn put_posts(buf: &mut [u8], at: usize, fbdiv: u64, product: u64) -> usize
+fn put_posts(buf: &mut [u8], at: usize, fbdiv: u32, product: u32) -> usize
     requires { (at ≤ 4900) × (fbdiv ≤ feedback_max) }
     ensures wrote { Wrote buf.old at (keep (has_product product) (at_feedback fbdiv)) buf.new result }
     ensures upper_bound { result ≤ at + 14 }
 {
     let mut next = at;
-    let mut post1: u64 = 7;
-    while 1 <= post1 {
+    for post1 in (1..=7).rev() {
         next = put_post1(buf, next, fbdiv, post1, product);
-        post1 -= 1;
     }
     next
 }
@@ -68,13 +74,11 @@ fn put_feedback(buf: &mut [u8], at: usize, input_hz: u32, target_hz: u32, fbdiv:
     ensures upper_bound { result ≤ at + 14 }
 {
     let vco = input_hz * fbdiv;
-    if target_hz == 0 {
-        return at;
+    if vco.checked_rem(target_hz) == Some(0) {
+        put_posts(buf, at, fbdiv, vco / target_hz)
+    } else {
+        at
     }
-    if vco % target_hz != 0 {
-        return at;
-    }
-    put_posts(buf, at, fbdiv as u64, (vco / target_hz) as u64)
 }
 
 // Puts the whole list, from the lowest permitted feedback divider to the highest. It answers the length of the list
@@ -82,17 +86,15 @@ fn put_feedback(buf: &mut [u8], at: usize, input_hz: u32, target_hz: u32, fbdiv:
 fn put_list(buf: &mut [u8], input_hz: u32, target_hz: u32) -> usize
     ensures { Wrote buf.old 0 (list_of input_hz target_hz) buf.new result }
 {
-    let Number::Value(low) = pll::feedback::lowest(input_hz) else {
+    let Ok(low) = pll::feedback::lowest(input_hz) else {
         return 0;
     };
-    let Number::Value(high) = pll::feedback::highest(input_hz) else {
+    let Ok(high) = pll::feedback::highest(input_hz) else {
         return 0;
     };
     let mut next = 0;
-    let mut fbdiv = low;
-    while fbdiv <= high {
+    for fbdiv in low..=high {
         next = put_feedback(buf, next, input_hz, target_hz, fbdiv);
-        fbdiv += 1;
     }
     next
 }
@@ -100,15 +102,14 @@ fn put_list(buf: &mut [u8], input_hz: u32, target_hz: u32) -> usize
 // Writes every setting of the search that gives the target with no remainder, the lowest feedback divider first, then
 // the greatest post 1, then the greatest post 2, and answers the number of bytes. Refuses with 19 a buffer that is
 // too short, and then writes nothing.
-pub fn list_exact(input_hz: u32, target_hz: u32, buf: &mut [u8]) -> Length
-    ensures result_value { length_is result ≡ listed_of input_hz target_hz (length buf.old) }
+pub fn list_exact(input_hz: u32, target_hz: u32, buf: &mut [u8]) -> Result<usize, Refusal>
+    ensures result_value { answer_of result ≡ listed_of input_hz target_hz (length buf.old) }
     ensures buf_after { buf.new ≡ listed_in input_hz target_hz buf.old }
 {
     // The first pass, over an empty buffer, only counts.
-    let mut nowhere = [0u8; 0];
-    let length = put_list(&mut nowhere, input_hz, target_hz);
+    let length = put_list(&mut [], input_hz, target_hz);
     if buf.len() < length {
-        return Length::Refused(19);
+        return Err(Refusal::ShortBuffer);
     }
-    Length::Bytes(put_list(buf, input_hz, target_hz))
+    Ok(put_list(buf, input_hz, target_hz))
 }

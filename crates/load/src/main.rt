@@ -1,18 +1,17 @@
 // Program `load` (docs/PROGRAMS.md, Program load): reads a seed and a count from standard input and prints both trials.
 #![tactic(auto)]
 
-use input::Line;
 use std::io;
 
 fn main(rt: HostRuntime) -> io::Result<()> {
     let mut line = [0u8; 22];
     let mut out = [0u8; 80012];
     match input::read_line(&mut rt.stdin(), &mut line) {
-        Line::Bytes(n) => {
+        Ok(n) => {
             let size = trial::load(&line, n, &mut out);
             rt.write_all(&out[..size])
         }
-        Line::Unread => {
+        Err(_) => {
             let mut refused = [0u8; 11];
             let size = replies::put_unread(&mut refused);
             rt.write_all(&refused[..size])

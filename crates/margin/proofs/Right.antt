@@ -1,12 +1,14 @@
 -- `margin_of` is right by `RightMargin` (specs/Law), and so any right answer equals it.
-use mathlib.Core.{Path.◌≡◌, Path.refl, Path.sym, Path.ap, Path.◌∙◌, Bool.Bool, Bool.true, Bool.false, Option.some}
+use Rattle.std.specs.Prelude.{Some}
+use mathlib.Core.{Path.◌≡◌, Path.refl, Path.sym, Path.ap, Path.◌∙◌, Bool.Bool, Bool.true, Bool.false}
 use mathlib.Core.Logic.{⊎_elim}
 use Prim.Native.Nat.{ℕ, zero, suc, ◌+◌, ◌-◌, ◌≤◌, ◌<◌}
 use native.Mathlib.{Omega.arith, Nat.eq-or-lt_of_le}
 use Rattle.base.specs.{Answer.Answer, Answer.value, Answer.refusal, Choice.pick}
 use Rattle.pll.specs.Search.{search_of}
 use Rattle.pll.specs.declared.PllConfig.{PllConfig}
-use Rattle.margin.specs.Margin.{Sides, is_setting, lower_from, higher_from, margin_at, margin_of}
+use Rattle.margin.specs.Margin.{is_setting, lower_from, higher_from, margin_at, margin_of}
+use Rattle.margin.specs.declared.Margin.{Margin}
 use Rattle.margin.specs.Law.{RightLower, RightHigher, RightMargin}
 use Rattle.pll.proofs.Same.{same-path, same_self}
 use Rattle.margin.proofs.{Sides.no, Sides.value_same, Sides.refused-not, Sides.refused-15, Unique.margin-unique}
@@ -40,7 +42,7 @@ module _ (input target : ℕ) (c : PllConfig) (given : search_of input target �
       go : (b : Bool) → test t ≡ b
           → (((u : ℕ) → t ≤ u → u ≤ target → search_of input u ≡ search_of input target)
           → RightLower input target (lower_from test t))
-          → RightLower input target (pick b (lower_from test t) (some t))
+          → RightLower input target (pick b (lower_from test t) (Some t))
       go true e next =
           next (λ u a b. ⊎_elim (λ f. ap (search_of input) (sym f) ∙ shares t e) (λ m. passed u m b) (eq-or-lt_of_le a))
       go false e next = (l, differs t e, passed)
@@ -55,7 +57,7 @@ module _ (input target : ℕ) (c : PllConfig) (given : search_of input target �
       go : (b : Bool) → test (suc t) ≡ b
           → (((u : ℕ) → target ≤ u → u ≤ suc t → search_of input u ≡ search_of input target)
           → RightHigher input target (higher_from test n (suc t)))
-          → RightHigher input target (pick b (higher_from test n (suc t)) (some (suc t)))
+          → RightHigher input target (pick b (higher_from test n (suc t)) (Some (suc t)))
       go true f next =
           next (λ u a b. ⊎_elim (λ g. ap (search_of input) g ∙ shares (suc t) f) (λ m. passed u a (omega arith)) (eq-or-lt_of_le b))
       go false f next = (omega arith, omega arith, differs (suc t) f, λ u a b. passed u a (omega arith))
@@ -77,6 +79,6 @@ module _ (input target : ℕ) where
       )
       go (refusal n) e = refused-15 input target n e
 
-  pub right-is-margin : target < 4294967296 → (a : Answer Sides) → RightMargin input target a
+  pub right-is-margin : target < 4294967296 → (a : Answer Margin) → RightMargin input target a
       → a ≡ margin_of input target
   right-is-margin fits a r = margin-unique input target a (margin_of input target) r (margin-right fits)

@@ -1,9 +1,10 @@
 -- `RightMargin` leaves no choice: two answers that are right are equal.
-use mathlib.Core.{Path.◌≡◌, Path.refl, Path.sym, Path.ap, Path.◌∙◌, Option.Option, Option.none, Option.some}
+use Rattle.std.specs.Prelude.{Option, Some, None}
+use mathlib.Core.{Path.◌≡◌, Path.refl, Path.sym, Path.ap, Path.◌∙◌}
 use Prim.Native.Nat.{ℕ, ◌≤◌, ◌<◌}
 use native.Mathlib.{Omega.arith, Decide.dec_le}
 use Rattle.base.specs.Answer.{Answer, value, refusal}
-use Rattle.margin.specs.{Margin.Sides, Law.RightLower, Law.RightHigher, Law.RightMargin}
+use Rattle.margin.specs.{declared.Margin.Margin, Law.RightLower, Law.RightHigher, Law.RightMargin}
 use Rattle.margin.proofs.Sides.{refused-not}
 
 not-above : (a b : ℕ) → (a < b → ⊥) → b ≤ a
@@ -15,26 +16,26 @@ not-above a b n = go (dec_le b a)
 
 module _ (input target : ℕ) where
   lower-unique : (l m : Option ℕ) → RightLower input target l → RightLower input target m → l ≡ m
-  lower-unique (some l) (some m) h k =
+  lower-unique (Some l) (Some m) h k =
       let a : m ≤ l = not-above l m (λ e. k.1 (h.2 m e (omega (arith, k.0)))) in
       let b : l ≤ m = not-above m l (λ e. h.1 (k.2 l e (omega (arith, h.0)))) in
       let e : l ≡ m = omega arith in
-      ap some e
-  lower-unique (some l) none h k = absurd (h.1 (k l (omega (arith, h.0))))
-  lower-unique none (some m) h k = absurd (k.1 (h m (omega (arith, k.0))))
-  lower-unique none none h k = refl
+      ap Some e
+  lower-unique (Some l) None h k = absurd (h.1 (k l (omega (arith, h.0))))
+  lower-unique None (Some m) h k = absurd (k.1 (h m (omega (arith, k.0))))
+  lower-unique None None h k = refl
 
   higher-unique : (l m : Option ℕ) → RightHigher input target l → RightHigher input target m → l ≡ m
-  higher-unique (some l) (some m) h k =
+  higher-unique (Some l) (Some m) h k =
       let a : m ≤ l = not-above l m (λ e. h.2 (k.3 l (omega (arith, h.0)) e)) in
       let b : l ≤ m = not-above m l (λ e. k.2 (h.3 m (omega (arith, k.0)) e)) in
       let e : l ≡ m = omega arith in
-      ap some e
-  higher-unique (some l) none h k = absurd (h.2 (k l (omega (arith, h.0)) h.1))
-  higher-unique none (some m) h k = absurd (k.2 (h m (omega (arith, k.0)) k.1))
-  higher-unique none none h k = refl
+      ap Some e
+  higher-unique (Some l) None h k = absurd (h.2 (k l (omega (arith, h.0)) h.1))
+  higher-unique None (Some m) h k = absurd (k.2 (h m (omega (arith, k.0)) k.1))
+  higher-unique None None h k = refl
 
-  pub margin-unique : (a b : Answer Sides) → RightMargin input target a → RightMargin input target b → a ≡ b
+  pub margin-unique : (a b : Answer Margin) → RightMargin input target a → RightMargin input target b → a ≡ b
   margin-unique (value s) (value t) h k =
       let l = lower-unique s.lower t.lower h.1 k.1 in
       let g = higher-unique s.higher t.higher h.2 k.2 in

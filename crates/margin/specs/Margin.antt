@@ -1,17 +1,11 @@
 -- The margin of a target (docs/PLL.md, Margin): the definition steps hertz by hertz to either side until the search
 -- gives another setting.
-use mathlib.Core.{Bool.Bool, Bool.false, Option.Option, Option.none, Option.some}
-use Rattle.std.specs.Prelude.{ℕ, zero, suc, ◌-◌}
+use mathlib.Core.{Bool.Bool, Bool.false}
+use Rattle.std.specs.Prelude.{ℕ, zero, suc, ◌-◌, Option, Some, None}
 use Rattle.base.specs.{Answer.Answer, Answer.value, Answer.refusal, Choice.pick}
 use Rattle.pll.specs.{Search.search_of, Setting.same_setting}
 use Rattle.pll.specs.declared.PllConfig.{PllConfig}
-use Rattle.margin.specs.declared.{Limit.Limit, Limit.TheVariants.At, Limit.TheVariants.Nothing, Margin.Margin}
-use Rattle.margin.specs.declared.Margin.TheVariants.{Between, Refused}
-
--- the greatest lower and the smallest higher target whose setting differs; either may be absent
-pub record Sides : Type 0 where
-  pub lower : Option ℕ
-  pub higher : Option ℕ
+use Rattle.margin.specs.declared.Margin.{Margin}
 
 -- an answer is the setting c
 abbrev pub is_setting : PllConfig → Answer PllConfig → Bool
@@ -20,16 +14,16 @@ is_setting c (refusal n) = false
 
 -- the greatest number below t that does not pass the test
 unfoldable pub lower_from : (ℕ → Bool) → ℕ → Option ℕ
-lower_from test zero = none
-lower_from test (suc t) = pick (test t) (lower_from test t) (some t)
+lower_from test zero = None
+lower_from test (suc t) = pick (test t) (lower_from test t) (Some t)
 
 -- the smallest of the n numbers above t that does not pass the test
 unfoldable pub higher_from : (ℕ → Bool) → ℕ → ℕ → Option ℕ
-higher_from test zero t = none
-higher_from test (suc n) t = pick (test (suc t)) (higher_from test n (suc t)) (some (suc t))
+higher_from test zero t = None
+higher_from test (suc n) t = pick (test (suc t)) (higher_from test n (suc t)) (Some (suc t))
 
 -- the margin of a target, given the answer of the search; the greatest 32-bit target is 4294967295
-abbrev pub margin_at : ℕ → ℕ → Answer PllConfig → Answer Sides
+abbrev pub margin_at : ℕ → ℕ → Answer PllConfig → Answer Margin
 margin_at input target (value c) =
     value (record {
       lower = lower_from (λ t. is_setting c (search_of input t)) target;
@@ -38,14 +32,5 @@ margin_at input target (value c) =
 margin_at input target (refusal n) = refusal n
 
 -- `target_margin`: both sides, or the refusal of the search
-unfoldable pub margin_of : ℕ → ℕ → Answer Sides
+unfoldable pub margin_of : ℕ → ℕ → Answer Margin
 margin_of input target = margin_at input target (search_of input target)
-
--- the code's answer as an answer of the definitions
-abbrev pub limit_is : Limit → Option ℕ
-limit_is (At t) = some t
-limit_is Nothing = none
-
-abbrev pub margin_is : Margin → Answer Sides
-margin_is (Between l h) = value (record { lower = limit_is l; higher = limit_is h })
-margin_is (Refused n) = refusal n

@@ -6,9 +6,9 @@ use lib.ListN.{get_or}
 use Rattle.config.specs.declared.ClockConfig.{ClockConfig}
 use Rattle.settings.specs.{declared.Settings.Settings, Settings.settings_of}
 use Rattle.sheet.proofs.Demand3.{demand-3}
-use Rattle.meanings.specs.{Rows.row_text, Rows.lines_of, Rows.row_in, Parts.parts_of}
-use Rattle.meanings.specs.Differences.{agree, differences_of, has_bit, part_names, part_line, part_lines, NoneDiffers}
-use Rattle.meanings.proofs.{Tables.row-in, Agree.mask-none, Agree.mask-same, Agree.mask-bit, Decode.settings_at, Decode.settings-back}
+use Rattle.meanings.specs.{Parts.parts_of}
+use Rattle.meanings.specs.Differences.{agree, differences_of, has_bit, part_line, part_lines, NoneDiffers}
+use Rattle.meanings.proofs.{Agree.mask-none, Agree.mask-same, Agree.mask-bit, Decode.settings_at, Decode.settings-back}
 
 pub none-differs : (p q : ClockConfig) (reading reading' : ℕ)
     → (differences_of (settings_of p reading) (settings_of q reading') ≡ 0) ↔ (settings_of p reading ≡ settings_of q reading')
@@ -34,10 +34,6 @@ pub part-differs : (a b : Settings) (k : ℕ) → k < 13
     → has_bit (differences_of a b) k ≡ not (agree (get_or (parts_of a) k []) (get_or (parts_of b) k []))
 unfolding differences_of
 part-differs a b k h = mask-bit (parts_of a) (parts_of b) k (omega arith) (omega arith)
-
-pub name_in : (k : ℕ) → row_text part_names k ≡ row_in (lines_of part_names) k
-unfolding part_names
-name_in k = sym (row-in part_names k refl)
 
 pub lines_next : (mask k : ℕ) → part_lines mask (k + 1) ≡ part_lines mask k ++ part_line mask k
 lines_next mask k = rw (add-one k)

@@ -1,9 +1,11 @@
 -- The settings in which two plans differ, as a mask with a bit for each part of the settings that count; the first part has the
 -- lowest bit.
+use Rattle.std.specs.Prelude.{Result}
+use Rattle.base.specs.declared.refusal.Refusal.{Refusal}
 use mathlib.Core.{Path.◌≡◌, Logic.◌↔◌, Bool.Bool, Bool.true, Bool.false, Bool.◌&&◌, List.List, List.[], List.◌∷◌, List.◌++◌}
 use Prim.Native.{Nat.ℕ, Nat.zero, Nat.suc, Nat.◌+◌, Nat.◌*◌, Nat.◌/◌, Nat.◌%◌, Nat.◌^◌, String.String}
 use Rattle.std.specs.Prelude.{eqb}
-use Rattle.base.specs.{Choice.pick, Answer.value, Answer.length_is, declared.Length.Length}
+use Rattle.base.specs.{Choice.pick, Answer.value, Answer.answer_of}
 use Rattle.config.specs.declared.ClockConfig.{ClockConfig}
 use Rattle.settings.specs.{declared.Settings.Settings, Settings.settings_of}
 use Rattle.sheet.specs.{Writer.InitCall, Demand3.SameUpTo}
@@ -27,6 +29,16 @@ mask_of [] ys = 0
 mask_of (x ∷ xs) [] = 0
 mask_of (x ∷ xs) (y ∷ ys) = pick (agree x y) 0 1 + 2 * mask_of xs ys
 
+-- Inside: which rows of two lists agree, and the bits of those that do not
+abbrev pub agreeing : List (List ℕ) → List (List ℕ) → List Bool
+agreeing [] ys = []
+agreeing (x ∷ xs) [] = []
+agreeing (x ∷ xs) (y ∷ ys) = agree x y ∷ agreeing xs ys
+
+abbrev pub bits_of : List Bool → ℕ
+bits_of [] = 0
+bits_of (same ∷ others) = pick same 0 1 + 2 * bits_of others
+
 unfoldable pub differences_of : Settings → Settings → ℕ
 differences_of a b = mask_of (parts_of a) (parts_of b)
 
@@ -34,9 +46,9 @@ differences_of a b = mask_of (parts_of a) (parts_of b)
 -- are equal exactly when no setting differs.
 abbrev pub NoneDiffers : Type 0
 NoneDiffers =
-    (p q : ClockConfig) (reading : ℕ) (b b' c c' : List ℕ) (r s : Length) (m n : ℕ)
-    → InitCall p reading b r b' → length_is r ≡ value m
-    → InitCall q reading c s c' → length_is s ≡ value n
+    (p q : ClockConfig) (reading : ℕ) (b b' c c' : List ℕ) (r s : (Result ℕ Refusal)) (m n : ℕ)
+    → InitCall p reading b r b' → answer_of r ≡ value m
+    → InitCall q reading c s c' → answer_of s ≡ value n
     → ((m ≡ n) × SameUpTo m b' c') ↔ (differences_of (settings_of p reading) (settings_of q reading) ≡ 0)
 
 -- ---- the names of the parts that differ, one per line

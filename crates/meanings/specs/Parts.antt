@@ -1,10 +1,12 @@
 -- The settings that count, part by part, each as its numbers (docs/FORMAT.md, Settings that count). An absent part has none.
+use Rattle.std.specs.Prelude.{Option, Some, None}
 use Rattle.std.specs.Prelude.{List, [], ◌∷◌, ℕ}
 use Rattle.chip.specs.declared.{Chip.Chip, Chip.TheVariants.Rp2040, Chip.TheVariants.Rp235x}
-use Rattle.config.specs.declared.{RoscConfig.RoscConfig, OptionRosc.OptionRosc, OptionPll.OptionPll, RefClkConfig.RefClkConfig}
-use Rattle.config.specs.declared.{OptionPeri.OptionPeri, AuxClkConfig.AuxClkConfig, OptionAux.OptionAux}
-use Rattle.config.specs.declared.{RtcClkConfig.RtcClkConfig, OptionRtc.OptionRtc}
-use Rattle.settings.specs.declared.{OptionCrystal.OptionCrystal, OptionCycles.OptionCycles, Settings.Settings}
+use Rattle.config.specs.declared.{RoscConfig.RoscConfig, RefClkConfig.RefClkConfig}
+use Rattle.pll.specs.declared.PllConfig.{PllConfig}
+use Rattle.config.specs.declared.{PeriClkSrc.PeriClkSrc, AuxClkConfig.AuxClkConfig}
+use Rattle.config.specs.declared.{RtcClkConfig.RtcClkConfig}
+use Rattle.settings.specs.declared.{Crystal.Crystal, Settings.Settings}
 use Rattle.settings.specs.Codes.{range_code, ref_code, sys_code, peri_aux, aux_code}
 
 abbrev pub chip_code : Chip → ℕ
@@ -16,30 +18,30 @@ ring_on r =
     let d = r.drive_strength in
     r.hz ∷ range_code r.range ∷ d.s0 ∷ d.s1 ∷ d.s2 ∷ d.s3 ∷ d.s4 ∷ d.s5 ∷ d.s6 ∷ d.s7 ∷ r.div ∷ []
 
-abbrev pub ring_numbers : OptionRosc → List ℕ
-ring_numbers (OptionRosc.Some r) = ring_on r
-ring_numbers OptionRosc.None = []
+abbrev pub ring_numbers : Option RoscConfig → List ℕ
+ring_numbers (Some r) = ring_on r
+ring_numbers None = []
 
-abbrev pub crystal_numbers : OptionCrystal → List ℕ
-crystal_numbers (OptionCrystal.Some x) = x.hz ∷ x.delay ∷ []
-crystal_numbers OptionCrystal.None = []
+abbrev pub crystal_numbers : Option Crystal → List ℕ
+crystal_numbers (Some x) = x.hz ∷ x.delay ∷ []
+crystal_numbers None = []
 
 -- a PLL is absent with its crystal
-abbrev pub sys_pll_of : OptionCrystal → OptionPll
-sys_pll_of (OptionCrystal.Some x) = x.sys
-sys_pll_of OptionCrystal.None = OptionPll.None
+abbrev pub sys_pll_of : Option Crystal → Option PllConfig
+sys_pll_of (Some x) = x.sys
+sys_pll_of None = None
 
-abbrev pub usb_pll_of : OptionCrystal → OptionPll
-usb_pll_of (OptionCrystal.Some x) = x.usb
-usb_pll_of OptionCrystal.None = OptionPll.None
+abbrev pub usb_pll_of : Option Crystal → Option PllConfig
+usb_pll_of (Some x) = x.usb
+usb_pll_of None = None
 
-abbrev pub pll_numbers : OptionPll → List ℕ
-pll_numbers (OptionPll.Some p) = p.refdiv ∷ p.fbdiv ∷ p.post_div1 ∷ p.post_div2 ∷ []
-pll_numbers OptionPll.None = []
+abbrev pub pll_numbers : Option PllConfig → List ℕ
+pll_numbers (Some p) = p.refdiv ∷ p.fbdiv ∷ p.post_div1 ∷ p.post_div2 ∷ []
+pll_numbers None = []
 
-abbrev pub cycles_numbers : OptionCycles → List ℕ
-cycles_numbers (OptionCycles.Some n) = n ∷ []
-cycles_numbers OptionCycles.None = []
+abbrev pub cycles_numbers : Option ℕ → List ℕ
+cycles_numbers (Some n) = n ∷ []
+cycles_numbers None = []
 
 abbrev pub ref_numbers : RefClkConfig → List ℕ
 ref_numbers c = ref_code c.src ∷ c.div ∷ []
@@ -47,23 +49,23 @@ ref_numbers c = ref_code c.src ∷ c.div ∷ []
 abbrev pub sys_numbers : Settings → List ℕ
 sys_numbers s = sys_code s.sys ∷ s.board.whole ∷ s.board.fraction ∷ []
 
-abbrev pub peri_numbers : OptionPeri → List ℕ
-peri_numbers (OptionPeri.Some src) = peri_aux src ∷ []
-peri_numbers OptionPeri.None = []
+abbrev pub peri_numbers : Option PeriClkSrc → List ℕ
+peri_numbers (Some src) = peri_aux src ∷ []
+peri_numbers None = []
 
 abbrev pub aux_on : AuxClkConfig → List ℕ
 aux_on a = aux_code a.src ∷ a.div ∷ a.phase ∷ []
 
-abbrev pub aux_numbers : OptionAux → List ℕ
-aux_numbers (OptionAux.Some a) = aux_on a
-aux_numbers OptionAux.None = []
+abbrev pub aux_numbers : Option AuxClkConfig → List ℕ
+aux_numbers (Some a) = aux_on a
+aux_numbers None = []
 
 abbrev pub rtc_on : RtcClkConfig → List ℕ
 rtc_on r = aux_code r.src ∷ r.div_int ∷ r.div_frac ∷ r.phase ∷ []
 
-abbrev pub rtc_numbers : OptionRtc → List ℕ
-rtc_numbers (OptionRtc.Some r) = rtc_on r
-rtc_numbers OptionRtc.None = []
+abbrev pub rtc_numbers : Option RtcClkConfig → List ℕ
+rtc_numbers (Some r) = rtc_on r
+rtc_numbers None = []
 
 -- reference, system, peripheral, USB, ADC and RTC clock
 abbrev pub clock_parts : Settings → List (List ℕ)

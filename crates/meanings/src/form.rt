@@ -1,30 +1,27 @@
 // Forms: texts in which `#` stands for the next number in decimal, `$` for the next as a mask in hex and `@` for the next as the
 // name of a clock.
-ghost use Rattle.std.specs.Prelude.{◌≡◌, ◌%◌, ◌≤◌, min, get_or};
+ghost use Rattle.std.specs.Prelude.{◌≡◌, ◌%◌, ◌≤◌, get_or, drop};
+ghost use Rattle.std.specs.Slice.Iter.{iter_rest};
 ghost use Rattle.base.specs.Choice.{bit};
 ghost use Rattle.base.specs.Placed.{Placed};
+ghost use Rattle.base.specs.Writing.{Puts};
 ghost use Rattle.text.specs.Hex.{hex_digit};
-ghost use Rattle.meanings.specs.Rows.{row_in};
 ghost use Rattle.meanings.specs.Form.{clock_name, mask_text, is_field, piece_of, formed};
 
-use crate::rows::{put_row, row_start};
+use crate::rows::row;
+use base::Writer;
+use std::slice::Iter;
 
-// The row of a clock in the table of names; from 10 on there is no clock.
-fn clock_row(clock: u64) -> u8
-    ensures { result ≡ min clock 10 }
-{
-    if clock < 10 { clock as u8 } else { 10 }
-}
+static CLOCKS: [&str; 11] = [
+    "rosc", "xosc", "pll_sys", "pll_usb", "ref", "sys", "peri", "usb", "adc", "rtc", "no clock",
+];
 
-fn put_clock(out: &mut [u8], at: usize, clock: u64) -> usize
-    ensures { Placed out.old at (clock_name clock) result out.new }
+// The name of a clock; from 10 on there is no clock.
+#[tactic(auto, unfolding(crate::specs::Form::clock_rows, crate::specs::Form::clock_name, crate::specs::Rows::row_text))]
+fn clock_name(clock: u64) -> &'static [u8]
+    ensures { result.now ≡ clock_name clock }
 {
-    put_row(
-        out,
-        at,
-        b"rosc\nxosc\npll_sys\npll_usb\nref\nsys\nperi\nusb\nadc\nrtc\nno clock\n",
-        clock_row(clock),
-    )
+    row(&CLOCKS, clock.min(10) as u8)
 }
 
 // The last hex digit of n.
@@ -32,76 +29,65 @@ fn hex_digit(n: u64) -> u8
     ensures { result ≡ hex_digit (n % 16) }
 {
     let d = (n % 16) as u8;
-    base::number_when(d < 10, b'0' + d, 87 + d)
+    if d < 10 { b'0' + d } else { b'a' - 10 + d }
 }
 
-// The 28 low bits in hex.
-fn put_mask(out: &mut [u8], at: usize, mask: u64) -> usize
-    ensures { Placed out.old at (mask_text mask) result out.new }
+// Writes the 28 low bits in hex.
+#[tactic(auto, using(base::proofs::Writing::put_more), unfolding(crate::specs::Form::mask_text))]
+fn write_mask(out: &mut Writer<'_, u8>, mask: u64)
+    ensures { Puts out.old (mask_text mask) out.new }
 {
-    let at = text::put_byte(out, at, hex_digit(mask / 16777216));
+    out.put(hex_digit(mask / 16777216));
     let bytes = [
         (mask / 65536 % 256) as u8,
         (mask / 256 % 256) as u8,
         (mask % 256) as u8,
     ];
-    text::put_hex(out, at, &bytes)
+    text::write_hex(out, &bytes);
 }
 
-// Whether a byte of a form stands for a number.
-fn is_field(c: u8) -> bool
-    ensures { result ≡ is_field c }
+// The next number; 0 where there is none.
+fn next(numbers: &mut Iter<'_, u64>) -> u64
+    ensures value { result ≡ get_or (iter_rest numbers.old) 0 0 }
+    ensures others { iter_rest numbers.new ≡ drop 1 (iter_rest numbers.old) }
 {
-    ((c == b'#') | (c == b'$')) | (c == b'@')
+    numbers.next().copied().unwrap_or(0)
 }
 
-// How many numbers a byte of a form takes.
-fn takes(c: u8) -> usize
-    ensures { (result ≡ bit (is_field c)) × (result ≤ 1) }
-{
-    if is_field(c) { 1 } else { 0 }
-}
-
-// The number at an index; 0 past the end.
-fn number_at(ns: &[u64], i: usize) -> u64
-    ensures { result ≡ get_or ns.now i 0 }
-{
-    if i < ns.len() { ns[i] } else { 0 }
-}
-
-// A byte of a form, or the number that it stands for.
-fn put_piece(out: &mut [u8], at: usize, c: u8, n: u64) -> usize
-    ensures { Placed out.old at (piece_of c n) result out.new }
+// Writes a byte of a form, or the next number where the byte stands for one.
+#[tactic(auto, using(std::proofs::lemmas::Bool::Decides::nat_tests), unfolding(crate::specs::Form::piece_of))]
+fn write_piece(out: &mut Writer<'_, u8>, c: u8, numbers: &mut Iter<'_, u64>)
+    ensures text { Puts out.old (piece_of c (get_or (iter_rest numbers.old) 0 0)) out.new }
+    ensures others { iter_rest numbers.new ≡ drop (bit (is_field c)) (iter_rest numbers.old) }
 {
     match c {
-        b'#' => text::put_decimal(out, at, n),
-        b'$' => put_mask(out, at, n),
-        b'@' => put_clock(out, at, n),
-        _ => text::put_byte(out, at, c),
+        b'#' => text::write_decimal(out, next(numbers)),
+        b'$' => write_mask(out, next(numbers)),
+        b'@' => out.put_all(clock_name(next(numbers))),
+        _ => out.put(c),
     }
 }
 
-// Puts a form's bytes, with the next number for each byte that stands for one; a missing number is 0.
+// Writes a form's bytes, with the next number for each byte that stands for one; a missing number is 0.
+#[tactic(auto, using(crate::proofs::Forms::steps))]
+pub fn write_form(out: &mut Writer<'_, u8>, form: &[u8], ns: &[u64])
+    ensures { Puts out.old (formed form.now ns.now) out.new }
+{
+    let mut numbers = ns.iter();
+    for c in form {
+        write_piece(out, *c, &mut numbers);
+    }
+}
+
+// Puts a form at an index, as `write_form`.
 pub fn put_form(out: &mut [u8], at: usize, form: &[u8], ns: &[u64]) -> usize
     ensures { Placed out.old at (formed form.now ns.now) result out.new }
 {
-    let mut end = base::least(at, out.len());
-    let mut i = 0;
-    let mut taken = 0;
-    while i < form.len() {
-        let c = form[i];
-        end = put_piece(out, end, c, number_at(ns, taken));
-        taken += takes(c);
-        i += 1;
-    }
-    end
-}
-
-// Puts row n of a table of forms, with its numbers.
-pub(crate) fn put_row_form(out: &mut [u8], at: usize, rows: &[u8], n: u8, ns: &[u64]) -> usize
-    ensures { Placed out.old at (formed (row_in rows.now n) ns.now) result out.new }
-{
-    let from = row_start(rows, n);
-    let end = text::index_from(rows, from, b'\n');
-    put_form(out, at, &rows[from..end], ns)
+    let start = at.min(out.len());
+    let mut w = Writer {
+        buf: out,
+        at: start,
+    };
+    write_form(&mut w, form, ns);
+    w.at
 }

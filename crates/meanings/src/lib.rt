@@ -8,8 +8,7 @@ mod rows;
 mod same;
 mod steps;
 
-pub use compared::{differences, put_differences, put_part_name};
-pub use form::put_form;
-pub use refused::put_refusal;
-pub use rows::put_row;
-pub use steps::put_step;
+pub use compared::{differences, put_part_name, write_differences, write_part_name};
+pub use form::{put_form, write_form};
+pub use refused::{put_refusal, write_refusal};
+pub use steps::write_step;

@@ -1,27 +1,21 @@
-// A table of texts is one text with a newline after each row.
-ghost use Rattle.std.specs.Prelude.{◌≡◌, ◌≤◌, length, drop};
-ghost use Rattle.base.specs.Placed.{Placed};
-ghost use Rattle.text.specs.Words.{up_to};
-ghost use Rattle.meanings.specs.Rows.{row_in};
+// Tables of texts.
+ghost use Rattle.std.specs.Prelude.{◌≡◌, leb};
+ghost use Rattle.base.specs.Choice.{pick};
+ghost use Rattle.meanings.specs.Rows.{row_of};
 
-// The index where row n starts; the table's length where there are fewer rows.
-pub(crate) fn row_start(rows: &[u8], n: u8) -> usize
-    ensures { (up_to 10 (drop result rows.now) ≡ row_in rows.now n) × (result ≤ length rows.now) }
+// Row n of a table of texts; nothing where there are fewer rows.
+pub(crate) fn row(rows: &[&'static str], n: u8) -> &'static [u8]
+    ensures { result.now ≡ row_of rows.now n }
 {
-    let mut start = 0;
-    let mut left = n;
-    while 0 < left {
-        start = text::index_from(rows, start, b'\n') + 1;
-        left -= 1;
+    match rows.get(usize::from(n)) {
+        Some(text) => text.as_bytes(),
+        None => b"",
     }
-    base::least(start, rows.len())
 }
 
-// Puts the text of row n; nothing where there are fewer rows.
-pub fn put_row(out: &mut [u8], at: usize, rows: &[u8], n: u8) -> usize
-    ensures { Placed out.old at (row_in rows.now n) result out.new }
+// The number of a row up to the last; 0 where there are fewer rows.
+pub(crate) fn or_first(n: u8, last: u8) -> u8
+    ensures { result ≡ pick (leb n last) n 0 }
 {
-    let from = row_start(rows, n);
-    let end = text::index_from(rows, from, b'\n');
-    text::put_bytes(out, at, &rows[from..end])
+    if n <= last { n } else { 0 }
 }

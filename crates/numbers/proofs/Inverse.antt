@@ -1,5 +1,7 @@
 -- The numbers of a plan read back as the plan, and a row that reads as a plan is the row of that plan's numbers.
-use mathlib.Core.{Bool.Bool, Bool.true, Bool.false, Bool.◌&&◌, Option.Option, Option.none, Option.some}
+use Rattle.std.specs.Prelude.{Option, Some, None}
+use Rattle.config.specs.declared.XoscConfig.{XoscConfig}
+use mathlib.Core.{Bool.Bool, Bool.true, Bool.false, Bool.◌&&◌}
 use mathlib.Core.{List.List, List.[], List.◌∷◌, List.◌++◌, Path.◌≡◌, Path.refl, Path.sym, Path.ap, Path.◌∙◌}
 use Prim.Native.Nat.{ℕ, ◌≤◌}
 use native.Mathlib.Omega.{arith}
@@ -11,8 +13,7 @@ use Rattle.chip.specs.declared.{Chip.Chip, Chip.TheVariants.Rp2040, Chip.TheVari
 use Rattle.chip.specs.declared.voltage.{CoreVoltage.CoreVoltage, CoreVoltage235.CoreVoltage235}
 use Rattle.chip.specs.Voltage.{code_of, voltages, with_code, core_voltage_of}
 use Rattle.chip.proofs.Codes.{core-voltage-code, code-small}
-use Rattle.config.specs.declared.{OptionPll.OptionPll, OptionXosc.OptionXosc}
-use Rattle.config.specs.declared.OptionXosc.TheVariants.{Some as crystal, None as no_crystal}
+use Rattle.pll.specs.declared.PllConfig.{PllConfig}
 use Rattle.config.specs.declared.{ChipConfig.ChipConfig, ClockConfig.ClockConfig}
 use Rattle.config.specs.declared.ChipConfig.TheVariants.{Rp2040 as on2040, Rp235x as on235x}
 use Rattle.config.specs.Board.{board_of}
@@ -56,34 +57,34 @@ all_true (b ∷ c ∷ bs) e = let h = both_true b (conj (c ∷ bs)) e in (h.0, a
 abbrev crystal_limits : List ℕ
 crystal_limits = 1 ∷ u32 ∷ u32 ∷ []
 
-abbrev crystal_in : List ℕ → OptionPll → OptionPll → OptionXosc
+abbrev crystal_in : List ℕ → Option PllConfig → Option PllConfig → Option XoscConfig
 crystal_in m s u =
-    flagged m 0 (crystal (record { hz = nth m 1; sys_pll = s; usb_pll = u; delay_multiplier = nth m 2 })) no_crystal
+    flagged m 0 (record { hz = nth m 1; sys_pll = s; usb_pll = u; delay_multiplier = nth m 2 })
 
-plls-typed : (x : OptionXosc) → CrystalTyped x → PllTyped (sys_pll_in x) × PllTyped (usb_pll_in x)
-plls-typed (crystal x) t = (t.2, t.3)
-plls-typed no_crystal t = (tt, tt)
+plls-typed : (x : Option XoscConfig) → CrystalTyped x → PllTyped (sys_pll_in x) × PllTyped (usb_pll_in x)
+plls-typed (Some x) t = (t.2, t.3)
+plls-typed None t = (tt, tt)
 
-record Crystal (x : OptionXosc) : Type 0 where
+record Crystal (x : Option XoscConfig) : Type 0 where
   pub long : row_from 3 0 (crystal_row x) ≡ crystal_row x
   pub fit : is_part (crystal_row x) 0 crystal_limits ≡ true
   pub sys : nth (pll_row (sys_pll_in x)) 0 ≤ nth (crystal_row x) 0
   pub usb : nth (pll_row (usb_pll_in x)) 0 ≤ nth (crystal_row x) 0
   pub read : crystal_in (crystal_row x) (option_pll_at (pll_row (sys_pll_in x)) 0) (option_pll_at (pll_row (usb_pll_in x)) 0) ≡ x
 
-crystal-back : (x : OptionXosc) → CrystalTyped x → Crystal x
+crystal-back : (x : Option XoscConfig) → CrystalTyped x → Crystal x
 unfolding is_part
-crystal-back (crystal x) t =
+crystal-back (Some x) t =
     let s = pll-back x.sys_pll t.2 in
     let u = pll-back x.usb_pll t.3 in
     record {
       long = refl;
-      fit = there-fits (crystal_row (crystal x)) crystal_limits refl (omega (arith, t.0, t.1));
+      fit = there-fits (crystal_row (Some x)) crystal_limits refl (omega (arith, t.0, t.1));
       sys = s.3;
       usb = u.3;
       read = rw (s.2, u.2);
     }
-crystal-back no_crystal t = record { long = refl; fit = refl; sys = omega arith; usb = omega arith; read = refl }
+crystal-back None t = record { long = refl; fit = refl; sys = omega arith; usb = omega arith; read = refl }
 
 crystal-row : (m s u : List ℕ) → is_part m 0 crystal_limits ≡ true → is_part s 0 pll_limits ≡ true → is_part u 0 pll_limits ≡ true
     → nth s 0 ≤ nth m 0 → nth u 0 ≤ nth m 0
@@ -178,20 +179,20 @@ module _ (c : ChipConfig) (p : ClockConfig) (t : PlanTyped p) (z : List ℕ) whe
     voltage_stabilization_delay_us = (time-back p.voltage_stabilization_delay_us t.settling).2 i;
   }
 
-  read-so : (chip : Chip) → z ≡ rtc_numbers c → whole_chip chip row ≡ true → chip_at chip row ≡ some c
-      → plan_numbered chip (plan_row (plan_with c p)) ≡ some (plan_with c p)
+  read-so : (chip : Chip) → z ≡ rtc_numbers c → whole_chip chip row ≡ true → chip_at chip row ≡ Some c
+      → plan_numbered chip (plan_row (plan_with c p)) ≡ Some (plan_with c p)
   unfolding plan_numbered
   read-so chip e fit read =
       ap (plan_numbered chip) (sym (row_is e))
-      ∙ ap (λ (b : Bool). pick b (with_chip (chip_at chip row) row) none) (both fit (both oscillators-fit clocks-fit))
-      ∙ ap (λ (o : Option ChipConfig). with_chip o row) read ∙ ap some plan-is
+      ∙ ap (λ (b : Bool). pick b (with_chip (chip_at chip row) row) None) (both fit (both oscillators-fit clocks-fit))
+      ∙ ap (λ (o : Option ChipConfig). with_chip o row) read ∙ ap Some plan-is
 
 -- every typed plan reads back from its numbers
-pub plan-back : (p : ClockConfig) → PlanTyped p → plan_numbered (board_of p.chip).chip (plan_row p) ≡ some p
+pub plan-back : (p : ClockConfig) → PlanTyped p → plan_numbered (board_of p.chip).chip (plan_row p) ≡ Some p
 unfolding whole_chip is_part chip_at rtc_at
 plan-back p t = go p.chip t.chip
   where
-    go : (c : ChipConfig) → ChipTyped c → plan_numbered (board_of c).chip (plan_row (plan_with c p)) ≡ some (plan_with c p)
+    go : (c : ChipConfig) → ChipTyped c → plan_numbered (board_of c).chip (plan_row (plan_with c p)) ≡ Some (plan_with c p)
     go (on2040 c) h =
         let z = rtc_row c.rtc_clk in
         let r = rtc-back c.rtc_clk h.2 in
@@ -200,7 +201,7 @@ plan-back p t = go p.chip t.chip
         (both refl (both (both (le-leb _ u32 h.0) (both (le-leb _ u8 h.1) refl)) r.1))
         (ap (λ (a : Answer CoreVoltage). with2040 a (row (on2040 c) p t (row_from 5 0 z)))
         (ap (core_voltage_of Rp2040) (cut small) ∙ core-voltage-code Rp2040 c.core_voltage)
-        ∙ (λ i. some (on2040 (record {
+        ∙ (λ i. Some (on2040 (record {
           core_voltage = c.core_voltage;
           div_int = c.div_int;
           div_frac = cut h.1 i;
@@ -211,7 +212,7 @@ plan-back p t = go p.chip t.chip
         read-so (on235x c) p t [] Rp235x refl (both refl (both (le-leb _ u16 h.0) (both (le-leb _ u16 h.1) refl)))
         (ap (λ (a : Answer CoreVoltage235). with235x a (row (on235x c) p t []))
         (ap (core_voltage_of Rp235x) (cut small) ∙ core-voltage-code Rp235x c.core_voltage)
-        ∙ (λ i. some (on235x (record {
+        ∙ (λ i. Some (on235x (record {
           core_voltage = c.core_voltage;
           div_int = cut h.0 i;
           div_frac = cut h.1 i;
@@ -294,14 +295,14 @@ module _ (n : List ℕ) (osc : whole_oscillators n ≡ true) (clk : whole_clocks
 
 -- the value of an option, or a default
 abbrev or : {A : Type 0} → A → Option A → A
-or a (some x) = x
-or a none = a
+or a (Some x) = x
+or a None = a
 
 abbrev tests : Chip → List ℕ → List Bool
 tests chip n = whole_chip chip n ∷ whole_oscillators n ∷ whole_clocks n ∷ []
 
 -- a row that reads as a plan is the row of the plan's numbers, and the plan is for the chip asked for
-pub row_back : (chip : Chip) (n : List ℕ) (p : ClockConfig) → plan_numbered chip n ≡ some p
+pub row_back : (chip : Chip) (n : List ℕ) (p : ClockConfig) → plan_numbered chip n ≡ Some p
     → (plan_row p ≡ n) × ((board_of p.chip).chip ≡ chip)
 unfolding plan_numbered chip_at plan_at
 row_back Rp2040 n p e = go (whole_plan Rp2040 n) refl (core_voltage_of Rp2040 (byte_at n 25)) refl

@@ -1,8 +1,9 @@
+pub mod PartRows
+pub mod Inverse
 pub mod Whole
 pub mod Fits
-pub mod Flags
-pub mod Inverse
-pub mod PartRows
-pub mod EachStep
-pub mod Boards
+pub mod Each
+pub mod Words
+pub mod Asked
 pub mod Runners
+pub mod Boards

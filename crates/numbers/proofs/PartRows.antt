@@ -1,5 +1,6 @@
 -- Writing a plan as numbers and reading it from them are inverse to each other, part by part: a part's numbers read back as the
 -- part, and a part that is read has these numbers.
+use Rattle.std.specs.Prelude.{Option, Some, None}
 use mathlib.Core.{Bool.Bool, Bool.true, Bool.false, Bool.◌&&◌}
 use mathlib.Core.{List.List, List.[], List.◌∷◌, List.◌++◌, Path.◌≡◌, Path.refl, Path.sym, Path.ap, Path.◌∙◌}
 use Prim.Native.Nat.{ℕ, zero, suc, min, ◌≤◌}
@@ -9,19 +10,12 @@ use lib.{Dec.eqb, Dec.leb, ListN.length, ListN.take, ListN.replicate, Seq.take-l
 use Rattle.base.specs.{Answer.value, Choice.pick}
 use Rattle.base.proofs.Bools.{both_true}
 use Rattle.chip.specs.Voltage.{with_code}
-use Rattle.config.specs.declared.OptionPll.{OptionPll}
-use Rattle.config.specs.declared.OptionPll.TheVariants.{Some as pll, None as no_pll}
-use Rattle.config.specs.declared.OptionRosc.{OptionRosc}
-use Rattle.config.specs.declared.OptionRosc.TheVariants.{Some as ring, None as no_ring}
-use Rattle.config.specs.declared.OptionPeri.{OptionPeri}
-use Rattle.config.specs.declared.OptionPeri.TheVariants.{Some as peri, None as no_peri}
-use Rattle.config.specs.declared.OptionAux.{OptionAux}
-use Rattle.config.specs.declared.OptionAux.TheVariants.{Some as aux, None as no_aux}
-use Rattle.config.specs.declared.OptionRtc.{OptionRtc}
-use Rattle.config.specs.declared.OptionRtc.TheVariants.{Some as rtc, None as no_rtc}
-use Rattle.config.specs.declared.OptionU32.{OptionU32}
-use Rattle.config.specs.declared.OptionU32.TheVariants.{Some as time, None as no_time}
-use Rattle.config.specs.declared.{RefClkConfig.RefClkConfig, RefClkSrc.RefClkSrc, SysClkSrc.SysClkSrc, PeriClkSrc.PeriClkSrc}
+use Rattle.pll.specs.declared.PllConfig.{PllConfig}
+use Rattle.config.specs.declared.RoscConfig.{RoscConfig}
+use Rattle.config.specs.declared.PeriClkSrc.{PeriClkSrc}
+use Rattle.config.specs.declared.AuxClkConfig.{AuxClkConfig}
+use Rattle.config.specs.declared.RtcClkConfig.{RtcClkConfig}
+use Rattle.config.specs.declared.{RefClkConfig.RefClkConfig, RefClkSrc.RefClkSrc, SysClkSrc.SysClkSrc}
 use Rattle.settings.specs.Codes.{range_code, ref_code, sys_code, peri_aux, aux_code, range_from, ref_from, sys_source_from, peri_from, aux_from}
 use Rattle.settings.proofs.Decoded.{range-code, aux-code}
 use Rattle.fields.specs.Row.{nth, byte_at, u8, u16, u32}
@@ -146,15 +140,15 @@ code_read code_of_lem code (u ∷ vs) v e = go (eqb code (code_of_lem u)) refl (
 abbrev pub ring_limits : List ℕ
 ring_limits = 1 ∷ u32 ∷ 3 ∷ u8 ∷ u8 ∷ u8 ∷ u8 ∷ u8 ∷ u8 ∷ u8 ∷ u8 ∷ u16 ∷ []
 
-pub ring-back : (o : OptionRosc) → RingTyped o
+pub ring-back : (o : Option RoscConfig) → RingTyped o
     → (row_from 12 0 (ring_row o) ≡ ring_row o) × (is_part (ring_row o) 0 ring_limits ≡ true) × (ring_at (ring_row o) ≡ o)
 unfolding is_part ring_at strengths_at
-ring-back (ring r) t = (
+ring-back (Some r) t = (
   refl,
-  there-fits (ring_row (ring r)) ring_limits refl (omega (arith, t, (range-code r.range).1)),
+  there-fits (ring_row (Some r)) ring_limits refl (omega (arith, t, (range-code r.range).1)),
   rw ((range-code r.range).0, cut t.1, cut t.2, cut t.3, cut t.4, cut t.5, cut t.6, cut t.7, cut t.8, cut t.9),
 )
-ring-back no_ring t = (refl, refl, refl)
+ring-back None t = (refl, refl, refl)
 
 pub ring-row : (n : List ℕ) → is_part n 0 ring_limits ≡ true → ring_row (ring_at n) ≡ row_from 12 0 n
 unfolding ring_at strengths_at
@@ -168,17 +162,17 @@ ring-row n e =
 abbrev pub pll_limits : List ℕ
 pll_limits = 1 ∷ u8 ∷ u16 ∷ u8 ∷ u8 ∷ []
 
-pub pll-back : (o : OptionPll) → PllTyped o
+pub pll-back : (o : Option PllConfig) → PllTyped o
     → (row_from 5 0 (pll_row o) ≡ pll_row o) × (is_part (pll_row o) 0 pll_limits ≡ true) × (option_pll_at (pll_row o) 0 ≡ o)
     × (nth (pll_row o) 0 ≤ 1)
 unfolding is_part option_pll_at
-pll-back (pll p) t = (
+pll-back (Some p) t = (
   refl,
-  there-fits (pll_row (pll p)) pll_limits refl (omega (arith, t)),
+  there-fits (pll_row (Some p)) pll_limits refl (omega (arith, t)),
   rw (cut t.0, cut t.1, cut t.2, cut t.3),
   omega arith,
 )
-pll-back no_pll t = (refl, refl, refl, omega arith)
+pll-back None t = (refl, refl, refl, omega arith)
 
 pub pll-row : (n : List ℕ) → is_part n 0 pll_limits ≡ true → pll_row (option_pll_at n 0) ≡ row_from 5 0 n
 unfolding option_pll_at
@@ -187,61 +181,61 @@ pll-row n e =
     (λ f one w. rw f (λ i. sym one i ∷ cut w.1.0 i ∷ cut w.1.1.0 i ∷ cut w.1.1.1.0 i
     ∷ cut w.1.1.1.1.0 i ∷ [])) (λ f. rw f)
 
-abbrev pub time_row : OptionU32 → List ℕ
-time_row (time n) = 1 ∷ n ∷ []
-time_row no_time = 0 ∷ 0 ∷ []
+abbrev pub time_row : Option ℕ → List ℕ
+time_row (Some n) = 1 ∷ n ∷ []
+time_row None = 0 ∷ 0 ∷ []
 
 abbrev pub time_limits : List ℕ
 time_limits = 1 ∷ u32 ∷ []
 
-pub first-row : (code : ℕ) (o : OptionU32) (c : RefClkConfig) → first_row code o c ≡ code ∷ (time_row o ++ (ref_code c.src ∷ c.div ∷ []))
-first-row code (time n) c = refl
-first-row code no_time c = refl
+pub first-row : (code : ℕ) (o : Option ℕ) (c : RefClkConfig) → first_row code o c ≡ code ∷ (time_row o ++ (ref_code c.src ∷ c.div ∷ []))
+first-row code (Some n) c = refl
+first-row code None c = refl
 
-pub time-back : (o : OptionU32) → TimeTyped o
+pub time-back : (o : Option ℕ) → TimeTyped o
     → (row_from 2 0 (time_row o) ≡ time_row o) × (is_part (time_row o) 0 time_limits ≡ true)
-    × (flagged (time_row o) 0 (time (nth (time_row o) 1)) no_time ≡ o)
+    × (flagged (time_row o) 0 (nth (time_row o) 1) ≡ o)
 unfolding is_part
-time-back (time n) t = (refl, there-fits (time_row (time n)) time_limits refl (omega (arith, t)), refl)
-time-back no_time t = (refl, refl, refl)
+time-back (Some n) t = (refl, there-fits (time_row (Some n)) time_limits refl (omega (arith, t)), refl)
+time-back None t = (refl, refl, refl)
 
-pub time-row : (n : List ℕ) → is_part n 0 time_limits ≡ true → time_row (flagged n 0 (time (nth n 1)) no_time) ≡ row_from 2 0 n
+pub time-row : (n : List ℕ) → is_part n 0 time_limits ≡ true → time_row (flagged n 0 (nth n 1)) ≡ row_from 2 0 n
 time-row n e =
-    by_flag time_row (flagged n 0 (time (nth n 1)) no_time) n time_limits e
+    by_flag time_row (flagged n 0 (nth n 1)) n time_limits e
     (λ f one w. rw f (λ i. sym one i ∷ nth n 1 ∷ [])) (λ f. rw f)
 
 abbrev pub peri_limits : List ℕ
 peri_limits = 1 ∷ 4 ∷ []
 
-pub peri-back : (o : OptionPeri)
+pub peri-back : (o : Option PeriClkSrc)
     → (row_from 2 0 (peri_row o) ≡ peri_row o) × (is_part (peri_row o) 0 peri_limits ≡ true)
-    × (flagged (peri_row o) 0 (peri (peri_from (nth (peri_row o) 1))) no_peri ≡ o)
+    × (flagged (peri_row o) 0 (peri_from (nth (peri_row o) 1)) ≡ o)
 unfolding is_part
-peri-back (peri s) = (
+peri-back (Some s) = (
   refl,
-  there-fits (peri_row (peri s)) peri_limits refl (omega (arith, (peri-code s).1)),
+  there-fits (peri_row (Some s)) peri_limits refl (omega (arith, (peri-code s).1)),
   rw (peri-code s).0,
 )
 peri-back no_peri = (refl, refl, refl)
 
 pub peri-row : (n : List ℕ) → is_part n 0 peri_limits ≡ true
-    → peri_row (flagged n 0 (peri (peri_from (nth n 1))) no_peri) ≡ row_from 2 0 n
+    → peri_row (flagged n 0 (peri_from (nth n 1))) ≡ row_from 2 0 n
 peri-row n e =
-    by_flag peri_row (flagged n 0 (peri (peri_from (nth n 1))) no_peri) n peri_limits e
+    by_flag peri_row (flagged n 0 (peri_from (nth n 1))) n peri_limits e
     (λ f one w. rw f (λ i. sym one i ∷ ((codes (nth n 1)).2 w.1.0).1 i ∷ [])) (λ f. rw f)
 
 abbrev pub aux_limits : List ℕ
 aux_limits = 1 ∷ 3 ∷ u8 ∷ u8 ∷ []
 
-pub aux-back : (o : OptionAux) → AuxTyped o
+pub aux-back : (o : Option AuxClkConfig) → AuxTyped o
     → (row_from 4 0 (aux_row o) ≡ aux_row o) × (is_part (aux_row o) 0 aux_limits ≡ true) × (divided_at (aux_row o) 0 ≡ o)
 unfolding is_part divided_at
-aux-back (aux a) t = (
+aux-back (Some a) t = (
   refl,
-  there-fits (aux_row (aux a)) aux_limits refl (omega (arith, t, (aux-code a.src).1)),
+  there-fits (aux_row (Some a)) aux_limits refl (omega (arith, t, (aux-code a.src).1)),
   rw ((aux-code a.src).0, cut t.0, cut t.1),
 )
-aux-back no_aux t = (refl, refl, refl)
+aux-back None t = (refl, refl, refl)
 
 pub aux-row : (n : List ℕ) → is_part n 0 aux_limits ≡ true → aux_row (divided_at n 0) ≡ row_from 4 0 n
 unfolding divided_at
@@ -253,19 +247,19 @@ abbrev pub rtc_limits : List ℕ
 rtc_limits = 1 ∷ 3 ∷ u32 ∷ u8 ∷ u8 ∷ []
 
 -- the RTC as it is read from index 0 on
-abbrev pub rtc_in : List ℕ → OptionRtc
+abbrev pub rtc_in : List ℕ → Option RtcClkConfig
 rtc_in n =
-    flagged n 0 (rtc (record { src = aux_from (nth n 1); div_int = nth n 2; div_frac = byte_at n 3; phase = byte_at n 4 })) no_rtc
+    flagged n 0 (record { src = aux_from (nth n 1); div_int = nth n 2; div_frac = byte_at n 3; phase = byte_at n 4 })
 
-pub rtc-back : (o : OptionRtc) → ClockTyped o
+pub rtc-back : (o : Option RtcClkConfig) → ClockTyped o
     → (row_from 5 0 (rtc_row o) ≡ rtc_row o) × (is_part (rtc_row o) 0 rtc_limits ≡ true) × (rtc_in (rtc_row o) ≡ o)
 unfolding is_part
-rtc-back (rtc r) t = (
+rtc-back (Some r) t = (
   refl,
-  there-fits (rtc_row (rtc r)) rtc_limits refl (omega (arith, t, (aux-code r.src).1)),
+  there-fits (rtc_row (Some r)) rtc_limits refl (omega (arith, t, (aux-code r.src).1)),
   rw ((aux-code r.src).0, cut t.1, cut t.2),
 )
-rtc-back no_rtc t = (refl, refl, refl)
+rtc-back None t = (refl, refl, refl)
 
 pub rtc-row : (n : List ℕ) → is_part n 0 rtc_limits ≡ true → rtc_row (rtc_in n) ≡ row_from 5 0 n
 rtc-row n e =

@@ -1,61 +1,54 @@
 -- A plan has at most 48 numbers, so a row of 48 holds every plan.
+use Rattle.std.specs.Prelude.{Option, Some, None}
 use mathlib.Core.{Path.◌≡◌, Path.refl, List.List}
 use Prim.Native.Nat.{ℕ, ◌+◌, ◌≤◌}
 use native.Mathlib.Omega.{arith}
 use lib.{ListN.length, ListN.take, ListN.drop, ListN.length-append, Seq.take-append_seam, Seq.length-sets, Seq.sets-eq}
 use Rattle.base.specs.Placed.{Placed}
-use Rattle.config.specs.declared.OptionRosc.{OptionRosc}
-use Rattle.config.specs.declared.OptionRosc.TheVariants.{Some as ring, None as no_ring}
-use Rattle.config.specs.declared.OptionXosc.{OptionXosc}
-use Rattle.config.specs.declared.OptionXosc.TheVariants.{Some as crystal, None as no_crystal}
-use Rattle.config.specs.declared.OptionPll.{OptionPll}
-use Rattle.config.specs.declared.OptionPll.TheVariants.{Some as pll, None as no_pll}
-use Rattle.config.specs.declared.OptionU32.{OptionU32}
-use Rattle.config.specs.declared.OptionU32.TheVariants.{Some as given, None as not_given}
-use Rattle.config.specs.declared.OptionPeri.{OptionPeri}
-use Rattle.config.specs.declared.OptionPeri.TheVariants.{Some as peri, None as no_peri}
-use Rattle.config.specs.declared.OptionAux.{OptionAux}
-use Rattle.config.specs.declared.OptionAux.TheVariants.{Some as aux, None as no_aux}
-use Rattle.config.specs.declared.OptionRtc.{OptionRtc}
-use Rattle.config.specs.declared.OptionRtc.TheVariants.{Some as rtc, None as no_rtc}
+use Rattle.config.specs.declared.RoscConfig.{RoscConfig}
+use Rattle.config.specs.declared.XoscConfig.{XoscConfig}
+use Rattle.pll.specs.declared.PllConfig.{PllConfig}
+use Rattle.config.specs.declared.PeriClkSrc.{PeriClkSrc}
+use Rattle.config.specs.declared.AuxClkConfig.{AuxClkConfig}
+use Rattle.config.specs.declared.RtcClkConfig.{RtcClkConfig}
 use Rattle.config.specs.declared.{RefClkConfig.RefClkConfig, ChipConfig.ChipConfig}
 use Rattle.config.specs.declared.ChipConfig.TheVariants.{Rp2040 as on2040, Rp235x as on235x}
 use Rattle.config.specs.declared.ClockConfig.{ClockConfig}
 use Rattle.config.specs.Board.{board_of}
 use Rattle.numbers.specs.Row.{pll_row, oscillator_row, first_row, peri_row, aux_row, rtc_row, clock_row, rtc_numbers, plan_row}
 
-pll-long : (o : OptionPll) → length (pll_row o) ≡ 5
-pll-long (pll p) = refl
-pll-long no_pll = refl
+pll-long : (o : Option PllConfig) → length (pll_row o) ≡ 5
+pll-long (Some p) = refl
+pll-long None = refl
 
-first-long : (code : ℕ) (o : OptionU32) (c : RefClkConfig) → length (first_row code o c) ≡ 5
-first-long code (given n) c = refl
-first-long code not_given c = refl
+first-long : (code : ℕ) (o : Option ℕ) (c : RefClkConfig) → length (first_row code o c) ≡ 5
+first-long code (Some n) c = refl
+first-long code None c = refl
 
-peri-long : (o : OptionPeri) → length (peri_row o) ≡ 2
-peri-long (peri s) = refl
-peri-long no_peri = refl
+peri-long : (o : Option PeriClkSrc) → length (peri_row o) ≡ 2
+peri-long (Some s) = refl
+peri-long None = refl
 
-aux-long : (o : OptionAux) → length (aux_row o) ≡ 4
-aux-long (aux a) = refl
-aux-long no_aux = refl
+aux-long : (o : Option AuxClkConfig) → length (aux_row o) ≡ 4
+aux-long (Some a) = refl
+aux-long None = refl
 
 rtc-most : (c : ChipConfig) → length (rtc_numbers c) ≤ 5
 rtc-most (on2040 c) = go c.rtc_clk
   where
-    go : (o : OptionRtc) → length (rtc_row o) ≤ 5
-    go (rtc r) = omega arith
-    go no_rtc = omega arith
+    go : (o : Option RtcClkConfig) → length (rtc_row o) ≤ 5
+    go (Some r) = omega arith
+    go None = omega arith
 rtc-most (on235x c) = omega arith
 
-oscillators-long : (r : OptionRosc) (x : OptionXosc) → length (oscillator_row r x) ≡ 25
+oscillators-long : (r : Option RoscConfig) (x : Option XoscConfig) → length (oscillator_row r x) ≡ 25
 unfolding oscillator_row
-oscillators-long (ring r) (crystal x) =
+oscillators-long (Some r) (Some x) =
     simp length-append (omega (arith, pll-long x.sys_pll, pll-long x.usb_pll))
-oscillators-long (ring r) no_crystal = refl
-oscillators-long no_ring (crystal x) =
+oscillators-long (Some r) None = refl
+oscillators-long None (Some x) =
     simp length-append (omega (arith, pll-long x.sys_pll, pll-long x.usb_pll))
-oscillators-long no_ring no_crystal = refl
+oscillators-long None None = refl
 
 clocks-long : (p : ClockConfig) → length (clock_row p) ≡ 18
 unfolding clock_row

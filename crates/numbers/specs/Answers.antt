@@ -1,15 +1,15 @@
 -- An answer as one 64-bit number, as bindings/c/dizbaral.h lists the ranges.
-use mathlib.Core.{List.List, List.[], List.◌∷◌, Option.Option, Option.none, Option.some}
+use Rattle.std.specs.Prelude.{Option, Some, None}
+use mathlib.Core.{List.List, List.[], List.◌∷◌}
 use Rattle.std.specs.Prelude.{ℕ, ◌+◌, ◌*◌, eqb, leb}
 use Rattle.base.specs.{Choice.pick, Answer.Answer, Answer.value, Answer.refusal}
 use Rattle.pll.specs.declared.PllConfig.{PllConfig}
-use Rattle.margin.specs.Margin.{Sides}
+use Rattle.margin.specs.declared.Margin.{Margin}
 use Rattle.chip.specs.declared.{Chip.Chip, Chip.TheVariants.Rp2040, Chip.TheVariants.Rp235x}
 use Rattle.chip.specs.Voltage.{code_of, bod_of, core_voltage_of}
 use Rattle.divider.specs.declared.GpoutDiv.{GpoutDiv}
 use Rattle.divider.specs.declared.GpoutDiv.TheVariants.{Rp2040 as on2040, Rp235x as on235x}
 use Rattle.divider.specs.Gpout.{gpout_in}
-use Rattle.numbers.specs.declared.answers.{OptionChip.OptionChip, OptionDiv.OptionDiv}
 
 -- 2 ^ 48: a value has a number below it, refusal n has the number 2 ^ 48 + n
 abbrev pub refusals : ℕ
@@ -33,12 +33,12 @@ setting_number c = (c.refdiv * 65536 + c.fbdiv) * 65536 + (c.post_div1 * 256 + c
 
 -- a chip by its number: 0 is the RP2040, 1 the RP235x
 abbrev pub chip_numbered : ℕ → Option Chip
-chip_numbered n = pick (eqb n 0) (some Rp2040) (pick (eqb n 1) (some Rp235x) none)
+chip_numbered n = pick (eqb n 0) (Some Rp2040) (pick (eqb n 1) (Some Rp235x) None)
 
 -- the answer for a chip; malformed for an unknown one
 abbrev pub on_chip : (Chip → ℕ) → Option Chip → ℕ
-on_chip f (some chip) = f chip
-on_chip f none = malformed
+on_chip f (Some chip) = f chip
+on_chip f None = malformed
 
 -- a voltage: its code above its brownout level (8 bits)
 abbrev pub level_number : ℕ → ℕ → ℕ
@@ -49,39 +49,30 @@ voltage_number chip reading = answer_number (λ v. level_number (code_of chip v)
 
 -- the divider of a Gpout; on the RP2040 a fraction of more than 8 bits is none
 abbrev pub divider_of : ℕ → ℕ → Chip → Option GpoutDiv
-divider_of whole fraction Rp2040 = pick (leb fraction 255) (some (on2040 whole fraction)) none
-divider_of whole fraction Rp235x = some (on235x whole fraction)
+divider_of whole fraction Rp2040 = pick (leb fraction 255) (Some (on2040 whole fraction)) None
+divider_of whole fraction Rp235x = Some (on235x whole fraction)
 
 abbrev pub divider_numbered : ℕ → ℕ → Option Chip → Option GpoutDiv
-divider_numbered whole fraction (some chip) = divider_of whole fraction chip
-divider_numbered whole fraction none = none
+divider_numbered whole fraction (Some chip) = divider_of whole fraction chip
+divider_numbered whole fraction None = None
 
 abbrev pub gpout_number : Option GpoutDiv → ℕ → List ℕ → ℕ
-gpout_number (some divider) source freqs = answer_number itself (gpout_in divider source freqs)
-gpout_number none source freqs = malformed
+gpout_number (Some divider) source freqs = answer_number itself (gpout_in divider source freqs)
+gpout_number None source freqs = malformed
 
 -- a limit of a margin: its target in Hz, or 2 ^ 32 where it is absent
 abbrev pub limit_number : Option ℕ → ℕ
-limit_number (some t) = t
-limit_number none = 4294967296
+limit_number (Some t) = t
+limit_number None = 4294967296
 
 -- a margin: the answer 0, with the two limits in the lent numbers; a refusal leaves them unchanged
-abbrev pub done : Sides → ℕ
+abbrev pub done : Margin → ℕ
 done s = 0
 
-abbrev pub limits_after : Answer Sides → List ℕ → List ℕ
+abbrev pub limits_after : Answer Margin → List ℕ → List ℕ
 limits_after (value s) before = limit_number s.lower ∷ limit_number s.higher ∷ []
 limits_after (refusal n) before = before
 
 -- the PLL setting of four given dividers
 abbrev pub dividers_are : ℕ → ℕ → ℕ → ℕ → PllConfig
 dividers_are r fb p1 p2 = record { refdiv = r; fbdiv = fb; post_div1 = p1; post_div2 = p2 }
-
--- the options that the code's answers mean
-abbrev pub chip_is : OptionChip → Option Chip
-chip_is (OptionChip.Some chip) = some chip
-chip_is OptionChip.None = none
-
-abbrev pub divider_is : OptionDiv → Option GpoutDiv
-divider_is (OptionDiv.Some divider) = some divider
-divider_is OptionDiv.None = none

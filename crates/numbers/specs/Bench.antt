@@ -5,7 +5,6 @@ use lib.{Dec.ltb, ListN.replicate, Seq.sets}
 use Rattle.base.specs.{Answer.Answer, Answer.value, Answer.refusal, Choice.pick, Choice.bit}
 use Rattle.fields.specs.Row.{nth, ten_at}
 use Rattle.runner.specs.declared.Stepper.{Stepper}
-use Rattle.runner.specs.Run.{Go, started}
 use Rattle.boards.specs.declared.Bench.{Bench}
 use Rattle.boards.specs.Bench.{board_at, bench_of, start_all_of}
 use Rattle.numbers.specs.Answers.{answer_number, malformed}
@@ -60,8 +59,8 @@ abbrev pub fresh_numbers : ℕ → List ℕ
 fresh_numbers len = replicate 112 0 ++ (len ∷ [])
 
 -- the numbers after a start; a refusal leaves them unchanged
-abbrev pub start_all_leaves : Answer Go → List ℕ → ℕ → List ℕ
-start_all_leaves (value started) ns len = fresh_numbers len
+abbrev pub start_all_leaves : Answer Unit → List ℕ → ℕ → List ℕ
+start_all_leaves (value tt) ns len = fresh_numbers len
 start_all_leaves (refusal n) ns len = ns
 
 -- the contract of a start of all boards: its answer r, the numbers and the kept bytes after it

@@ -1,34 +1,24 @@
 -- Reads a plan from a row of numbers (docs/CASES.md, A plan in numbers): 48 for the RP2040 and 43, without the RTC's five, for
 -- the RP235x. The parts are in order, and an optional part begins with a flag.
-use mathlib.Core.{Bool.Bool, Bool.true, Bool.◌&&◌, List.List, List.[], List.◌∷◌, Option.Option, Option.none, Option.some}
-use Rattle.std.specs.Prelude.{ℕ, ◌+◌}
+use mathlib.Core.{Bool.Bool, Bool.true, Bool.◌&&◌, List.List, List.[], List.◌∷◌}
+use Rattle.std.specs.Prelude.{ℕ, ◌+◌, Option, Some, None}
 use lib.{Dec.eqb, Dec.leb, ListN.length}
 use Rattle.base.specs.{Answer.Answer, Answer.value, Answer.refusal, Choice.pick}
 use Rattle.chip.specs.declared.{Chip.Chip, Chip.TheVariants.Rp2040, Chip.TheVariants.Rp235x}
 use Rattle.chip.specs.declared.voltage.{CoreVoltage.CoreVoltage, CoreVoltage235.CoreVoltage235}
 use Rattle.chip.specs.Voltage.{core_voltage_of}
-use Rattle.config.specs.declared.OptionPll.{OptionPll}
-use Rattle.config.specs.declared.OptionPll.TheVariants.{Some as pll, None as no_pll}
-use Rattle.config.specs.declared.OptionRosc.{OptionRosc}
-use Rattle.config.specs.declared.OptionRosc.TheVariants.{Some as ring, None as no_ring}
-use Rattle.config.specs.declared.OptionXosc.{OptionXosc}
-use Rattle.config.specs.declared.OptionXosc.TheVariants.{Some as crystal, None as no_crystal}
-use Rattle.config.specs.declared.OptionPeri.{OptionPeri}
-use Rattle.config.specs.declared.OptionPeri.TheVariants.{Some as peri, None as no_peri}
-use Rattle.config.specs.declared.OptionAux.{OptionAux}
-use Rattle.config.specs.declared.OptionAux.TheVariants.{Some as aux, None as no_aux}
-use Rattle.config.specs.declared.OptionRtc.{OptionRtc}
-use Rattle.config.specs.declared.OptionRtc.TheVariants.{Some as rtc, None as no_rtc}
-use Rattle.config.specs.declared.OptionU32.{OptionU32}
-use Rattle.config.specs.declared.OptionU32.TheVariants.{Some as time, None as no_time}
+use Rattle.pll.specs.declared.PllConfig.{PllConfig}
+use Rattle.config.specs.declared.RoscConfig.{RoscConfig}
+use Rattle.config.specs.declared.XoscConfig.{XoscConfig}
+use Rattle.config.specs.declared.PeriClkSrc.{PeriClkSrc}
+use Rattle.config.specs.declared.AuxClkConfig.{AuxClkConfig}
+use Rattle.config.specs.declared.RtcClkConfig.{RtcClkConfig}
 use Rattle.config.specs.declared.{RefClkConfig.RefClkConfig, DriveStrength.DriveStrength, ChipConfig.ChipConfig}
 use Rattle.config.specs.declared.ChipConfig.TheVariants.{Rp2040 as on2040, Rp235x as on235x}
 use Rattle.config.specs.declared.ClockConfig.{ClockConfig}
 use Rattle.settings.specs.Codes.{range_from, ref_from, sys_source_from, peri_from, aux_from}
 use Rattle.fields.specs.Row.{nth, byte_at, half_at, pll_at, u8, u16, u32}
 use Rattle.numbers.specs.Parts.{fit_from, is_part}
-use Rattle.numbers.specs.declared.plan.ChipRead.{ChipRead, TheVariants.Config, TheVariants.None}
-use Rattle.numbers.specs.declared.plan.PlanRead.{PlanRead, TheVariants.Plan, TheVariants.Bad}
 
 -- the greatest values: 1 for a flag, the last code for a source or a range; a PLL needs a crystal
 unfoldable pub whole_oscillators : List ℕ → Bool
@@ -59,8 +49,8 @@ abbrev pub whole_plan : Chip → List ℕ → Bool
 whole_plan chip n = whole_chip chip n && (whole_oscillators n && whole_clocks n)
 
 -- an optional part, by the flag at index i
-abbrev pub flagged : {A : Type 0} → List ℕ → ℕ → A → A → A
-flagged n i there absent = pick (eqb (nth n i) 1) there absent
+abbrev pub flagged : {A : Type 0} → List ℕ → ℕ → A → Option A
+flagged n i part = pick (eqb (nth n i) 1) (Some part) None
 
 unfoldable pub strengths_at : List ℕ → DriveStrength
 strengths_at n =
@@ -76,63 +66,57 @@ strengths_at n =
     }
 
 -- the ring: flag, Hz, range, eight strengths, divider
-unfoldable pub ring_at : List ℕ → OptionRosc
+unfoldable pub ring_at : List ℕ → Option RoscConfig
 ring_at n =
     flagged n 0
-    (ring (record { hz = nth n 1; range = range_from (nth n 2); drive_strength = strengths_at n; div = half_at n 11 }))
-    no_ring
+    (record { hz = nth n 1; range = range_from (nth n 2); drive_strength = strengths_at n; div = half_at n 11 })
 
 -- a PLL from index i on: flag, four dividers
-unfoldable pub option_pll_at : List ℕ → ℕ → OptionPll
-option_pll_at n i = flagged n i (pll (pll_at n (i + 1))) no_pll
+unfoldable pub option_pll_at : List ℕ → ℕ → Option PllConfig
+option_pll_at n i = flagged n i (pll_at n (i + 1))
 
 -- the crystal: flag, Hz, delay multiplier, then the PLLs
-unfoldable pub crystal_at : List ℕ → OptionXosc
+unfoldable pub crystal_at : List ℕ → Option XoscConfig
 crystal_at n =
     flagged n 12
-    (crystal
     (record {
       hz = nth n 13;
       sys_pll = option_pll_at n 15;
       usb_pll = option_pll_at n 20;
       delay_multiplier = nth n 14;
-    }))
-    no_crystal
+    })
 
 -- the settling time: flag, µs
-unfoldable pub settling_at : List ℕ → OptionU32
-settling_at n = flagged n 26 (time (nth n 27)) no_time
+unfoldable pub settling_at : List ℕ → Option ℕ
+settling_at n = flagged n 26 (nth n 27)
 
 -- the reference clock: source, divider
 unfoldable pub reference_at : List ℕ → RefClkConfig
 reference_at n = record { src = ref_from (nth n 28); div = byte_at n 29 }
 
-unfoldable pub peripheral_at : List ℕ → OptionPeri
-peripheral_at n = flagged n 33 (peri (peri_from (nth n 34))) no_peri
+unfoldable pub peripheral_at : List ℕ → Option PeriClkSrc
+peripheral_at n = flagged n 33 (peri_from (nth n 34))
 
 -- the USB or ADC clock from index i on: flag, source, divider, phase
-unfoldable pub divided_at : List ℕ → ℕ → OptionAux
+unfoldable pub divided_at : List ℕ → ℕ → Option AuxClkConfig
 divided_at n i =
     flagged n i
-    (aux (record { src = aux_from (nth n (i + 1)); div = byte_at n (i + 2); phase = byte_at n (i + 3) }))
-    no_aux
+    (record { src = aux_from (nth n (i + 1)); div = byte_at n (i + 2); phase = byte_at n (i + 3) })
 
 -- the RTC clock: flag, source, whole part, fraction, phase
-unfoldable pub rtc_at : List ℕ → OptionRtc
+unfoldable pub rtc_at : List ℕ → Option RtcClkConfig
 rtc_at n =
     flagged n 43
-    (rtc
-    (record { src = aux_from (nth n 44); div_int = nth n 45; div_frac = byte_at n 46; phase = byte_at n 47 }))
-    no_rtc
+    (record { src = aux_from (nth n 44); div_int = nth n 45; div_frac = byte_at n 46; phase = byte_at n 47 })
 
 abbrev pub with2040 : Answer CoreVoltage → List ℕ → Option ChipConfig
 with2040 (value v) n =
-    some (on2040 (record { core_voltage = v; div_int = nth n 31; div_frac = byte_at n 32; rtc_clk = rtc_at n }))
-with2040 (refusal m) n = none
+    Some (on2040 (record { core_voltage = v; div_int = nth n 31; div_frac = byte_at n 32; rtc_clk = rtc_at n }))
+with2040 (refusal m) n = None
 
 abbrev pub with235x : Answer CoreVoltage235 → List ℕ → Option ChipConfig
-with235x (value v) n = some (on235x (record { core_voltage = v; div_int = half_at n 31; div_frac = half_at n 32 }))
-with235x (refusal m) n = none
+with235x (value v) n = Some (on235x (record { core_voltage = v; div_int = half_at n 31; div_frac = half_at n 32 }))
+with235x (refusal m) n = None
 
 -- the chip-specific part: voltage, system divider and RTC; none for a number that is no voltage code of the chip
 unfoldable pub chip_at : Chip → List ℕ → Option ChipConfig
@@ -154,17 +138,8 @@ plan_at c n =
     }
 
 abbrev pub with_chip : Option ChipConfig → List ℕ → Option ClockConfig
-with_chip (some c) n = some (plan_at c n)
-with_chip none n = none
+with_chip (Some c) n = Some (plan_at c n)
+with_chip None n = None
 
 unfoldable pub plan_numbered : Chip → List ℕ → Option ClockConfig
-plan_numbered chip n = pick (whole_plan chip n) (with_chip (chip_at chip n) n) none
-
--- the options that the code's answers mean
-abbrev pub chip_read_is : ChipRead → Option ChipConfig
-chip_read_is (Config c) = some c
-chip_read_is None = none
-
-abbrev pub plan_read_is : PlanRead → Option ClockConfig
-plan_read_is (Plan p) = some p
-plan_read_is Bad = none
+plan_numbered chip n = pick (whole_plan chip n) (with_chip (chip_at chip n) n) None

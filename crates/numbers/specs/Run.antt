@@ -5,7 +5,9 @@ use lib.{Dec.eqb, Dec.leb, ListN.get_or, ListN.set, ListN.take, ListN.drop, List
 use Rattle.base.specs.{Choice.pick, Choice.bit, Answer.Answer, Answer.value, Answer.refusal}
 use Rattle.step.specs.Steps.{pack_of}
 use Rattle.runner.specs.declared.{State.State, Runner.Runner}
-use Rattle.runner.specs.Run.{Progress, done, handed, passed, waiting, advance_of, Go, started, start_of}
+use Rattle.runner.specs.declared.Reply.{Reply}
+use Rattle.runner.specs.declared.Reply.TheVariants.{Done, Handed, Passed, Waiting}
+use Rattle.runner.specs.Run.{advance_of, start_of}
 use Rattle.numbers.specs.Answers.{answer_number, malformed}
 
 -- numbers 0 to 3: position, lock polls, total, stopped mark
@@ -28,18 +30,18 @@ abbrev pub is_runner : List ℕ → Bool
 is_runner ns = leb (get_or ns 3 0) 1
 
 -- a step that is handed out has its word as number, at least 2 ^ 58
-abbrev pub progress_number : Progress → ℕ
-progress_number done = 0
-progress_number passed = 1
-progress_number waiting = 2
-progress_number (handed step) = pack_of step
+abbrev pub progress_number : Reply → ℕ
+progress_number Done = 0
+progress_number Passed = 1
+progress_number Waiting = 2
+progress_number (Handed step) = pack_of step
 
 -- the same with the word given, as the code reads it from the sheet
-abbrev pub progress_with : ℕ → Progress → ℕ
-progress_with word done = 0
-progress_with word passed = 1
-progress_with word waiting = 2
-progress_with word (handed step) = word
+abbrev pub progress_with : ℕ → Reply → ℕ
+progress_with word Done = 0
+progress_with word Passed = 1
+progress_with word Waiting = 2
+progress_with word (Handed step) = word
 
 -- the numbers with the state replaced, and with the frequencies replaced
 unfoldable pub with_state : State → List ℕ → List ℕ
@@ -59,16 +61,16 @@ run_leaves ns kept sheet ready =
     pick (is_runner ns) (with_state next.state (with_freqs next.freqs ns)) ns
 
 -- an accepted start has the number 0
-abbrev pub go_number : Go → ℕ
-go_number started = 0
+abbrev pub go_number : Unit {0} → ℕ
+go_number x = 0
 
 -- the numbers of a runner just started with a sheet of len bytes
 abbrev pub started_numbers : ℕ → List ℕ
 started_numbers len = 0 ∷ 0 ∷ 0 ∷ 0 ∷ len ∷ replicate 10 0
 
 -- the numbers after a start; a refusal leaves them unchanged
-abbrev pub start_leaves : Answer Go → List ℕ → ℕ → List ℕ
-start_leaves (value started) ns len = started_numbers len
+abbrev pub start_leaves : Answer (Unit {0}) → List ℕ → ℕ → List ℕ
+start_leaves (value x) ns len = started_numbers len
 start_leaves (refusal n) ns len = ns
 
 -- the contract of a start: its answer r, the numbers and the kept bytes after it

@@ -1,5 +1,6 @@
 -- Sleep and wake (docs/SLEEP.md) over four slots, eleven words and the steps, all given as numbers (specs/Slots).
-use mathlib.Core.{Path.◌≡◌, Bool.Bool, Bool.◌&&◌, Bool.◌||◌, List.List, Option.Option, Option.none, Option.some}
+use Rattle.std.specs.Prelude.{Option, Some, None}
+use mathlib.Core.{Path.◌≡◌, Bool.Bool, Bool.◌&&◌, Bool.◌||◌, List.List}
 use Rattle.std.specs.Prelude.{ℕ}
 use lib.{Dec.leb, Dec.ltb, ListN.get_or, Seq.sets}
 use Rattle.base.specs.{Answer.Answer, Answer.value, Answer.refusal, Choice.pick, Placed.past}
@@ -15,12 +16,12 @@ are_slots ns = ((leb (get_or ns 0 0) 1 && leb (get_or ns 12 0) 1) && leb (get_or
 -- a call with numbers; none where they are of no slots, but refusal 29 precedes that test
 abbrev pub asked_with : (List Slot → ℕ → List ℕ → SleepOutcome) → List ℕ → ℕ → List ℕ → Option SleepOutcome
 asked_with call slots slot words =
-    pick (ltb 3 slot || are_slots slots) (some (call (slots_in slots 0) slot (words_at words 0))) none
+    pick (ltb 3 slot || are_slots slots) (Some (call (slots_in slots 0) slot (words_at words 0))) None
 
 -- the count of numbers written for the steps, two for each step
 abbrev pub steps_number : Option SleepOutcome → List ℕ → ℕ
-steps_number none steps = malformed
-steps_number (some o) steps = answer_number (λ (s : List Step). past steps 0 (steps_numbers s)) o.answer
+steps_number None steps = malformed
+steps_number (Some o) steps = answer_number (λ (s : List Step). past steps 0 (steps_numbers s)) o.answer
 
 -- the numbers after the call; a refusal leaves them unchanged
 abbrev pub left_by : Answer (List Step) → (List Step → List ℕ) → List ℕ → List ℕ
@@ -28,8 +29,8 @@ left_by (value s) f numbers = sets numbers 0 (f s)
 left_by (refusal n) f numbers = numbers
 
 abbrev pub left_asked : Option SleepOutcome → (SleepOutcome → List Step → List ℕ) → List ℕ → List ℕ
-left_asked none f numbers = numbers
-left_asked (some o) f numbers = left_by o.answer (f o) numbers
+left_asked None f numbers = numbers
+left_asked (Some o) f numbers = left_by o.answer (f o) numbers
 
 -- the call's contract: its answer r, and all numbers after it
 pub record SlotsCall (o : Option SleepOutcome) (slots words steps : List ℕ) (r : ℕ) (slots' words' steps' : List ℕ) : Type 0

@@ -1,10 +1,10 @@
 -- Slots and steps as numbers (docs/SLEEP.md, As numbers).
-use Rattle.std.specs.Prelude.{List, [], ◌∷◌, ◌++◌, ℕ, ◌+◌, eqb}
+use Rattle.std.specs.Prelude.{List, [], ◌∷◌, ℕ, ◌+◌, eqb, flat_map}
 use Rattle.base.specs.Choice.{bit}
 use Rattle.fields.specs.Row.{nth}
 use Rattle.sleep.specs.declared.{Slot.Slot, steps.Step.Step}
 use Rattle.sleep.specs.declared.steps.Step.TheVariants.{Write, RingStable, CrystalStable, Locked}
-use Rattle.sleep.specs.Sleep.{slot_at}
+use Rattle.sleep.specs.Registers.{number_of, pll_number}
 
 -- ---- read
 
@@ -27,20 +27,15 @@ abbrev pub slot_numbers : Slot → List ℕ
 slot_numbers s = bit s.saved ∷ s.words
 
 abbrev pub slots_numbers : List Slot → List ℕ
-slots_numbers s =
-    slot_numbers (slot_at s 0) ++ (slot_numbers (slot_at s 1) ++ (slot_numbers (slot_at s 2) ++ slot_numbers (slot_at s 3)))
+slots_numbers slots = flat_map slot_numbers slots
 
 -- a step is two numbers: a register and its value, or the code of what is waited for and 0
 abbrev pub step_numbers : Step → List ℕ
-step_numbers (Write i v) = i ∷ v ∷ []
+step_numbers (Write r v) = number_of r ∷ v ∷ []
 step_numbers RingStable = 11 ∷ 0 ∷ []
 step_numbers CrystalStable = 12 ∷ 0 ∷ []
-step_numbers (Locked pll) = (13 + pll) ∷ 0 ∷ []
+step_numbers (Locked pll) = (13 + pll_number pll) ∷ 0 ∷ []
 
 -- the numbers of each step, one after another
-abbrev pub each_step : (Step → List ℕ) → List Step → List ℕ
-each_step f [] = []
-each_step f (s ∷ steps) = f s ++ each_step f steps
-
 abbrev pub steps_numbers : List Step → List ℕ
-steps_numbers steps = each_step step_numbers steps
+steps_numbers steps = flat_map step_numbers steps

@@ -1,37 +1,39 @@
 -- A plan whose numbers fit their types, as those of every plan that a program holds do.
-use Rattle.std.specs.Prelude.{◌≤◌}
-use Rattle.config.specs.declared.{OptionPll.OptionPll, OptionRosc.OptionRosc, OptionXosc.OptionXosc, OptionU32.OptionU32}
-use Rattle.config.specs.declared.{OptionAux.OptionAux, OptionRtc.OptionRtc, ChipConfig.ChipConfig, ClockConfig.ClockConfig}
+use Rattle.config.specs.declared.RoscConfig.{RoscConfig}
+use Rattle.config.specs.declared.XoscConfig.{XoscConfig}
+use Rattle.std.specs.Prelude.{ℕ, ◌≤◌, Option, Some, None}
+use Rattle.pll.specs.declared.PllConfig.{PllConfig}
+use Rattle.config.specs.declared.{AuxClkConfig.AuxClkConfig, RtcClkConfig.RtcClkConfig, ChipConfig.ChipConfig, ClockConfig.ClockConfig}
 use Rattle.fields.specs.Row.{u8, u16, u32}
 
-abbrev pub PllTyped : OptionPll → Type 0
-PllTyped (OptionPll.Some p) =
+abbrev pub PllTyped : Option PllConfig → Type 0
+PllTyped (Some p) =
     (p.refdiv ≤ u8) × (p.fbdiv ≤ u16) × (p.post_div1 ≤ u8) × (p.post_div2 ≤ u8)
-PllTyped OptionPll.None = Unit {0}
+PllTyped None = Unit {0}
 
-abbrev pub RingTyped : OptionRosc → Type 0
-RingTyped (OptionRosc.Some r) =
+abbrev pub RingTyped : Option RoscConfig → Type 0
+RingTyped (Some r) =
     let s = r.drive_strength in
     (r.hz ≤ u32) × (s.s0 ≤ u8) × (s.s1 ≤ u8) × (s.s2 ≤ u8) × (s.s3 ≤ u8)
     × (s.s4 ≤ u8) × (s.s5 ≤ u8) × (s.s6 ≤ u8) × (s.s7 ≤ u8) × (r.div ≤ u16)
-RingTyped OptionRosc.None = Unit {0}
+RingTyped None = Unit {0}
 
-abbrev pub CrystalTyped : OptionXosc → Type 0
-CrystalTyped (OptionXosc.Some x) =
+abbrev pub CrystalTyped : Option XoscConfig → Type 0
+CrystalTyped (Some x) =
     (x.hz ≤ u32) × (x.delay_multiplier ≤ u32) × PllTyped x.sys_pll × PllTyped x.usb_pll
-CrystalTyped OptionXosc.None = Unit {0}
+CrystalTyped None = Unit {0}
 
-abbrev pub TimeTyped : OptionU32 → Type 0
-TimeTyped (OptionU32.Some n) = n ≤ u32
-TimeTyped OptionU32.None = Unit {0}
+abbrev pub TimeTyped : Option ℕ → Type 0
+TimeTyped (Some n) = n ≤ u32
+TimeTyped None = Unit {0}
 
-abbrev pub AuxTyped : OptionAux → Type 0
-AuxTyped (OptionAux.Some a) = (a.div ≤ u8) × (a.phase ≤ u8)
-AuxTyped OptionAux.None = Unit {0}
+abbrev pub AuxTyped : Option AuxClkConfig → Type 0
+AuxTyped (Some a) = (a.div ≤ u8) × (a.phase ≤ u8)
+AuxTyped None = Unit {0}
 
-abbrev pub ClockTyped : OptionRtc → Type 0
-ClockTyped (OptionRtc.Some r) = (r.div_int ≤ u32) × (r.div_frac ≤ u8) × (r.phase ≤ u8)
-ClockTyped OptionRtc.None = Unit {0}
+abbrev pub ClockTyped : Option RtcClkConfig → Type 0
+ClockTyped (Some r) = (r.div_int ≤ u32) × (r.div_frac ≤ u8) × (r.phase ≤ u8)
+ClockTyped None = Unit {0}
 
 abbrev pub ChipTyped : ChipConfig → Type 0
 ChipTyped (ChipConfig.Rp2040 c) = (c.div_int ≤ u32) × (c.div_frac ≤ u8) × ClockTyped c.rtc_clk

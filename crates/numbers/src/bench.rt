@@ -4,12 +4,12 @@ ghost use Rattle.std.specs.Prelude.{◌≡◌, ◌*◌};
 ghost use Rattle.std.proofs.lemmas.List.Edits.{sets};
 ghost use Rattle.numbers.specs.Bench.{runner_at, fourteen};
 
-// The 15 numbers of a board as a runner.
+// The 15 numbers of a board as a runner. They are listed, since `array::from_fn` gets no proof at fifteen numbers.
 pub fn runner_at(n: &[u32], board: u8) -> [u32; 15]
     ensures { result ≡ runner_at n.now board }
 {
-    let at = 14 * (board as usize);
-    let first = 14 * (board as u16) + 4;
+    let at = 14 * usize::from(board);
+    let first = 14 * u16::from(board) + 4;
     let f = fields::ten_at(n, first);
     [
         fields::number_at(n, at),
@@ -34,8 +34,6 @@ pub fn runner_at(n: &[u32], board: u8) -> [u32; 15]
 pub fn put_runner(n: &mut [u32], board: u8, r: &[u32; 15])
     ensures { n.new ≡ sets n.old (14 * board) (fourteen r.now) }
 {
-    let numbers = [
-        r[0], r[1], r[2], r[3], r[5], r[6], r[7], r[8], r[9], r[10], r[11], r[12], r[13], r[14],
-    ];
-    let _n = base::put_numbers(n, 14 * (board as usize), &numbers);
+    let freqs = base::put_all(n, 14 * usize::from(board), &r[..4]);
+    base::put_all(n, freqs, &r[5..]);
 }

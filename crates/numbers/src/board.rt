@@ -1,37 +1,34 @@
 // The calls that a board needs, over numbers and slices only: a runner's start and call, and the register access of a step.
 mod run;
 
-ghost use mathlib.Core.{Path.◌≡◌, Option.some};
+ghost use Rattle.std.specs.Prelude.{◌≡◌, Some};
 ghost use Rattle.numbers.specs.Answers.{chip_numbered};
 ghost use Rattle.numbers.specs.Run.{run_number, run_leaves, StartCall};
 ghost use Rattle.numbers.specs.Access.{AccessCall};
 
 use crate::answers;
-use crate::answers::OptionChip;
 use chip::Chip;
-use registers::Accessed;
-use runner::{Opening, Runner};
+use runner::Runner;
 use step::MAX_BYTES;
 
 // Starts a runner with a sheet and answers 0; any numbers may be given before. Refusal: 20.
+#[tactic(auto, using(step::proofs::Sizes::size_fits), unfolding(runner::specs::Run::start_of))]
 pub fn start(runner: &mut [u32; 15], kept: &mut [u8; MAX_BYTES], sheet: &[u8]) -> u64
     ensures { StartCall runner.old kept.old sheet.now result runner.new kept.new }
 {
-    let o = runner::restarted(Runner::new(), sheet);
-    let reply = o.reply;
-    let next = o.runner;
-    match reply {
-        Opening::Started => {
-            run::put_started(runner, next.len as u32);
-            let bytes = next.kept;
-            *kept = bytes;
-            0
-        }
-        Opening::Refused(number) => answers::refused(number),
+    let mut next = Runner::new();
+    if let Err(why) = next.start(sheet) {
+        return answers::refused(why);
     }
+    *runner = [0; 15];
+    runner[4] = next.len as u32;
+    let bytes = next.kept;
+    *kept = bytes;
+    0
 }
 
 // One call of the runner: done, passed, waiting, or the word of the step. Refusals: 21, 22, 27, 20; a bad mark is malformed.
+#[tactic(auto, using(std::proofs::lemmas::Bool::Decides::nat_tests, runner::proofs::Steps::turn_formed, crate::proofs::Runners::position_fits, crate::proofs::Runners::turn_word), unfolding(crate::specs::Run::run_number, crate::specs::Run::run_leaves, runner::specs::Run::advance_of, runner::specs::Run::stepper_of))]
 pub fn call(runner: &mut [u32; 15], kept: &[u8; MAX_BYTES], sheet: &[u8], ready: bool) -> u64
     ensures value { result ≡ run_number runner.old kept.now sheet.now ready }
     ensures runner_after { runner.new ≡ run_leaves runner.old kept.now sheet.now ready }
@@ -39,27 +36,24 @@ pub fn call(runner: &mut [u32; 15], kept: &[u8; MAX_BYTES], sheet: &[u8], ready:
     if 1 < runner[3] {
         return answers::MALFORMED;
     }
-    let before = run::state(runner);
-    let word = step::word(sheet, 8 * before.position);
-    let len = base::wide(runner[4]) as usize;
-    let t = runner::turn(before, len, kept, sheet, ready);
-    let after = t.state;
-    let reply = t.reply;
+    let mut state = run::state(runner);
+    let word = step::word(sheet, 8 * state.position);
+    let reply = state.turn(runner[4] as usize, kept, sheet, ready);
     let number = run::answer(runner, reply, word);
-    run::put_state(runner, after);
+    run::put_state(runner, state);
     number
 }
 
 // Writes the register access of a step on a chip and answers its kind. Refusal: 20.
 fn access_on(chip: Chip, sheet: &[u8], position: u32, access: &mut [u32; 3]) -> u64
-    ensures { AccessCall (some chip) sheet.now position access.old result access.new }
+    ensures { AccessCall (Some chip) sheet.now position access.old result access.new }
 {
     match registers::access_at(chip, sheet, position) {
-        Accessed::Does(a) => {
-            *access = [a.address, a.mask, a.value];
-            a.op as u64
+        Ok(a) => {
+            *access = a.numbers();
+            u64::from(a.op())
         }
-        Accessed::Refused(number) => answers::refused(number),
+        Err(why) => answers::refused(why),
     }
 }
 
@@ -68,7 +62,7 @@ pub fn access(chip: u8, sheet: &[u8], position: u32, access: &mut [u32; 3]) -> u
     ensures { AccessCall (chip_numbered chip) sheet.now position access.old result access.new }
 {
     match answers::chip(chip) {
-        OptionChip::Some(on) => access_on(on, sheet, position, access),
-        OptionChip::None => answers::MALFORMED,
+        Some(on) => access_on(on, sheet, position, access),
+        None => answers::MALFORMED,
     }
 }

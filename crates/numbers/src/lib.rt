@@ -8,4 +8,4 @@ pub mod plan;
 pub mod plan_row;
 pub mod read;
 pub mod sleep_call;
-pub mod slots;
+mod slots;

@@ -3,25 +3,11 @@ mod part;
 mod rows;
 
 ghost use Rattle.std.specs.Prelude.{◌≡◌};
-ghost use Rattle.numbers.specs.Plan.{whole_oscillators, whole_clocks, whole_chip, whole_plan, plan_at, plan_numbered, plan_read_is};
+ghost use Rattle.numbers.specs.Plan.{whole_oscillators, whole_clocks, whole_chip, whole_plan, plan_at, plan_numbered};
 
 use chip::Chip;
 use config::{ChipConfig, ClockConfig};
 use rows::{fits, is_part};
-
-// A plan, or Bad where the numbers are of no plan.
-#[derive(Clone, Copy)]
-pub enum PlanRead {
-    Plan(ClockConfig),
-    Bad,
-}
-
-// The chip-specific part of a plan, or None where the chip has no voltage with this code.
-#[derive(Clone, Copy)]
-pub enum ChipRead {
-    Config(ChipConfig),
-    None,
-}
 
 const U8: u32 = 255;
 
@@ -30,6 +16,7 @@ const U16: u32 = 65535;
 const U32: u32 = 4294967295;
 
 // Whether the numbers of ring, crystal and PLLs are within their limits; a PLL needs a crystal.
+#[tactic(auto, using(std::proofs::lemmas::Bool::Decides::nat_tests), unfolding(crate::specs::Plan::whole_oscillators))]
 fn whole_oscillators(n: &[u32]) -> bool
     ensures { result ≡ whole_oscillators n.now }
 {
@@ -42,6 +29,7 @@ fn whole_oscillators(n: &[u32]) -> bool
 }
 
 // Whether the numbers of voltage, settling time and clocks are within their limits.
+#[tactic(auto, using(std::proofs::lemmas::Bool::Decides::nat_tests), unfolding(crate::specs::Plan::whole_clocks))]
 fn whole_clocks(n: &[u32]) -> bool
     ensures { result ≡ whole_clocks n.now }
 {
@@ -56,6 +44,7 @@ fn whole_clocks(n: &[u32]) -> bool
 }
 
 // Whether the row's length, the system divider and the RTC are within the chip's limits.
+#[tactic(auto, using(std::proofs::lemmas::Bool::Decides::nat_tests), unfolding(crate::specs::Plan::whole_chip))]
 fn whole_chip(chip: Chip, n: &[u32]) -> bool
     ensures { result ≡ whole_chip chip n.now }
 {
@@ -88,6 +77,7 @@ fn whole_plan(chip: Chip, n: &[u32]) -> bool
 }
 
 // The plan that the numbers hold, with its chip-specific part; `whole_plan` tests the numbers first.
+#[tactic(auto, using(std::proofs::lemmas::Bool::Decides::nat_tests), unfolding(crate::specs::Plan::plan_at))]
 fn plan_at(chip: ChipConfig, n: &[u32]) -> ClockConfig
     ensures { result ≡ plan_at chip n.now }
 {
@@ -96,7 +86,7 @@ fn plan_at(chip: ChipConfig, n: &[u32]) -> ClockConfig
         rosc: part::ring(n),
         xosc: part::crystal(n),
         ref_clk: part::reference(n),
-        sys_clk_src: settings::sys_source_from(fields::number_at(n, 30) as u64),
+        sys_clk_src: settings::sys_source_from(u64::from(fields::number_at(n, 30))),
         peri_clk_src: part::peripheral(n),
         usb_clk: part::divided(n, 35),
         adc_clk: part::divided(n, 39),
@@ -104,15 +94,13 @@ fn plan_at(chip: ChipConfig, n: &[u32]) -> ClockConfig
     }
 }
 
-// The plan for a chip that these numbers hold, or Bad.
-pub fn plan(chip: Chip, n: &[u32]) -> PlanRead
-    ensures { plan_read_is result ≡ plan_numbered chip n.now }
+// The plan for a chip that these numbers hold, or None.
+#[tactic(auto, unfolding(crate::specs::Plan::plan_numbered))]
+pub fn plan(chip: Chip, n: &[u32]) -> Option<ClockConfig>
+    ensures { result ≡ plan_numbered chip n.now }
 {
     if !whole_plan(chip, n) {
-        return PlanRead::Bad;
+        return None;
     }
-    match part::chip(chip, n) {
-        ChipRead::Config(config) => PlanRead::Plan(plan_at(config, n)),
-        ChipRead::None => PlanRead::Bad,
-    }
+    Some(plan_at(part::chip(chip, n)?, n))
 }

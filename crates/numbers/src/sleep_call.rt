@@ -1,12 +1,15 @@
 // Sleep and wake (docs/SLEEP.md) over slots, words and steps that are given as numbers.
-ghost use Rattle.std.specs.Prelude.{◌≡◌};
-ghost use Rattle.std.proofs.Math.Option.{some};
+ghost use Rattle.std.specs.Prelude.{◌≡◌, Some};
+ghost use Rattle.base.specs.Answer.{answer_of};
 ghost use Rattle.base.specs.Choice.{pick};
-ghost use Rattle.sleep.specs.Sleep.{change_is, sleep_of, wake_of};
+ghost use Rattle.sleep.specs.Sleep.{outcome, sleep_of, wake_of};
 ghost use Rattle.numbers.specs.SleepCall.{are_slots, asked_with, SlotsCall};
 
 use crate::answers;
-use sleep::{Answer, Change, Slot};
+use crate::slots::{put_slots, put_steps};
+use base::{Refusal, Writer};
+use sleep::Slot;
+use sleep::steps::Steps;
 
 // Whether each of the four slots' flags is 0 or 1.
 fn are_slots(n: &[u32; 48]) -> bool
@@ -15,32 +18,20 @@ fn are_slots(n: &[u32; 48]) -> bool
     (n[0] <= 1) & (n[12] <= 1) & (n[24] <= 1) & (n[36] <= 1)
 }
 
-// The number of a call's answer. Slots, words and steps are written unless the call is refused.
-fn leave(change: Change, slots: &mut [u32; 48], words: &mut [u32; 11], steps: &mut [u32; 28]) -> u64
-    ensures { SlotsCall (some (change_is change)) slots.old words.old steps.old result slots.new words.new steps.new }
-{
-    let answer = change.answer;
-    let list = change.steps;
-    let after = change.words;
-    let kept = change.slots;
-    match answer {
-        Answer::Done => {
-            crate::slots::put_slots(slots, 0, kept);
-            base::put_numbers(words, 0, &after);
-            crate::slots::put_steps(steps, 0, list) as u64
-        }
-        Answer::Refused(number) => answers::refused(number),
-    }
-}
-
 // A wake or a sleep, as the flag says.
-fn asked(wakes: bool, slots: [Slot; 4], slot: u8, words: [u32; 11]) -> Change
-    ensures { change_is result ≡ pick wakes wake_of sleep_of slots slot words }
+fn asked(
+    wakes: bool,
+    slots: &mut [Slot; 4],
+    slot: u8,
+    words: &mut [u32; 11],
+) -> Result<Steps, Refusal>
+    ensures { outcome (answer_of result) words.new slots.new ≡ pick wakes wake_of sleep_of slots.old slot words.old }
 {
     if wakes {
-        return sleep::wake(slots, slot, words);
+        sleep::wake(slots, slot, words)
+    } else {
+        sleep::sleep(slots, slot, words)
     }
-    sleep::sleep(slots, slot, words)
 }
 
 // A sleep or a wake on numbers; answers the count of numbers of its steps. Refusals: 29, 30; a bad flag is malformed.
@@ -53,10 +44,18 @@ pub fn change(
 ) -> u64
     ensures { SlotsCall (asked_with (pick wakes wake_of sleep_of) slots.old slot words.old) slots.old words.old steps.old result slots.new words.new steps.new }
 {
-    if (3 < slot) | are_slots(slots) {
-        let held = crate::slots::slots_at(slots, 0);
-        let handed = crate::slots::words_at(words, 0);
-        return leave(asked(wakes, held, slot, handed), slots, words, steps);
+    if !((3 < slot) | are_slots(slots)) {
+        return answers::MALFORMED;
     }
-    answers::MALFORMED
+    let mut held = crate::slots::slots(slots);
+    match asked(wakes, &mut held, slot, words) {
+        Ok(list) => {
+            let mut out = Writer::new(slots);
+            put_slots(&mut out, &held);
+            let mut out = Writer::new(steps);
+            put_steps(&mut out, &list);
+            out.at as u64
+        }
+        Err(why) => answers::refused(why),
+    }
 }

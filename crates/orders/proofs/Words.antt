@@ -7,9 +7,9 @@ use Rattle.text.specs.Words.{up_to, index_from}
 use Rattle.text.proofs.Lines.{take-up, between, index-end}
 use Rattle.orders.specs.Line.{word_after, end_after}
 
-pub first-cut : (line : List ℕ) {end : ℕ} → end ≡ index_from line 0 32 → take end line ≡ up_to 32 line
+pub first_cut : (line : List ℕ) {end : ℕ} → end ≡ index_from line 0 32 → take end line ≡ up_to 32 line
 unfolding index_from
-first-cut line e = rw (e, zero-add) (take-up 32 line)
+first_cut line e = rw (e, zero-add) (take-up 32 line)
 
 module _ (line : List ℕ) (at : ℕ) where
   pub word_none : length line ≤ at → [] ≡ word_after line at
@@ -24,9 +24,9 @@ module _ (line : List ℕ) (at : ℕ) where
   unfolding end_after
   end_none out = omega (arith, index-end line 32 (suc at) (omega arith))
 
-  pub end-cut : {end : ℕ} → at < length line → end ≡ index_from line (at + 1) 32 → end ≤ max (at + 1) (length line)
+  pub end_cut : {end : ℕ} → at < length line → end ≡ index_from line (at + 1) 32 → end ≤ max (at + 1) (length line)
       → end ≡ end_after line at
   unfolding end_after
-  end-cut {end} inside e most =
+  end_cut {end} inside e most =
       let same : end ≡ index_from line (suc at) 32 = rw add-one at e in
       omega arith

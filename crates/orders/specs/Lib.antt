@@ -1,2 +1,3 @@
 pub mod Line
 pub mod Orders
+pub mod Numbers

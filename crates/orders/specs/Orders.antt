@@ -1,8 +1,9 @@
 -- An order is the words that ask for a plan (docs/PROGRAMS.md, check). Each preset has a row: its name, the letters of the words
 -- that it takes (words/specs/Words), and the plan that it asks for.
-use mathlib.Core.{Bool.Bool, List.List, List.[], List.◌∷◌, Option.Option, Option.none, Option.some}
+use Rattle.std.specs.Prelude.{Option, Some, None}
+use mathlib.Core.{Bool.Bool, List.List, List.[], List.◌∷◌}
 use Prim.Native.{Nat.ℕ, Nat.zero, Nat.suc, String.String}
-use lib.{Dec.eqb, Dec.ltb, ListN.length, ListN.take, ListN.replicate}
+use lib.{Dec.eqb, Dec.ltb, ListN.length, ListN.take}
 use Rattle.base.specs.{Answer.Answer, Answer.value, Answer.refusal, Choice.pick}
 use Rattle.text.specs.Ascii.{ascii, same}
 use Rattle.chip.specs.declared.{Chip.Chip, Chip.TheVariants.Rp2040, Chip.TheVariants.Rp235x}
@@ -13,44 +14,38 @@ use Rattle.config.specs.Presets.{default_plan, crystal_plan, rosc_plan, system_p
 use Rattle.fields.specs.Row.{nth, byte_at, pll_at}
 use Rattle.numbers.specs.Plan.{plan_numbered}
 use Rattle.readback.specs.Read.{read_of}
-use Rattle.words.specs.Words.{State, state_of, given}
+use Rattle.words.specs.declared.Words.{Words}
+use Rattle.words.specs.Words.{unread, sheet_at, given}
 use Rattle.orders.specs.Line.{word_after, end_after}
-use Rattle.orders.specs.declared.{Order.Order, Order.TheVariants.Plan, Order.TheVariants.Refused, Order.TheVariants.Bad}
-
--- what the code's answers mean: a plan, its refusal, or none where the words are no order
-abbrev pub order_is : Order → Option (Answer ClockConfig)
-order_is (Plan p) = some (value p)
-order_is (Refused n) = some (refusal n)
-order_is Bad = none
 
 -- the row of a preset; its plan depends on the chip and on the numbers that were read
-pub record Preset : Type 0 where
+pub record Row : Type 0 where
   pub name : List ℕ
   pub letters : List ℕ
   pub plan : Chip → List ℕ → Option (Answer ClockConfig)
 
-abbrev pub row : String → String → (Chip → List ℕ → Option (Answer ClockConfig)) → Preset
+abbrev pub row : String → String → (Chip → List ℕ → Option (Answer ClockConfig)) → Row
 row name letters plan = record { name = ascii name; letters = ascii letters; plan = plan }
 
 -- `manual` takes HZ REFDIV FBDIV POST1 POST2 CODE, for the RP2040 only; an unknown voltage code gives none
 abbrev pub manual_with : List ℕ → Answer CoreVoltage → Option (Answer ClockConfig)
-manual_with n (value v) = some (manual_plan (nth n 0) (pll_at n 1) v)
-manual_with n (refusal m) = none
+manual_with n (value v) = Some (manual_plan (nth n 0) (pll_at n 1) v)
+manual_with n (refusal m) = None
 
 unfoldable pub manual_of : List ℕ → Option (Answer ClockConfig)
 manual_of n = manual_with n (core_voltage_of Rp2040 (byte_at n 5))
 
 abbrev pub manual_on : Chip → List ℕ → Option (Answer ClockConfig)
 manual_on Rp2040 n = manual_of n
-manual_on Rp235x n = none
+manual_on Rp235x n = None
 
-abbrev pub presets : List Preset
+abbrev pub presets : List Row
 presets =
-    row "system" "w" (λ chip n. some (system_plan chip (nth n 0)))
-    ∷ row "system_from" "ww" (λ chip n. some (system_plan_from chip (nth n 0) (nth n 1)))
-    ∷ row "crystal" "w" (λ chip n. some (value (crystal_plan chip (nth n 0))))
-    ∷ row "rosc" "" (λ chip n. some (value (rosc_plan chip)))
-    ∷ row "default" "" (λ chip n. some (value (default_plan chip)))
+    row "system" "w" (λ chip n. Some (system_plan chip (nth n 0)))
+    ∷ row "system_from" "ww" (λ chip n. Some (system_plan_from chip (nth n 0) (nth n 1)))
+    ∷ row "crystal" "w" (λ chip n. Some (value (crystal_plan chip (nth n 0))))
+    ∷ row "rosc" "" (λ chip n. Some (value (rosc_plan chip)))
+    ∷ row "default" "" (λ chip n. Some (value (default_plan chip)))
     ∷ row "manual" "wbhbbb" manual_on
     ∷ []
 
@@ -59,7 +54,7 @@ abbrev pub plan_letters : List ℕ
 plan_letters = ascii "wwwwwwwwwwwwwwwwwwwwwwwwwwwwwwwwwwwwwwwwwwwooooo"
 
 -- the number of the order with that name: a preset's row, then 6 for `plan`; 7 is no order
-abbrev pub named_in : List Preset → List ℕ → ℕ
+abbrev pub named_in : List Row → List ℕ → ℕ
 named_in [] word = pick (same word (ascii "plan")) 0 1
 named_in (r ∷ rs) word = pick (same word r.name) 0 (suc (named_in rs word))
 
@@ -69,7 +64,15 @@ preset_named word = named_in presets word
 unfoldable pub is_order : List ℕ → Bool
 is_order word = ltb (preset_named word) 7
 
-abbrev pub letters_in : List Preset → ℕ → List ℕ
+abbrev pub name_in : List Row → ℕ → List ℕ
+name_in [] k = ascii "plan"
+name_in (r ∷ rs) zero = r.name
+name_in (r ∷ rs) (suc k) = name_in rs k
+
+unfoldable pub name_of : ℕ → List ℕ
+name_of k = name_in presets k
+
+abbrev pub letters_in : List Row → ℕ → List ℕ
 letters_in [] k = plan_letters
 letters_in (r ∷ rs) zero = r.letters
 letters_in (r ∷ rs) (suc k) = letters_in rs k
@@ -77,8 +80,8 @@ letters_in (r ∷ rs) (suc k) = letters_in rs k
 unfoldable pub letters_of : ℕ → List ℕ
 letters_of k = letters_in presets k
 
-abbrev pub preset_in : List Preset → ℕ → Chip → List ℕ → Option (Answer ClockConfig)
-preset_in [] k chip n = none
+abbrev pub preset_in : List Row → ℕ → Chip → List ℕ → Option (Answer ClockConfig)
+preset_in [] k chip n = None
 preset_in (r ∷ rs) zero chip n = r.plan chip n
 preset_in (r ∷ rs) (suc k) chip n = preset_in rs k chip n
 
@@ -87,23 +90,19 @@ preset_of k chip n = preset_in presets k chip n
 
 -- the plan of the first `count` numbers; none where there are fewer
 abbrev pub planned : Option ClockConfig → Option (Answer ClockConfig)
-planned (some p) = some (value p)
-planned none = none
+planned (Some p) = Some (value p)
+planned None = None
 
 unfoldable pub plan_in : Chip → List ℕ → ℕ → Option (Answer ClockConfig)
-plan_in chip n count = pick (ltb (length n) count) none (planned (plan_numbered chip (take count n)))
+plan_in chip n count = pick (ltb (length n) count) None (planned (plan_numbered chip (take count n)))
 
 -- the order with number k; 6 is `plan`
 unfoldable pub order_with : ℕ → Chip → List ℕ → ℕ → Option (Answer ClockConfig)
 order_with k chip n count = pick (eqb k 6) (plan_in chip n count) (preset_of k chip n)
 
--- the state before any word is read
-abbrev pub unread : State
-unread = state_of 0 (replicate 128 0) (replicate 528 0) (replicate 2048 0)
-
-abbrev pub with_state : (State → Option (Answer ClockConfig)) → Option State → Option (Answer ClockConfig)
-with_state f (some s) = f s
-with_state f none = none
+abbrev pub with_state : (Words → Option (Answer ClockConfig)) → Option Words → Option (Answer ClockConfig)
+with_state f (Some s) = f s
+with_state f None = None
 
 -- an order for a chip: the word after index `at` is its name, and the words after it are those that its letters ask for
 unfoldable pub order_on : Chip → List ℕ → ℕ → Option (Answer ClockConfig)
@@ -114,7 +113,7 @@ order_on chip line at =
 -- an order that is a sheet in hex asks for the plan that the sheet is read back to
 unfoldable pub sheet_order : List ℕ → ℕ → ℕ → Option (Answer ClockConfig)
 sheet_order line at reading =
-    with_state (λ s. some (read_of (take (nth s.row 0) s.sheet) reading)) (given line (ascii "x") at unread)
+    with_state (λ s. Some (read_of (sheet_at s 0) reading)) (given line (ascii "x") at unread)
 
 -- the order in the words after index `at`, at a reading: `rp235x` before a name selects that chip, and a word that names no order
 -- is a sheet

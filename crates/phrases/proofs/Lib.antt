@@ -1,3 +1,1 @@
-pub mod Commas
 pub mod Forms
-pub mod Named

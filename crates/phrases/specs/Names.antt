@@ -1,6 +1,6 @@
 -- The names of ranges and sources.
-use Rattle.std.specs.Prelude.{List, [], ◌∷◌, ◌++◌, ℕ, zero, suc, ◌+◌, length, drop}
-use Rattle.text.specs.{Ascii.ascii, Words.up_to}
+use Rattle.std.specs.Prelude.{List, [], ◌∷◌, ◌++◌, ℕ}
+use Rattle.text.specs.Ascii.{ascii}
 use Rattle.config.specs.declared.{RoscRange.RoscRange, RefClkSrc.RefClkSrc, SysClkSrc.SysClkSrc, PeriClkSrc.PeriClkSrc}
 use Rattle.config.specs.declared.AuxClkSrc.{AuxClkSrc}
 use Rattle.phrases.specs.Form.{formed}
@@ -40,13 +40,3 @@ aux_name AuxClkSrc.Xosc = ascii "xosc"
 -- a form with a number in it, a name, a form with more numbers
 abbrev pub named_form : List ℕ → ℕ → List ℕ → List ℕ → List ℕ → List ℕ
 named_form first n name last ns = formed first (n ∷ []) ++ (name ++ formed last ns)
-
--- Inside: the code has the names of a setting in one text, in the order of their codes
-
--- the names from number n on; a comma, which is byte 44, separates two names
-abbrev pub names_from : List ℕ → ℕ → List ℕ
-names_from names zero = names
-names_from names (suc n) = drop (length (up_to 44 (names_from names n)) + 1) (names_from names n)
-
-unfoldable pub name_at : List ℕ → ℕ → List ℕ
-name_at names n = up_to 44 (names_from names n)

@@ -1,38 +1,99 @@
 // Texts with the name of a range or of a source in them.
-ghost use Rattle.base.specs.Placed.{Placed};
-ghost use Rattle.phrases.specs.Names.{name_at, named_form};
+ghost use Rattle.std.specs.Prelude.{◌≡◌, List, ℕ};
+ghost use Rattle.base.specs.Writing.{Puts};
+ghost use Rattle.phrases.specs.Names.{range_name, ref_name, sys_name, peri_name, aux_name, named_form};
 
-use crate::form::put_form;
+use crate::form::write_form;
+use base::Writer;
+use config::{AuxClkSrc, PeriClkSrc, RefClkSrc, RoscRange, SysClkSrc};
 
-// Puts the name with this number, of names that commas separate.
-fn put_name(out: &mut [u8], at: usize, names: &[u8], number: u8) -> usize
-    ensures { Placed out.old at (name_at names.now number) result out.new }
-{
-    let mut start = 0;
-    let mut i = 0;
-    while i < number {
-        start = text::index_from(names, start, b',') + 1;
-        i += 1;
-    }
-    let from = base::least(start, names.len());
-    let end = text::index_from(names, from, b',');
-    text::put_bytes(out, at, &names[from..end])
+// A setting that has a name.
+pub trait Named {
+    ghost the_name: { Self → List ℕ };
+
+    fn name(self) -> &'static [u8]
+        ensures { result.now ≡ the_name self };
 }
 
-// Puts a form with a number in it, the name with a code, and a form with more numbers.
-pub(crate) fn put_named(
-    out: &mut [u8],
-    at: usize,
+impl Named for RoscRange {
+    ghost the_name = { range_name };
+
+    fn name(self) -> &'static [u8] {
+        match self {
+            RoscRange::Low => b"low",
+            RoscRange::Medium => b"medium",
+            RoscRange::High => b"high",
+            RoscRange::TooHigh => b"too high",
+        }
+    }
+}
+
+impl Named for RefClkSrc {
+    ghost the_name = { ref_name };
+
+    fn name(self) -> &'static [u8] {
+        match self {
+            RefClkSrc::Xosc => b"xosc",
+            RefClkSrc::Rosc => b"rosc",
+            RefClkSrc::PllUsb => b"pll_usb",
+        }
+    }
+}
+
+impl Named for SysClkSrc {
+    ghost the_name = { sys_name };
+
+    fn name(self) -> &'static [u8] {
+        match self {
+            SysClkSrc::Ref => b"ref",
+            SysClkSrc::PllSys => b"pll_sys",
+            SysClkSrc::PllUsb => b"pll_usb",
+            SysClkSrc::Rosc => b"rosc",
+            SysClkSrc::Xosc => b"xosc",
+        }
+    }
+}
+
+impl Named for PeriClkSrc {
+    ghost the_name = { peri_name };
+
+    fn name(self) -> &'static [u8] {
+        match self {
+            PeriClkSrc::Sys => b"sys",
+            PeriClkSrc::PllSys => b"pll_sys",
+            PeriClkSrc::PllUsb => b"pll_usb",
+            PeriClkSrc::Rosc => b"rosc",
+            PeriClkSrc::Xosc => b"xosc",
+        }
+    }
+}
+
+impl Named for AuxClkSrc {
+    ghost the_name = { aux_name };
+
+    fn name(self) -> &'static [u8] {
+        match self {
+            AuxClkSrc::PllUsb => b"pll_usb",
+            AuxClkSrc::PllSys => b"pll_sys",
+            AuxClkSrc::Rosc => b"rosc",
+            AuxClkSrc::Xosc => b"xosc",
+        }
+    }
+}
+
+// Writes a form with a number in it, the name of a setting, and a form with more numbers.
+#[tactic(auto, using(base::proofs::Writing::writing))]
+pub(crate) fn write_named<S: Named + Drop>(
+    out: &mut Writer<'_, u8>,
     first: &[u8],
     n: u64,
-    names: &[u8],
-    code: u8,
+    setting: S,
     last: &[u8],
     ns: &[u64],
-) -> usize
-    ensures { Placed out.old at (named_form first.now n (name_at names.now code) last.now ns.now) result out.new }
+)
+    ensures { Puts out.old (named_form first.now n (S.the_name setting) last.now ns.now) out.new }
 {
-    let at = put_form(out, at, first, &[n]);
-    let at = put_name(out, at, names, code);
-    put_form(out, at, last, ns)
+    write_form(out, first, &[n]);
+    out.put_all(setting.name());
+    write_form(out, last, ns);
 }

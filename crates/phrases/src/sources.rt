@@ -1,127 +1,125 @@
 // The lines of the chip, the oscillators, the PLLs, the voltage and its settling step.
 ghost use Rattle.std.specs.Prelude.{◌≡◌};
-ghost use Rattle.base.specs.Placed.{Placed};
+ghost use Rattle.base.specs.Writing.{Puts};
 ghost use Rattle.phrases.specs.Lines.{chip_line, ring_line, crystal_line, pll_line, millivolts, voltage_line, settling_line};
 
-use crate::form::put_form;
-use crate::names::put_named;
+use crate::form::write_form;
+use crate::names::write_named;
+use base::Writer;
 use chip::Chip;
-use config::{OptionPll, OptionRosc};
-use settings::{OptionCrystal, OptionCycles};
+use config::RoscConfig;
+use pll::PllConfig;
+use settings::Crystal;
 
-// Puts the line of the chip.
-pub fn put_chip(out: &mut [u8], at: usize, chip: Chip) -> usize
-    ensures { Placed out.old at (chip_line chip) result out.new }
+// Writes the line of the chip.
+#[tactic(auto, using(base::proofs::Writing::writing), unfolding(crate::specs::Lines::chip_line))]
+pub fn write_chip(out: &mut Writer<'_, u8>, chip: Chip)
+    ensures { Puts out.old (chip_line chip) out.new }
 {
     match chip {
-        Chip::Rp2040 => text::put_bytes(out, at, b"chip rp2040\n"),
-        Chip::Rp235x => text::put_bytes(out, at, b"chip rp235x\n"),
+        Chip::Rp2040 => out.put_all(b"chip rp2040\n"),
+        Chip::Rp235x => out.put_all(b"chip rp235x\n"),
     }
 }
 
-// Puts the line of the ring oscillator: frequency, range, strengths and divider.
-pub fn put_ring(out: &mut [u8], at: usize, ring: OptionRosc) -> usize
-    ensures { Placed out.old at (ring_line ring) result out.new }
+// Writes the line of the ring oscillator: frequency, range, strengths and divider.
+#[tactic(auto, using(base::proofs::Writing::writing), unfolding(crate::specs::Lines::ring_line))]
+pub fn write_ring(out: &mut Writer<'_, u8>, ring: Option<RoscConfig>)
+    ensures { Puts out.old (ring_line ring) out.new }
 {
     match ring {
-        OptionRosc::Some(on) => {
-            let range = on.range;
+        Some(on) => {
             let d = on.drive_strength;
-            put_named(
+            write_named(
                 out,
-                at,
                 b"rosc # Hz, range ",
-                on.hz as u64,
-                b"low,medium,high,too high",
-                settings::range_code(range),
+                u64::from(on.hz),
+                on.range,
                 b", strengths # # # # # # # #, divider #\n",
                 &[
-                    d.s0 as u64,
-                    d.s1 as u64,
-                    d.s2 as u64,
-                    d.s3 as u64,
-                    d.s4 as u64,
-                    d.s5 as u64,
-                    d.s6 as u64,
-                    d.s7 as u64,
-                    on.div as u64,
+                    u64::from(d.s0),
+                    u64::from(d.s1),
+                    u64::from(d.s2),
+                    u64::from(d.s3),
+                    u64::from(d.s4),
+                    u64::from(d.s5),
+                    u64::from(d.s6),
+                    u64::from(d.s7),
+                    u64::from(on.div),
                 ],
             )
         }
-        OptionRosc::None => text::put_bytes(out, at, b"rosc absent\n"),
+        None => out.put_all(b"rosc absent\n"),
     }
 }
 
-// Puts the line of the crystal: frequency and startup delay in units of 256 cycles.
-pub fn put_crystal(out: &mut [u8], at: usize, crystal: OptionCrystal) -> usize
-    ensures { Placed out.old at (crystal_line crystal) result out.new }
+// Writes the line of the crystal: frequency and startup delay in units of 256 cycles.
+#[tactic(auto, using(base::proofs::Writing::writing), unfolding(crate::specs::Lines::crystal_line))]
+pub fn write_crystal(out: &mut Writer<'_, u8>, crystal: Option<Crystal>)
+    ensures { Puts out.old (crystal_line crystal) out.new }
 {
     match crystal {
-        OptionCrystal::Some(on) => put_form(
+        Some(on) => write_form(
             out,
-            at,
             b"xosc # Hz, startup # x 256 cycles\n",
-            &[on.hz as u64, on.delay],
+            &[u64::from(on.hz), on.delay],
         ),
-        OptionCrystal::None => text::put_bytes(out, at, b"xosc absent\n"),
+        None => out.put_all(b"xosc absent\n"),
     }
 }
 
-// Puts the line of a PLL by its name: output in Hz and dividers.
-pub fn put_pll(out: &mut [u8], at: usize, name: &[u8], hz: u32, pll: OptionPll) -> usize
-    ensures { Placed out.old at (pll_line name.now hz pll) result out.new }
+// Writes the line of a PLL by its name: output in Hz and dividers.
+#[tactic(auto, using(base::proofs::Writing::writing), unfolding(crate::specs::Lines::pll_line))]
+pub fn write_pll(out: &mut Writer<'_, u8>, name: &[u8], hz: u32, pll: Option<PllConfig>)
+    ensures { Puts out.old (pll_line name.now hz pll) out.new }
 {
-    let at = text::put_bytes(out, at, name);
+    out.put_all(name);
     match pll {
-        OptionPll::Some(on) => put_form(
+        Some(on) => write_form(
             out,
-            at,
             b" # Hz, refdiv #, fbdiv #, post dividers # and #\n",
             &[
-                hz as u64,
-                on.refdiv as u64,
-                on.fbdiv as u64,
-                on.post_div1 as u64,
-                on.post_div2 as u64,
+                u64::from(hz),
+                u64::from(on.refdiv),
+                u64::from(on.fbdiv),
+                u64::from(on.post_div1),
+                u64::from(on.post_div2),
             ],
         ),
-        OptionPll::None => text::put_bytes(out, at, b" absent\n"),
+        None => out.put_all(b" absent\n"),
     }
 }
 
 // The core voltage of a code, in mV.
+#[tactic(auto, unfolding(crate::specs::Lines::millivolts))]
 fn millivolts(chip: Chip, code: u8) -> u64
     ensures { result ≡ millivolts chip code }
 {
-    match chip {
-        Chip::Rp2040 => {
-            if code == 0 {
-                return 800;
-            }
-            550 + 50 * code as u64
-        }
-        Chip::Rp235x => 550 + 50 * code as u64,
+    match (chip, code) {
+        (Chip::Rp2040, 0) => 800,
+        _ => 550 + 50 * u64::from(code),
     }
 }
 
-// Puts the line of the core voltage: mV and code.
-pub fn put_voltage(out: &mut [u8], at: usize, chip: Chip, code: u8) -> usize
-    ensures { Placed out.old at (voltage_line chip code) result out.new }
+// Writes the line of the core voltage: mV and code.
+#[tactic(auto, using(base::proofs::Writing::writing), unfolding(crate::specs::Lines::voltage_line))]
+pub fn write_voltage(out: &mut Writer<'_, u8>, chip: Chip, code: u8)
+    ensures { Puts out.old (voltage_line chip code) out.new }
 {
-    put_form(
+    write_form(
         out,
-        at,
         b"voltage # mV, code #\n",
-        &[millivolts(chip, code), code as u64],
+        &[millivolts(chip, code), u64::from(code)],
     )
 }
 
-// Puts the line of the settling step: its cycles.
-pub fn put_settling(out: &mut [u8], at: usize, settling: OptionCycles) -> usize
-    ensures { Placed out.old at (settling_line settling) result out.new }
+// Writes the line of the settling step: its cycles.
+#[tactic(auto, using(base::proofs::Writing::writing), unfolding(crate::specs::Lines::settling_line))]
+pub fn write_settling(out: &mut Writer<'_, u8>, settling: Option<u64>)
+    ensures { Puts out.old (settling_line settling) out.new }
 {
     match settling {
-        OptionCycles::Some(n) => put_form(out, at, b"settling # cycles\n", &[n]),
-        OptionCycles::None => text::put_bytes(out, at, b"settling absent\n"),
+        Some(n) => write_form(out, b"settling # cycles\n", &[n]),
+        None => out.put_all(b"settling absent\n"),
     }
 }

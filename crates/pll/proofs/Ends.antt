@@ -1,13 +1,15 @@
 -- The feedback dividers that the VCO permits are all the numbers between two ends, which divisions of the VCO range give.
 use mathlib.Core.{Path.◌≡◌, Path.refl, Path.sym, Path.ap, Path.subst, Path.◌∙◌, Logic.⊎_elim}
-use mathlib.Core.Bool.{Bool, true, false}
-use Prim.Native.Nat.{ℕ, zero, suc, ◌+◌, ◌-◌, ◌*◌, ◌/◌, ◌≤◌, ◌<◌}
+use mathlib.Core.Bool.{true, false}
+use Prim.Native.Nat.{ℕ, zero, suc, max, ◌+◌, ◌*◌, ◌/◌, ◌≤◌, ◌<◌}
+use Rattle.std.specs.Int.{div_ceil}
+use Rattle.std.proofs.lemmas.Grind.{div_ceil_times}
 use native.Mathlib.Omega.{arith}
 use native.Mathlib.Nat.{mul-le-mul_left, mul-div-le, lt-mul-div-succ, le-div_iff_mul-le, div-lt_iff_lt-mul, mul-add}
 use native.Mathlib.Nat.{mul-one, mul_comm, eq-or-lt_of_le}
 use native.Mathlib.Decide.{dec_le}
-use Rattle.base.specs.{Choice.in_range, Answer.Answer, Answer.value, Answer.refusal}
-use Rattle.base.proofs.Bools.{never_true, in-range, range-true}
+use Rattle.base.specs.{Answer.Answer, Answer.value, Answer.refusal}
+use Rattle.base.proofs.Bools.{never_true}
 use Rattle.pll.specs.Ranges.{reference_min, feedback_min, feedback_max, vco_min, vco_max}
 use Rattle.pll.specs.Search.{falling, rising, setting, permitted}
 use Rattle.pll.specs.Ends.{first_permitted, highest_of, lowest_of}
@@ -91,16 +93,6 @@ module _ (input : ℕ) where
       go (no l) h = no (λ s. l s.0)
       go (yes l) (no h) = no (λ s. h s.1)
 
-  -- the same from the test of the code
-  pub test-served : (b : Bool) → b ≡ in_range reference_min 100000000 input → b ≡ true → Served
-  test-served b e t = in-range reference_min 100000000 input (sym e ∙ t)
-
-  pub test-unserved : (b : Bool) → b ≡ in_range reference_min 100000000 input → b ≡ false → Served → ⊥
-  test-unserved b e f s =
-      let t = range-true reference_min 100000000 input s.0 s.1 in
-      let z : ◌≡◌ {A = ℕ} 0 1 = cc in
-      omega arith
-
   -- no other input has a permitted divider
   pub unserved : (Served → ⊥) → (fb : ℕ) → reference_min ≤ input → VcoPermits input fb → ⊥
   unserved n fb least v = n (least, omega (arith, v.vco.high, mul-le-mul_left input v.low))
@@ -136,35 +128,52 @@ module _ (input : ℕ) where
               (le-div_iff_mul-le {x = k} {y = vco_max} some).1 (omega (arith, mul_comm k input, v.vco.high));
         }
 
-    lowest-least : (vco_min - 1) / input + 1 < feedback_min → LowestPermitted input feedback_min
-    lowest-least l =
-        let over : vco_min - 1 < feedback_min * input
-        = (div-lt_iff_lt-mul {x = vco_min - 1} {y = feedback_min} some).0 (omega arith) in
+    abbrev up : ℕ
+    up = div_ceil vco_min input
+
+    -- 750 MHz over the input, rounded up, but at least 16
+    abbrev pub lowest : ℕ
+    lowest = max up feedback_min
+
+    lowest-vco : input * lowest ≤ vco_max
+    lowest-vco = go (dec_le up feedback_min)
+      where
+        go : Dec (up ≤ feedback_min) → input * lowest ≤ vco_max
+        go (yes h) = let e : lowest ≡ feedback_min = omega arith in rw e (omega (arith, s.1))
+        go (no n) =
+            let e : lowest ≡ up = omega arith in
+            rw e (omega (arith, s.1, mul_comm up input, (div_ceil_times vco_min input some).1))
+
+    lowest-last : (k : ℕ) → VcoPermits input k → lowest ≤ k
+    lowest-last k v = go (dec_le up k)
+      where
+        go : Dec (up ≤ k) → lowest ≤ k
+        go (yes h) = omega (arith, v.low)
+        go (no n) =
+            let l : k + 1 ≤ up = omega arith in
+            absurd (omega (
+              arith,
+              v.vco.low,
+              next k,
+              mul-le-mul_left input l,
+              mul_comm up input,
+              (div_ceil_times vco_min input some).1,
+            ))
+
+    lowest-is : LowestPermitted input lowest
+    lowest-is =
+        let l : up ≤ lowest = omega arith in
+        let around = div_ceil_times vco_min input some in
         record {
           one = record {
             low = omega arith;
-            high = omega arith;
-            vco = record { low = omega arith; high = omega (arith, s.1) };
-          };
-          last = λ k v. v.low;
-        }
-
-    lowest-is : feedback_min ≤ (vco_min - 1) / input + 1 → LowestPermitted input ((vco_min - 1) / input + 1)
-    lowest-is h =
-        let below : (vco_min - 1) / input < 320 = (div-lt_iff_lt-mul {x = vco_min - 1} {y = 320} some).1 (omega (arith, s.0)) in
-        record {
-          one = record {
-            low = h;
-            high = omega arith;
+            high = omega (arith, s.1, around.1, mul-le-mul_left up s.0);
             vco = record {
-              low = omega (arith, lt-mul-div-succ (vco_min - 1) {b = input} some);
-              high = omega (arith, s.1, next ((vco_min - 1) / input), mul-div-le (vco_min - 1) input);
+              low = omega (arith, around.0, mul-le-mul_left input l, mul_comm up input);
+              high = lowest-vco;
             };
           };
-          last = λ k v.
-              let l : (vco_min - 1) / input < k
-              = (div-lt_iff_lt-mul {x = vco_min - 1} {y = k} some).1 (omega (arith, mul_comm k input, v.vco.low)) in
-              omega arith;
+          last = lowest-last;
         }
 
     pub highest-value : highest_of input ≡ value (vco_max / input)
@@ -172,23 +181,14 @@ module _ (input : ℕ) where
     highest-value =
         first-falling feedback_max (vco_max / input) (omega arith) highest-is.one.high s.0 highest-is
 
-    lowest-value : (fb : ℕ) → LowestPermitted input fb → lowest_of input ≡ value fb
+    pub lowest-value : lowest_of input ≡ value lowest
     unfolding lowest_of
-    lowest-value fb p =
-        first-rising feedback_max 1 fb (omega (arith, p.one.low)) (omega (arith, p.one.high)) (omega arith) s.0 p
-
-    pub lowest-at-least : (vco_min - 1) / input + 1 < feedback_min → lowest_of input ≡ value feedback_min
-    lowest-at-least l = lowest-value feedback_min (lowest-least l)
-
-    pub lowest-above : feedback_min ≤ (vco_min - 1) / input + 1 → lowest_of input ≡ value ((vco_min - 1) / input + 1)
-    lowest-above h = lowest-value ((vco_min - 1) / input + 1) (lowest-is h)
+    lowest-value =
+        first-rising feedback_max 1 lowest (omega (arith, lowest-is.one.low)) (omega (arith, lowest-is.one.high))
+        (omega arith) s.0 lowest-is
 
     pub lowest-some : (fb : ℕ) × (lowest_of input ≡ value fb)
-    lowest-some = go (dec_le feedback_min ((vco_min - 1) / input + 1))
-      where
-        go : Dec (feedback_min ≤ (vco_min - 1) / input + 1) → (fb : ℕ) × (lowest_of input ≡ value fb)
-        go (yes h) = (_, lowest-above h)
-        go (no n) = (_, lowest-at-least (omega arith))
+    lowest-some = (lowest, lowest-value)
 
   abbrev pub number : Answer ℕ → ℕ
   number (value n) = n
@@ -209,16 +209,9 @@ module _ (input : ℕ) where
       (s, subst (HighestPermitted input) (ap number (sym (highest-value s) ∙ e)) (highest-is s))
 
   pub lowest-right : (fb : ℕ) → lowest_of input ≡ value fb → LowestPermitted input fb
-  lowest-right fb e = go (dec_le feedback_min ((vco_min - 1) / input + 1))
-    where
-      s : Served
-      s = end-served (lowest_of input) fb e lowest-none
-
-      go : Dec (feedback_min ≤ (vco_min - 1) / input + 1) → LowestPermitted input fb
-      go (yes h) = subst (LowestPermitted input) (ap number (sym (lowest-above s h) ∙ e)) (lowest-is s h)
-      go (no n) =
-          let l : (vco_min - 1) / input + 1 < feedback_min = omega arith in
-          subst (LowestPermitted input) (ap number (sym (lowest-at-least s l) ∙ e)) (lowest-least s l)
+  lowest-right fb e =
+      let s = end-served (lowest_of input) fb e lowest-none in
+      subst (LowestPermitted input) (ap number (sym (lowest-value s) ∙ e)) (lowest-is s)
 
   -- every divider between the ends is permitted
   pub between-permitted : (low high fb : ℕ) → lowest_of input ≡ value low → highest_of input ≡ value high

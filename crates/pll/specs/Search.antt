@@ -5,8 +5,7 @@ use Rattle.std.specs.Prelude.{ℕ, zero, suc, ◌+◌, ◌-◌, ◌*◌, leb, eq
 use Rattle.base.specs.{Choice.pick, Choice.in_range, Answer.Answer, Answer.value, Answer.refusal}
 use Rattle.pll.specs.Ranges.{reference_min, feedback_min, feedback_max, vco_min, vco_max}
 use Rattle.pll.specs.Setting.{vco_of, posts_of, output_hz}
-use Rattle.pll.specs.declared.{PllConfig.PllConfig, Found.Found}
-use Rattle.pll.specs.declared.Found.TheVariants.{Params, Refused}
+use Rattle.pll.specs.declared.{PllConfig.PllConfig}
 
 -- n, n - 1, .., 1
 unfoldable pub falling : ℕ → List ℕ
@@ -70,8 +69,3 @@ first_or other (c ∷ cs) = value c
 unfoldable pub search_of : ℕ → ℕ → Answer PllConfig
 search_of input target =
     first_or (nearest input target (candidates input)) (keep (exact input target) (candidates input))
-
--- the code's answer as an answer of the definitions
-abbrev pub found_is : Found → Answer PllConfig
-found_is (Params c) = value c
-found_is (Refused n) = refusal n

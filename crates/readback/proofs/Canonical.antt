@@ -1,4 +1,5 @@
 -- The plan that `plan_of` makes of a plan's settings has the same settings, and no larger multiplier or time.
+use Rattle.std.specs.Prelude.{Option, Some, None}
 use mathlib.Core.{Path.◌≡◌, Path.refl, Path.sym, Path.ap, Path.◌∙◌, Bool.Bool, Bool.true, Bool.false, List.List}
 use Prim.Native.Nat.{ℕ, ◌%◌, ◌^◌, ◌≤◌}
 use native.Mathlib.{Nat.mod-eq_of_lt, Omega.arith}
@@ -6,10 +7,8 @@ use lib.Dec.{eqb}
 use borrow.Author.Tests.{ltb-false}
 use Rattle.divider.specs.Delay.{settling_cycles, delay_of}
 use Rattle.config.specs.Board.{board_of}
-use Rattle.config.specs.declared.{ClockConfig.ClockConfig, OptionXosc.OptionXosc}
-use Rattle.config.specs.declared.OptionXosc.TheVariants.{Some as xosc, None as no_xosc}
-use Rattle.config.specs.declared.OptionU32.TheVariants.{Some as given}
-use Rattle.settings.specs.declared.{OptionCycles.TheVariants.None as no_cycles, Settings.Settings}
+use Rattle.config.specs.declared.{ClockConfig.ClockConfig, XoscConfig.XoscConfig}
+use Rattle.settings.specs.declared.{Settings.Settings}
 use Rattle.settings.specs.Settings.{crystal_of, ring_hz, settling_step, settings_of}
 use Rattle.refusals.specs.Rules.{startup_over, settling_over}
 use Rattle.refusals.specs.Refusals.{Accepted}
@@ -24,22 +23,22 @@ use Rattle.readback.specs.{Steps.steps_in, Steps.steps_read, Read.plan_in}
 use Rattle.readback.specs.Law.{Gives, multiplier_in, multiplier_of, time_of, Back}
 use Rattle.readback.proofs.{Numbers.smallest, Numbers.time-back, Decoded.steps-encoded, Fixed.settings-fixed}
 
-crystal-kept : (x : OptionXosc) → startup_over (crystal_of x) ≡ false
+crystal-kept : (x : Option XoscConfig) → startup_over (crystal_of x) ≡ false
     → (crystal_of (xosc_for (crystal_of x)) ≡ crystal_of x) × (multiplier_in (xosc_for (crystal_of x)) ≤ multiplier_in x)
 unfolding startup_over
-crystal-kept (xosc x) ok =
+crystal-kept (Some x) ok =
     let d : ℕ = delay_of x.hz x.delay_multiplier in
     let few : d ≤ 16383 = ltb-false 16383 d ok in
     let same : d % 2 ^ 14 ≡ d = mod-eq_of_lt (omega arith) in
     let least = smallest x.hz x.delay_multiplier in
     (rw (same, least.gives), rw same least.most)
-crystal-kept no_xosc ok = (refl, omega arith)
+crystal-kept None ok = (refl, omega arith)
 
 -- The time that is found for a settling step gives the same step and is at most the original time.
 record Settled (reading code time hz : ℕ) : Type 0 where
   kept : settling_step reading code (time_for hz (settling_step reading code time hz)) hz ≡ settling_step reading code time hz
   most : time_for hz (settling_step reading code time hz) ≤ time
-  still : settling_step reading code time hz ≡ no_cycles → time_for hz (settling_step reading code time hz) ≡ 0
+  still : settling_step reading code time hz ≡ None → time_for hz (settling_step reading code time hz) ≡ 0
 
 settled : (reading code time hz : ℕ) → settling_over (settling_step reading code time hz) ≡ false → Settled reading code time hz
 unfolding settling_step settling_over time_for
@@ -57,7 +56,7 @@ settled reading code time hz ok = go (eqb code reading) (eqb time 0) refl refl
         record {
           kept = rw (e, z, same, time-back, z);
           most = rw (e, z, same, time-back) (omega arith);
-          still = rw (e, z) (λ h. let z : ◌≡◌ {A = ℕ} 0 1 = cc in absurd (omega arith));
+          still = rw (e, z) (λ h. cc);
         }
 
 module _ (q : ClockConfig) (reading : ℕ) (ok : Accepted q reading) where
@@ -83,12 +82,12 @@ module _ (q : ClockConfig) (reading : ℕ) (ok : Accepted q reading) where
   unfolding plan_of
   time-most = settled-of.most
 
-  pub time-still : (settings_of mine reading).settling ≡ no_cycles → time_of mine ≡ 0
+  pub time-still : (settings_of mine reading).settling ≡ None → time_of mine ≡ 0
   unfolding plan_of
   time-still e = settled-of.still (sym settled-of.kept ∙ e)
 
 given-in : (sheet : List ℕ) (reading : ℕ)
-    → (plan_in sheet reading).voltage_stabilization_delay_us ≡ given (time_of (plan_in sheet reading))
+    → (plan_in sheet reading).voltage_stabilization_delay_us ≡ Some (time_of (plan_in sheet reading))
 unfolding plan_in plan_of
 given-in sheet reading = refl
 

@@ -1,14 +1,15 @@
 -- Each position of a sheet has the step that `read_at` gives there, and the steps of a plan's sheet are the plan's steps.
-use mathlib.Core.{Path.◌≡◌, Path.refl, Path.ap, Path.◌∙◌, List.List, List.[], List.◌∷◌}
+use mathlib.Core.{Path.◌≡◌, Path.refl, Path.sym, Path.ap, Path.◌∙◌, List.List, List.[], List.◌∷◌}
 use Prim.Native.Nat.{ℕ, zero, suc, ◌+◌, ◌*◌, ◌/◌, ◌≤◌, ◌<◌}
-use native.Mathlib.{Nat.add-zero, Nat.zero-add, Omega.arith}
+use native.Mathlib.{Decide.dec_lt, Nat.add-zero, Nat.zero-add, Omega.arith}
+use borrow.Author.Tests.{lt-ltb, le-ltb}
 use lib.{ListN.length, Seq.ext_get_or}
 use Rattle.step.specs.declared.Step.{Step}
 use Rattle.step.specs.{Sheet.encoded, Sheet.AllFormed, Access.read_at}
 use Rattle.step.proofs.Sheets.{length-encoded, read-encoded}
 use Rattle.sheet_steps.specs.Steps.{step0}
 use Rattle.sheet.specs.Read.{step_at}
-use Rattle.readback.specs.Steps.{step_or, steps_from, steps_in}
+use Rattle.readback.specs.Steps.{step_or, steps_from, steps_in, taken_at, step_in}
 
 pub length_from : (sheet : List ℕ) (i n : ℕ) → length (steps_from sheet i n) ≡ n
 length_from sheet i zero = refl
@@ -34,6 +35,15 @@ module _ (sheet : List ℕ) (k : ℕ) where
   pub step_past : length sheet / 8 ≤ k → step_at (steps_in sheet) k ≡ step0 0
   unfolding steps_in
   step_past h = past_end (steps_from sheet 0 (length sheet / 8)) k (omega (arith, length_from sheet 0 (length sheet / 8)))
+
+-- What is at a position has the step that the sheet has there.
+pub step_taken : (sheet : List ℕ) (at : ℕ) → step_in (taken_at sheet at) ≡ step_at (steps_in sheet) at
+step_taken sheet at = elim (dec_lt at (length sheet / 8)) [
+  | yes h ↦ rw (lt-ltb at (length sheet / 8) h) (sym (step-inside sheet at h))
+  | no n ↦
+      let h : length sheet / 8 ≤ at = omega arith in
+      rw (le-ltb at (length sheet / 8) h) (sym (step_past sheet at h))
+]
 
 pub steps-encoded : (xs : List Step) → AllFormed xs → steps_in (encoded xs) ≡ xs
 unfolding steps_in

@@ -3,7 +3,8 @@ use mathlib.Core.Path.{◌≡◌}
 use Prim.Native.Nat.{ℕ}
 use Rattle.base.specs.Answer.{value}
 use Rattle.chip.specs.declared.Chip.TheVariants.{Rp2040, Rp235x}
-use Rattle.config.specs.declared.{OptionU32.TheVariants.Some as given, ClockConfig.ClockConfig}
+use Rattle.config.specs.declared.{ClockConfig.ClockConfig}
+use Rattle.std.specs.Prelude.{Some}
 use Rattle.config.specs.Presets.{crystal_plan}
 use Rattle.divider.specs.Delay.{startup_sum, cycles_per_us, settling_cycles}
 use Rattle.settings.specs.Settings.{settling_step, settings_of}
@@ -15,7 +16,7 @@ use Rattle.readback.proofs.Right.{written_read}
 
 -- The plan with a given time; its other fields are in its settings at any reading.
 pub timed : ClockConfig → ℕ → ClockConfig
-timed p time = plan_with (settings_of p 11) p.xosc (given time)
+timed p time = plan_with (settings_of p 11) p.xosc (Some time)
 
 -- The multiplier 128 of the presets is the smallest for their delay at 12 MHz.
 pub crystal-back : read_of (sheet_bytes (crystal_plan Rp2040 12000000) 11) 11

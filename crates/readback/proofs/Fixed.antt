@@ -1,4 +1,5 @@
 -- Truncation does not change the settings of an accepted plan.
+use Rattle.std.specs.Prelude.{Option, Some, None}
 use mathlib.Core.{Path.◌≡◌, Path.refl, Bool.Bool, Bool.false, Bool.◌||◌}
 use Prim.Native.Nat.{ℕ, ◌+◌, ◌%◌, ◌^◌, ◌<◌}
 use native.Mathlib.{Nat.mod-eq_of_lt, Omega.arith}
@@ -7,20 +8,15 @@ use borrow.Author.Tests.{ltb-false, not-false}
 use Rattle.base.proofs.Bools.{both_false}
 use Rattle.pll.specs.Setting.{valid_of}
 use Rattle.pll.proofs.Valid.{valid}
-use Rattle.config.specs.declared.OptionRosc.{OptionRosc}
-use Rattle.config.specs.declared.OptionRosc.TheVariants.{Some as ring, None as no_ring}
-use Rattle.config.specs.declared.OptionPll.{OptionPll}
-use Rattle.config.specs.declared.OptionPll.TheVariants.{Some as pll, None as no_pll}
+use Rattle.config.specs.declared.RoscConfig.{RoscConfig}
+use Rattle.pll.specs.declared.PllConfig.{PllConfig}
 use Rattle.config.specs.declared.ChipConfig.{ChipConfig}
 use Rattle.config.specs.declared.ChipConfig.TheVariants.{Rp2040 as on2040, Rp235x as on235x}
-use Rattle.config.specs.declared.{ClockConfig.ClockConfig, OptionAux.OptionAux}
-use Rattle.config.specs.declared.OptionAux.TheVariants.{Some as aux, None as no_aux}
-use Rattle.config.specs.declared.OptionRtc.{OptionRtc}
-use Rattle.config.specs.declared.OptionRtc.TheVariants.{Some as rtc, None as no_rtc}
+use Rattle.config.specs.declared.{ClockConfig.ClockConfig, AuxClkConfig.AuxClkConfig}
+use Rattle.config.specs.declared.RtcClkConfig.{RtcClkConfig}
 use Rattle.config.specs.Board.{board_of, FractionFits}
 use Rattle.chip.specs.Chips.{facts_of}
-use Rattle.settings.specs.declared.OptionCrystal.{OptionCrystal}
-use Rattle.settings.specs.declared.OptionCrystal.TheVariants.{Some as crystal, None as no_crystal}
+use Rattle.settings.specs.declared.Crystal.{Crystal}
 use Rattle.settings.specs.{Settings.ring_hz, Settings.settings_of, Frequencies.sources_of, Frequencies.frequencies_of}
 use Rattle.settings.specs.Typed.{RtcTyped, Typed}
 use Rattle.refusals.specs.Rules.{strengths_over, ring_divider_over, pll_invalid, sys_pll_invalid, usb_pll_invalid, whole_bad, rtc_bad}
@@ -32,10 +28,10 @@ use Rattle.readback.specs.Cut.{cut_ring, cut_pll, cut_crystal, cut_aux, cut_rtc,
 fits : (w x : ℕ) → x < 2 ^ w → x % 2 ^ w ≡ x
 fits w x h = mod-eq_of_lt h
 
-ring-fixed : (pass : ℕ) (o : OptionRosc) → ring_hz o < 2 ^ 32 → strengths_over o ≡ false → ring_divider_over pass o ≡ false
+ring-fixed : (pass : ℕ) (o : Option RoscConfig) → ring_hz o < 2 ^ 32 → strengths_over o ≡ false → ring_divider_over pass o ≡ false
     → cut_ring o ≡ o
 unfolding strengths_over ring_divider_over
-ring-fixed pass (ring r) t s d =
+ring-fixed pass (Some r) t s d =
     let g = r.drive_strength in
     let few = strengths-few g s in
     let d' = ltb-false 65535 (r.div + pass) d in
@@ -51,10 +47,10 @@ ring-fixed pass (ring r) t s d =
       fits 8 g.s7 (omega arith),
       fits 16 r.div (omega arith),
     )
-ring-fixed pass no_ring t s d = refl
+ring-fixed pass None t s d = refl
 
-pll-fixed : (hz : ℕ) (o : OptionPll) → pll_invalid hz o ≡ false → cut_pll o ≡ o
-pll-fixed hz (pll p) e =
+pll-fixed : (hz : ℕ) (o : Option PllConfig) → pll_invalid hz o ≡ false → cut_pll o ≡ o
+pll-fixed hz (Some p) e =
     let v = valid p hz (not-false (valid_of p hz) e) in
     rw (
       fits 8 p.refdiv (omega arith),
@@ -62,27 +58,27 @@ pll-fixed hz (pll p) e =
       fits 8 p.post_div1 (omega arith),
       fits 8 p.post_div2 (omega arith),
     )
-pll-fixed hz no_pll e = refl
+pll-fixed hz None e = refl
 
-crystal-fixed : (r : OptionRosc) (o : OptionCrystal) → (sources_of r o).xosc < 2 ^ 32
+crystal-fixed : (r : Option RoscConfig) (o : Option Crystal) → (sources_of r o).xosc < 2 ^ 32
     → sys_pll_invalid o ≡ false → usb_pll_invalid o ≡ false → cut_crystal o ≡ o
 unfolding sources_of sys_pll_invalid usb_pll_invalid
-crystal-fixed r (crystal x) t s u = rw (fits 32 x.hz t, pll-fixed x.hz x.sys s, pll-fixed x.hz x.usb u)
-crystal-fixed r no_crystal t s u = refl
+crystal-fixed r (Some x) t s u = rw (fits 32 x.hz t, pll-fixed x.hz x.sys s, pll-fixed x.hz x.usb u)
+crystal-fixed r None t s u = refl
 
-aux-fixed : (o : OptionAux) → AuxFits o → cut_aux o ≡ o
-aux-fixed (aux a) h = rw (fits 8 a.div (omega arith), fits 8 a.phase (omega arith))
-aux-fixed no_aux h = refl
+aux-fixed : (o : Option AuxClkConfig) → AuxFits o → cut_aux o ≡ o
+aux-fixed (Some a) h = rw (fits 8 a.div (omega arith), fits 8 a.phase (omega arith))
+aux-fixed None h = refl
 
-rtc-fixed : (source hz : ℕ) (o : OptionRtc) → RtcTyped o → rtc_bad source hz o ≡ false → cut_rtc o ≡ o
+rtc-fixed : (source hz : ℕ) (o : Option RtcClkConfig) → RtcTyped o → rtc_bad source hz o ≡ false → cut_rtc o ≡ o
 unfolding rtc_bad
-rtc-fixed source hz (rtc r) t e =
+rtc-fixed source hz (Some r) t e =
     let still : Bool = eqb source 0 in
     let h3 = none_more (still || whole_bad 16777215 r.div_int || ltb 3 r.phase) 65535 hz e in
     let h2 = none_more (still || whole_bad 16777215 r.div_int) 3 r.phase h3.0 in
     let w = whole-good 16777215 r.div_int (both_false still (whole_bad 16777215 r.div_int) h2.0).1 in
     rw (fits 32 r.div_int (omega arith), fits 8 r.div_frac t, fits 8 r.phase (omega arith))
-rtc-fixed source hz no_rtc t e = refl
+rtc-fixed source hz None t e = refl
 
 -- The chip-specific part fits its types by the tests of acceptance and the bounds of the types.
 chip-fixed : (c : ChipConfig) (source hz : ℕ) → FractionFits (board_of c) → RtcTyped (board_of c).rtc

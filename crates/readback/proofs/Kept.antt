@@ -1,11 +1,12 @@
 -- Into 528 bytes `init` writes the sheet of every accepted plan, and it refuses every other plan.
+use Rattle.base.specs.declared.refusal.Refusal.{Refusal}
 use mathlib.Core.{Path.◌≡◌, Path.sym, Path.ap, Path.◌∙◌, List.List}
 use Prim.Native.Nat.{ℕ, ◌≤◌}
 use native.Mathlib.Omega.{arith}
 use lib.{ListN.length, ListN.take, ListN.drop, ListN.length-append, Seq.take_at}
 use Rattle.config.specs.declared.ClockConfig.{ClockConfig}
-use Rattle.base.specs.Answer.{length_is}
-use Rattle.base.specs.declared.{Length.Length, Length.TheVariants.Bytes, Length.TheVariants.Refused}
+use Rattle.base.specs.Answer.{answer_of}
+use Rattle.std.specs.Prelude.{Result, Ok, Err}
 use Rattle.step.specs.Sheet.{max_bytes}
 use Rattle.refusals.specs.Refusals.{Accepted}
 use Rattle.sheet.specs.Writer.{sheet_bytes, InitCall}
@@ -17,10 +18,10 @@ pub record Kept (p : ClockConfig) (reading : ℕ) (n : ℕ) (after : List ℕ) :
   pub whole : n ≡ length (take n after)
   pub bytes : take n after ≡ sheet_bytes p reading
 
-pub kept : {p : ClockConfig} {reading : ℕ} {b b' : List ℕ} {r : Length} → InitCall p reading b r b'
-    → (n : ℕ) → r ≡ Bytes n → Kept p reading n b'
+pub kept : {p : ClockConfig} {reading : ℕ} {b b' : List ℕ} {r : Result ℕ Refusal} → InitCall p reading b r b'
+    → (n : ℕ) → r ≡ Ok n → Kept p reading n b'
 kept {p} {reading} {b} {b'} {r} o n e =
-    let a = answered p reading b b' r o n (ap length_is e) in
+    let a = answered p reading b b' r o n (ap answer_of e) in
     let sheet : List ℕ = sheet_bytes p reading in
     let front : take n b' ≡ sheet = rw a.bytes (take_at sheet (drop n b) n (sym a.count)) in
     record {
@@ -30,8 +31,8 @@ kept {p} {reading} {b} {b'} {r} o n e =
       bytes = front;
     }
 
-pub turned-back : {p : ClockConfig} {reading : ℕ} {b b' : List ℕ} {r : Length} → InitCall p reading b r b'
-    → length b ≡ max_bytes → (k : ℕ) → r ≡ Refused k → Accepted p reading → ⊥
+pub turned-back : {p : ClockConfig} {reading : ℕ} {b b' : List ℕ} {r : Result ℕ Refusal} → InitCall p reading b r b'
+    → length b ≡ max_bytes → (why : Refusal) → r ≡ Err why → Accepted p reading → ⊥
 turned-back {p} {reading} {b} {b'} {r} o long k e ok =
     let a = answers p reading b b' r o ok (omega (arith, sheet-most p reading)) in
-    let z : ◌≡◌ {A = ℕ} 0 1 = cc in omega arith
+    cc

@@ -2,9 +2,9 @@ pub mod Voltages
 pub mod Numbers
 pub mod Unique
 pub mod Decoded
+pub mod Gathered
 pub mod Fixed
 pub mod Canonical
-pub mod Gathered
 pub mod Sequence
 pub mod Parts
 pub mod Kept

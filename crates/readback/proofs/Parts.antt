@@ -2,17 +2,15 @@
 use mathlib.Core.{Path.◌≡◌, Path.refl, List.List}
 use Prim.Native.Nat.{ℕ}
 use lib.ListN.{drop}
-use borrow.Author.Tests.{eq-eqb}
-use Rattle.config.specs.declared.{OptionPll.OptionPll, ChipConfig.ChipConfig}
+use Rattle.config.specs.declared.{ChipConfig.ChipConfig}
 use Rattle.config.specs.Board.{board_of}
-use Rattle.settings.specs.declared.{OptionCrystal.TheVariants.Some as crystal, Settings.Settings}
+use Rattle.settings.specs.declared.{Settings.Settings}
 use Rattle.step.specs.declared.Step.{Step}
-use Rattle.sheet.specs.Read.{Part, part, ◌then◌, step_at, read_pll, read_crystal, past_tick, read_rtc, settings_from}
+use Rattle.sheet.specs.Read.{Part, part, ◌then◌, past_tick, read_rtc, settings_from}
 use Rattle.chip.specs.declared.{Chip.Chip, Chip.TheVariants.Rp2040, Chip.TheVariants.Rp235x}
 use Rattle.settings.specs.Codes.{chip_from}
-use Rattle.readback.specs.declared.held.Steps.{Steps}
-use Rattle.readback.specs.Steps.{held, value_in, rest_in}
-use Rattle.readback.specs.Parse.{cut_part, Reads, ticks, chip_taken, ring_taken, voltage_taken, crystal_taken, ref_taken}
+use Rattle.readback.specs.Steps.{value_in, rest_in}
+use Rattle.readback.specs.Parse.{cut_part, ticks, chip_taken, ring_taken, voltage_taken, crystal_taken, ref_taken}
 use Rattle.readback.specs.Parse.{sys_taken, peri_taken, usb_taken, adc_taken}
 
 then_is : {A B : Type 0} (p : Part A) (f : A → List Step → B) → (p then f) ≡ f (value_in p) (rest_in p)
@@ -27,29 +25,9 @@ part-is : {A : Type 0} (cut : A → A) (p : Part A) (a : A) (rest : List Step) �
     → Goes cut p a rest
 part-is cut (part b ys) a rest e = record { value = cc; rest = cc }
 
-pub goes_on : {A : Type 0} (read : List Step → Part A) (cut : A → A) (s : Steps) (a : A) (rest : Steps) {ys : List Step}
-    → Reads read cut s a rest → ys ≡ held s → Goes cut (read ys) a (held rest)
-goes_on read cut s a rest r e = rw e (part-is cut _ a _ r)
-
-module _ (xs : List Step) where
-  abbrev sys_pll : Part OptionPll
-  sys_pll = read_pll 0 (drop 3 xs)
-
-  abbrev usb_pll : Part OptionPll
-  usb_pll = read_pll 1 (rest_in sys_pll)
-
-  pub crystal-there : (step_at xs 0).kind ≡ 16
-      → read_crystal xs
-      ≡ part
-      (crystal
-      (record {
-        hz = (step_at (rest_in usb_pll) 0).f1;
-        delay = (step_at xs 0).f0;
-        sys = value_in sys_pll;
-        usb = value_in usb_pll;
-      }))
-      (rest_in usb_pll)
-  crystal-there e = rw (eq-eqb _ _ e, then_is sys_pll, then_is usb_pll)
+pub goes_on : {A : Type 0} (read : List Step → Part A) (cut : A → A) (xs : List Step) (a : A) (rest : List Step) {ys : List Step}
+    → cut_part cut (read xs) ≡ part a rest → ys ≡ xs → Goes cut (read ys) a rest
+goes_on read cut xs a rest p e = rw e (part-is cut _ a _ p)
 
 pub past-tick : (chip : Chip) (xs : List Step) → past_tick chip xs ≡ drop (ticks chip) xs
 past-tick Rp2040 xs = refl

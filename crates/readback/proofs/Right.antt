@@ -1,4 +1,5 @@
 -- The answer of the code is the one that the law states, and by `readback-one` no other answer meets the law.
+use Rattle.std.specs.Prelude.{Option, Some, None}
 use mathlib.Core.{Path.◌≡◌, Path.refl, Path.sym, Path.ap, Path.◌∙◌, Bool.Bool, Bool.true, Bool.false, List.List, List.◌++◌}
 use Prim.Native.Nat.{ℕ, ◌/◌, ◌%◌, ◌^◌, ◌≤◌, ◌<◌}
 use native.Mathlib.{Nat.mod-lt, Omega.arith}
@@ -10,17 +11,14 @@ use Rattle.text.proofs.Same.{same_true}
 use Rattle.text.proofs.Same.{same_refl}
 use Rattle.readback.proofs.Canonical.{plan-in, gives-in, back_in}
 use Rattle.readback.proofs.Unique.{readback-one}
-use Rattle.config.specs.declared.{ClockConfig.ClockConfig, OptionRosc.OptionRosc}
-use Rattle.config.specs.declared.OptionRosc.TheVariants.{Some as ring, None as no_ring}
+use Rattle.config.specs.declared.{ClockConfig.ClockConfig, RoscConfig.RoscConfig}
 use Rattle.config.specs.declared.ChipConfig.{ChipConfig}
 use Rattle.config.specs.declared.ChipConfig.TheVariants.{Rp2040 as on2040, Rp235x as on235x}
-use Rattle.config.specs.declared.OptionRtc.{OptionRtc}
-use Rattle.config.specs.declared.OptionRtc.TheVariants.{Some as rtc, None as no_rtc}
+use Rattle.config.specs.declared.RtcClkConfig.{RtcClkConfig}
 use Rattle.chip.specs.declared.{Chip.Chip, Chip.TheVariants.Rp2040, Chip.TheVariants.Rp235x}
 use Rattle.chip.specs.Chips.{facts_of}
 use Rattle.config.specs.Board.{board_of, FractionFits}
-use Rattle.settings.specs.declared.OptionCrystal.{OptionCrystal}
-use Rattle.settings.specs.declared.OptionCrystal.TheVariants.{Some as crystal, None as no_crystal}
+use Rattle.settings.specs.declared.Crystal.{Crystal}
 use Rattle.settings.specs.declared.Settings.{Settings}
 use Rattle.settings.specs.{Settings.crystal_of, Settings.ring_hz, Settings.settings_of, Frequencies.sources_of}
 use Rattle.settings.specs.Typed.{RtcTyped, Typed}
@@ -41,18 +39,18 @@ use Rattle.readback.specs.Read.{plan_in, gives, read_of}
 few : (w x : ℕ) → x % 2 ^ w < 2 ^ w
 few w x = mod-lt x (pow_pos w)
 
-ring-typed : (o : OptionRosc) → ring_hz (cut_ring o) < 2 ^ 32
-ring-typed (ring r) = few 32 r.hz
-ring-typed no_ring = omega arith
+ring-typed : (o : Option RoscConfig) → ring_hz (cut_ring o) < 2 ^ 32
+ring-typed (Some r) = few 32 r.hz
+ring-typed None = omega arith
 
-crystal-typed : (r : OptionRosc) (o : OptionCrystal) → (sources_of r (crystal_of (xosc_for (cut_crystal o)))).xosc < 2 ^ 32
+crystal-typed : (r : Option RoscConfig) (o : Option Crystal) → (sources_of r (crystal_of (xosc_for (cut_crystal o)))).xosc < 2 ^ 32
 unfolding sources_of
-crystal-typed r (crystal x) = few 32 x.hz
-crystal-typed r no_crystal = omega arith
+crystal-typed r (Some x) = few 32 x.hz
+crystal-typed r None = omega arith
 
-rtc-typed : (o : OptionRtc) → RtcTyped (cut_rtc o)
-rtc-typed (rtc r) = few 8 r.div_frac
-rtc-typed no_rtc = tt
+rtc-typed : (o : Option RtcClkConfig) → RtcTyped (cut_rtc o)
+rtc-typed (Some r) = few 8 r.div_frac
+rtc-typed None = tt
 
 chip-typed : (c : ChipConfig) → FractionFits (board_of (cut_chip c)) × RtcTyped (board_of (cut_chip c)).rtc
 chip-typed (on2040 c) = (few 8 c.div_frac, rtc-typed c.rtc_clk)
@@ -102,8 +100,7 @@ module _ (sheet : List ℕ) (reading : ℕ) where
           none (ltb-false (top_reading sheet) reading e)
           (λ q g.
           let t : gives sheet reading (plan_in sheet reading) ≡ true = true-gives (plan_in sheet reading) (gives-in q g) in
-          let z : ◌≡◌ {A = ℕ} 0 1 = cc in
-          omega arith)
+          cc)
 
   -- No other answer meets the law.
   pub read_only : (a : Answer ClockConfig) → ReadBack sheet reading a → a ≡ read_of sheet reading

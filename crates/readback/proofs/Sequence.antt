@@ -1,4 +1,5 @@
 -- The steps that a reader gives one after another are the steps of the sheet.
+use Rattle.std.specs.Prelude.{None}
 use mathlib.Core.{Path.◌≡◌, Path.refl, Path.ap, Path.◌∙◌, List.List, List.◌∷◌}
 use Prim.Native.Nat.{ℕ, zero, suc, ◌+◌, ◌/◌, ◌≤◌, ◌<◌}
 use native.Mathlib.{Omega.arith}
@@ -24,17 +25,17 @@ module _ (s : Bor (List ℕ)) where
   long = length_from s.now 0 (length s.now / 8)
 
   pub next-is : (n : ℕ) → next_step (reader_at n) ≡ step_at steps n
-  unfolding taken_at
   next-is n = refl
 
   pub moves-on : (n : ℕ) → n < length s.now / 8 → moved (reader_at n) ≡ reader_at (suc n)
-  unfolding taken_at
   moves-on n h = rw (lt-ltb n (length s.now / 8) h) (ap reader_at (omega arith))
 
-  -- At the end the step has kind 0, and the reader stays.
-  pub stops : (n : ℕ) → length s.now / 8 ≤ n → (next_step (reader_at n) ≡ step0 0) × (moved (reader_at n) ≡ reader_at n)
-  unfolding taken_at
-  stops n h = (step_past s.now n h, rw (le-ltb n (length s.now / 8) h))
+  -- At the end nothing is given, which counts as a step of kind 0, and the reader stays.
+  pub stops : (n : ℕ) → length s.now / 8 ≤ n
+      → (taken_at s.now n ≡ None) × (next_step (reader_at n) ≡ step0 0) × (moved (reader_at n) ≡ reader_at n)
+  stops n h =
+      let over = le-ltb n (length s.now / 8) h in
+      (rw over, step_past s.now n h, rw over)
 
   from_place : (n i : ℕ) → i + n ≤ length s.now / 8 → nexts n (reader_at i) ≡ take n (drop i steps)
   unfolding nexts

@@ -5,7 +5,12 @@ use native.Mathlib.Omega.{arith}
 use lib.Dec.{ltb}
 use borrow.Author.Tests.{ltb-true, ltb-false}
 use Rattle.chip.specs.declared.Chip.{Chip}
-use Rattle.chip.specs.Voltage.{core_voltage_of}
+use Rattle.std.specs.Prelude.{Result, Ok, Err}
+use Rattle.std.specs.Result.{result_unwrap_or}
+use Rattle.base.specs.declared.refusal.Refusal.{Refusal}
+use Rattle.base.specs.Answer.{answer_of}
+use Rattle.settings.specs.Codes.{value_or}
+use Rattle.chip.specs.Voltage.{VoltageOf, core_voltage_of}
 use Rattle.chip.proofs.Codes.{no_code}
 
 pub least-code : (chip : Chip) (code : ℕ) → core_voltage_of chip (min code 255) ≡ core_voltage_of chip code
@@ -19,3 +24,12 @@ least-code chip code = go (ltb 255 code) refl
         let under = ltb-false 255 code e in
         let same : min code 255 ≡ code = omega arith in
         rw same
+
+-- A result whose answer is the voltage of the code clamped to 255 has the voltage of the code, and both have the same other one.
+pub decodes : (chip : Chip) (code : ℕ) (other : VoltageOf chip) (r : Result (VoltageOf chip) Refusal)
+    → answer_of r ≡ core_voltage_of chip (min code 255) → value_or other (core_voltage_of chip code) ≡ result_unwrap_or r other
+decodes chip code other r e = rw (← least-code chip code, ← e) (same r)
+  where
+    same : (r : Result (VoltageOf chip) Refusal) → value_or other (answer_of r) ≡ result_unwrap_or r other
+    same (Ok v) = refl
+    same (Err why) = refl

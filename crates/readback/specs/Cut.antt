@@ -1,18 +1,14 @@
 -- Settings with each number truncated to its type. The settings of an accepted plan do not change.
+use Rattle.std.specs.Prelude.{Option, Some, None}
 use Rattle.std.specs.Prelude.{ℕ, ◌%◌, ◌^◌}
-use Rattle.config.specs.declared.OptionRosc.{OptionRosc}
-use Rattle.config.specs.declared.OptionRosc.TheVariants.{Some as ring, None as no_ring}
-use Rattle.config.specs.declared.OptionPll.{OptionPll}
-use Rattle.config.specs.declared.OptionPll.TheVariants.{Some as pll, None as no_pll}
-use Rattle.config.specs.declared.{RefClkConfig.RefClkConfig, OptionAux.OptionAux}
-use Rattle.config.specs.declared.OptionAux.TheVariants.{Some as aux, None as no_aux}
-use Rattle.config.specs.declared.OptionRtc.{OptionRtc}
-use Rattle.config.specs.declared.OptionRtc.TheVariants.{Some as rtc, None as no_rtc}
+use Rattle.config.specs.declared.RoscConfig.{RoscConfig}
+use Rattle.pll.specs.declared.PllConfig.{PllConfig}
+use Rattle.config.specs.declared.{RefClkConfig.RefClkConfig, AuxClkConfig.AuxClkConfig}
+use Rattle.config.specs.declared.RtcClkConfig.{RtcClkConfig}
 use Rattle.config.specs.declared.ChipConfig.{ChipConfig}
 use Rattle.config.specs.declared.ChipConfig.TheVariants.{Rp2040 as on2040, Rp235x as on235x}
 use Rattle.config.specs.Board.{board_of}
-use Rattle.settings.specs.declared.OptionCrystal.{OptionCrystal}
-use Rattle.settings.specs.declared.OptionCrystal.TheVariants.{Some as crystal, None as no_crystal}
+use Rattle.settings.specs.declared.Crystal.{Crystal}
 use Rattle.settings.specs.declared.Settings.{Settings}
 
 -- The low 8, 16 and 32 bits of a number, for u8, u16 and u32.
@@ -25,9 +21,9 @@ half n = n % 2 ^ 16
 abbrev pub word : ℕ → ℕ
 word n = n % 2 ^ 32
 
-abbrev pub cut_ring : OptionRosc → OptionRosc
-cut_ring (ring r) =
-    ring
+abbrev pub cut_ring : Option RoscConfig → Option RoscConfig
+cut_ring (Some r) =
+    Some
     (record {
       hz = word r.hz;
       range = r.range;
@@ -44,38 +40,38 @@ cut_ring (ring r) =
           };
       div = half r.div;
     })
-cut_ring no_ring = no_ring
+cut_ring None = None
 
-abbrev pub cut_pll : OptionPll → OptionPll
-cut_pll (pll p) =
-    pll
+abbrev pub cut_pll : Option PllConfig → Option PllConfig
+cut_pll (Some p) =
+    Some
     (record {
       refdiv = byte p.refdiv;
       fbdiv = half p.fbdiv;
       post_div1 = byte p.post_div1;
       post_div2 = byte p.post_div2;
     })
-cut_pll no_pll = no_pll
+cut_pll None = None
 
-abbrev pub cut_crystal : OptionCrystal → OptionCrystal
-cut_crystal (crystal x) =
-    crystal (record { hz = word x.hz; delay = x.delay; sys = cut_pll x.sys; usb = cut_pll x.usb })
-cut_crystal no_crystal = no_crystal
+abbrev pub cut_crystal : Option Crystal → Option Crystal
+cut_crystal (Some x) =
+    Some (record { hz = word x.hz; delay = x.delay; sys = cut_pll x.sys; usb = cut_pll x.usb })
+cut_crystal None = None
 
-abbrev pub cut_aux : OptionAux → OptionAux
-cut_aux (aux a) = aux (record { src = a.src; div = byte a.div; phase = byte a.phase })
-cut_aux no_aux = no_aux
+abbrev pub cut_aux : Option AuxClkConfig → Option AuxClkConfig
+cut_aux (Some a) = Some (record { src = a.src; div = byte a.div; phase = byte a.phase })
+cut_aux None = None
 
-abbrev pub cut_rtc : OptionRtc → OptionRtc
-cut_rtc (rtc c) =
-    rtc
+abbrev pub cut_rtc : Option RtcClkConfig → Option RtcClkConfig
+cut_rtc (Some c) =
+    Some
     (record {
       src = c.src;
       div_int = word c.div_int;
       div_frac = byte c.div_frac;
       phase = byte c.phase;
     })
-cut_rtc no_rtc = no_rtc
+cut_rtc None = None
 
 abbrev pub cut_ref : RefClkConfig → RefClkConfig
 cut_ref c = record { src = c.src; div = byte c.div }

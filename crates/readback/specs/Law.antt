@@ -1,5 +1,6 @@
 -- The answer of reading a sheet back, stated declaratively (docs/FORMAT.md, Reading a sheet back). The law allows exactly one
 -- answer, as `readback-one` shows.
+use Rattle.std.specs.Prelude.{Option, Some, None}
 use mathlib.Core.{Path.◌≡◌, Bool.◌&&◌, List.List}
 use Rattle.std.specs.Prelude.{ℕ, ◌/◌, ◌≤◌, ◌<◌}
 use lib.{ListN.length, ListN.get_or, Dec.leb, Dec.eqb}
@@ -7,10 +8,7 @@ use Rattle.base.specs.{Choice.pick, Answer.Answer, Answer.value, Answer.refusal}
 use Rattle.chip.specs.declared.{Chip.Chip, Chip.TheVariants.Rp2040, Chip.TheVariants.Rp235x}
 use Rattle.chip.specs.Chips.{facts_of}
 use Rattle.step.specs.Kinds as kind
-use Rattle.config.specs.declared.{ClockConfig.ClockConfig, OptionXosc.OptionXosc}
-use Rattle.config.specs.declared.OptionXosc.TheVariants.{Some as xosc, None as no_xosc}
-use Rattle.config.specs.declared.OptionU32.TheVariants.{Some as given}
-use Rattle.settings.specs.declared.OptionCycles.TheVariants.{None as no_cycles}
+use Rattle.config.specs.declared.{ClockConfig.ClockConfig, XoscConfig.XoscConfig}
 use Rattle.config.specs.Board.{board_of}
 use Rattle.settings.specs.{Settings.settling_time, Settings.settings_of, Typed.Typed}
 use Rattle.refusals.specs.Refusals.{Accepted}
@@ -32,9 +30,9 @@ pub record Gives (sheet : List ℕ) (reading : ℕ) (p : ClockConfig) : Type 0 w
   pub bytes : sheet_bytes p reading ≡ sheet
 
 -- The delay multiplier of a plan; without a crystal it counts as 0.
-abbrev pub multiplier_in : OptionXosc → ℕ
-multiplier_in (xosc x) = x.delay_multiplier
-multiplier_in no_xosc = 0
+abbrev pub multiplier_in : Option XoscConfig → ℕ
+multiplier_in (Some x) = x.delay_multiplier
+multiplier_in None = 0
 
 abbrev pub multiplier_of : ClockConfig → ℕ
 multiplier_of p = multiplier_in p.xosc
@@ -49,8 +47,8 @@ pub record Back (sheet : List ℕ) (reading : ℕ) (p : ClockConfig) : Type 0 wh
   pub gives : Gives sheet reading p
   pub multiplier : (q : ClockConfig) → Gives sheet reading q → multiplier_of p ≤ multiplier_of q
   pub time : (q : ClockConfig) → Gives sheet reading q → time_of p ≤ time_of q
-  pub is_given : p.voltage_stabilization_delay_us ≡ given (time_of p)
-  pub still : (settings_of p reading).settling ≡ no_cycles → time_of p ≡ 0
+  pub is_given : p.voltage_stabilization_delay_us ≡ Some (time_of p)
+  pub still : (settings_of p reading).settling ≡ None → time_of p ≡ 0
 
 -- 18 is for a reading over the greatest of the sheet's chip, 26 where no accepted plan gives these bytes at this reading.
 pub data ReadBack (sheet : List ℕ) (reading : ℕ) : Answer ClockConfig → Type 0 where

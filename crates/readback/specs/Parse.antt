@@ -1,15 +1,19 @@
 -- Inside: the parts of a sheet as the code reads them: a truncated value, and the steps after the part.
+use Rattle.std.specs.Prelude.{Option, Some}
+use Rattle.config.specs.declared.RoscConfig.{RoscConfig}
+use Rattle.config.specs.declared.PeriClkSrc.{PeriClkSrc}
+use Rattle.config.specs.declared.AuxClkConfig.{AuxClkConfig}
 use mathlib.Core.{Path.◌≡◌, List.List}
 use Rattle.std.specs.Prelude.{ℕ, ◌-◌, drop}
 use Rattle.chip.specs.declared.{Chip.Chip, Chip.TheVariants.Rp2040, Chip.TheVariants.Rp235x}
-use Rattle.config.specs.declared.{OptionRosc.OptionRosc, OptionPll.OptionPll, OptionPeri.OptionPeri, OptionAux.OptionAux}
+use Rattle.pll.specs.declared.PllConfig.{PllConfig}
 use Rattle.config.specs.declared.RefClkConfig.{RefClkConfig}
-use Rattle.settings.specs.declared.OptionCrystal.{OptionCrystal}
+use Rattle.settings.specs.declared.Crystal.{Crystal}
 use Rattle.chip.specs.Chips.{facts_of}
 use Rattle.step.specs.Kinds as kind
-use Rattle.readback.specs.{Cut.cut_ring, Cut.cut_crystal, Steps.held, Steps.value_in, Steps.rest_in}
-use Rattle.readback.specs.declared.{held.Steps.Steps, oscillators.VoltageSteps.VoltageSteps, oscillators.Oscillators.Oscillators}
-use Rattle.readback.specs.declared.clocks.SysRead.{SysRead}
+use Rattle.readback.specs.{Steps.value_in, Steps.rest_in}
+use Rattle.readback.specs.declared.{oscillators.Voltage.Voltage as VoltageRead, clocks.Sys.Sys as SysRead}
+use denote.Ref.{Bor}
 use Rattle.step.specs.declared.Step.{Step}
 use Rattle.settings.specs.Codes.{range_from}
 use Rattle.sheet.specs.Read.{Part, part, Voltage, Sys, read_chip, read_ring, read_voltage, read_crystal, read_ref, past_tick}
@@ -19,14 +23,14 @@ use Rattle.sheet.specs.Read.{read_sys, read_peri, read_aux}
 abbrev pub cut_part : {A : Type 0} → (A → A) → Part A → Part A
 cut_part cut (part a rest) = part (cut a) rest
 
--- Reading a part of the held steps gives this truncated value and leaves these steps.
-abbrev pub Reads : {A : Type 0} → (List Step → Part A) → (A → A) → Steps → A → Steps → Type 0
-Reads read cut s a rest = cut_part cut (read (held s)) ≡ part a (held rest)
+-- Reading a part of the steps gives this truncated value and leaves these steps.
+abbrev pub Reads : {A : Type 0} → (List Step → Part A) → (A → A) → List Step → A × Bor (List Step) → Type 0
+Reads read cut s r = cut_part cut (read s) ≡ part r.0 r.1.now
 
 -- The ring of its five steps.
-abbrev pub ring_from : ℕ → Step → Step → Step → Step → Step → OptionRosc
+abbrev pub ring_from : ℕ → Step → Step → Step → Step → Step → Option RoscConfig
 ring_from pass a b divider range store =
-    OptionRosc.Some
+    Some
     (record {
       hz = store.f1;
       range = range_from range.f0;
@@ -36,9 +40,9 @@ ring_from pass a b divider range store =
     })
 
 -- The PLL of its reference, feedback and post steps.
-abbrev pub pll_from : Step → Step → Step → OptionPll
+abbrev pub pll_from : Step → Step → Step → Option PllConfig
 pll_from reference feedback posts =
-    OptionPll.Some
+    Some
     (record { refdiv = reference.f1; fbdiv = feedback.f1; post_div1 = posts.f1; post_div2 = posts.f2 })
 
 -- The number of steps of the tick.
@@ -47,7 +51,7 @@ ticks Rp2040 = 1
 ticks Rp235x = 4
 
 -- The voltage and the system clock of the code's records.
-abbrev pub voltage_at : VoltageSteps → Voltage
+abbrev pub voltage_at : VoltageRead → Voltage
 voltage_at r = record { code = r.code; settling = r.settling }
 
 abbrev pub sys_at : SysRead → Sys
@@ -58,13 +62,13 @@ sys_at r = record { src = r.src; whole = r.whole; fraction = r.fraction }
 unfoldable pub chip_taken : List Step → Part Chip
 chip_taken xs = read_chip xs
 
-unfoldable pub ring_taken : List Step → Part OptionRosc
+unfoldable pub ring_taken : List Step → Part (Option RoscConfig)
 ring_taken xs = read_ring (facts_of (value_in (chip_taken xs))).pass (drop 9 (rest_in (chip_taken xs)))
 
 unfoldable pub voltage_taken : ℕ → List Step → Part Voltage
 voltage_taken reading xs = read_voltage (facts_of (value_in (chip_taken xs))).voltage reading (rest_in (ring_taken xs))
 
-unfoldable pub crystal_taken : ℕ → List Step → Part OptionCrystal
+unfoldable pub crystal_taken : ℕ → List Step → Part (Option Crystal)
 crystal_taken reading xs = read_crystal (rest_in (voltage_taken reading xs))
 
 unfoldable pub ref_taken : ℕ → List Step → Part RefClkConfig
@@ -73,20 +77,11 @@ ref_taken reading xs = read_ref (drop 3 (rest_in (crystal_taken reading xs)))
 unfoldable pub sys_taken : ℕ → List Step → Part Sys
 sys_taken reading xs = read_sys (past_tick (value_in (chip_taken xs)) (rest_in (ref_taken reading xs)))
 
-unfoldable pub peri_taken : ℕ → List Step → Part OptionPeri
+unfoldable pub peri_taken : ℕ → List Step → Part (Option PeriClkSrc)
 peri_taken reading xs = read_peri (rest_in (sys_taken reading xs))
 
-unfoldable pub usb_taken : ℕ → List Step → Part OptionAux
+unfoldable pub usb_taken : ℕ → List Step → Part (Option AuxClkConfig)
 usb_taken reading xs = read_aux kind.usb_divider (rest_in (peri_taken reading xs))
 
-unfoldable pub adc_taken : ℕ → List Step → Part OptionAux
+unfoldable pub adc_taken : ℕ → List Step → Part (Option AuxClkConfig)
 adc_taken reading xs = read_aux kind.adc_divider (rest_in (usb_taken reading xs))
-
--- The parts up to the crystal, and the steps after them.
-pub record Oscillating (s : Steps) (reading : ℕ) (o : Oscillators) : Type 0 where
-  pub chip : o.chip ≡ value_in (chip_taken (held s))
-  pub rosc : o.rosc ≡ cut_ring (value_in (ring_taken (held s)))
-  pub code : o.code ≡ (value_in (voltage_taken reading (held s))).code
-  pub settling : o.settling ≡ (value_in (voltage_taken reading (held s))).settling
-  pub xosc : o.xosc ≡ cut_crystal (value_in (crystal_taken reading (held s)))
-  pub rest : rest_in (crystal_taken reading (held s)) ≡ held o.rest

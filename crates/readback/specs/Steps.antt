@@ -1,13 +1,15 @@
 -- The steps of a sheet's bytes, one for each eight bytes, and the readers that take them.
-use Rattle.std.specs.Prelude.{List, [], ◌∷◌, ℕ, zero, suc, ◌+◌, ◌*◌, ◌/◌, min}
-use lib.{ListN.length, ListN.take, ListN.drop, ListN.set, ListN.replicate, Dec.ltb}
-use Rattle.base.specs.{Answer.Answer, Answer.value, Answer.refusal, Choice.pick}
+use Rattle.std.specs.Prelude.{List, [], ◌∷◌, ℕ, zero, suc, ◌+◌, ◌-◌, ◌*◌, ◌/◌, ◌≡◌, Option, Some, None, Result}
+use Rattle.std.specs.Iterator.{Count, at_most}
+use lib.{ListN.length, ListN.take, Dec.ltb}
+use Rattle.base.specs.{Answer.Answer, Answer.value, Answer.refusal, Answer.answer_in, Choice.pick}
+use Rattle.base.specs.declared.refusal.Refusal.{Refusal}
 use Rattle.step.specs.declared.Step.{Step}
 use Rattle.step.specs.Access.{read_at}
 use Rattle.sheet_steps.specs.Steps.{step0}
 use Rattle.step.specs.Sheet.{max_steps}
 use Rattle.sheet.specs.Read.{Part, part, step_at}
-use Rattle.readback.specs.declared.{Reader.Reader, Taken.Taken, held.Steps.Steps}
+use Rattle.readback.specs.declared.Reader.{Reader}
 
 -- The step of an answer; a refusal gives a step of kind 0, which no sheet has.
 abbrev pub step_or : Answer Step → Step
@@ -23,40 +25,40 @@ steps_from sheet i (suc n) = step_or (read_at sheet (8 * i)) ∷ steps_from shee
 unfoldable pub steps_in : List ℕ → List Step
 steps_in sheet = steps_from sheet 0 (length sheet / 8)
 
--- The step at a position and the position after it; at the end the step has kind 0, and the position stays.
-unfoldable pub taken_at : List ℕ → ℕ → Taken
-taken_at sheet at =
-    record { step = step_at (steps_in sheet) at; at = pick (ltb at (length sheet / 8)) (at + 1) at }
+-- What is at a position, counted in steps: the answer of reading the step there; nothing at the end.
+abbrev pub taken_at : List ℕ → ℕ → Option (Answer Step)
+taken_at sheet at = pick (ltb at (length sheet / 8)) (Some (read_at sheet (8 * at))) None
 
--- The next step of a reader, and the reader after it.
+-- The step of such an answer; at the end too it is a step of kind 0.
+abbrev pub step_in : Option (Answer Step) → Step
+step_in (Some a) = step_or a
+step_in None = step0 0
+
+-- The next step of a reader, and the reader after it; at the end the step has kind 0, and the reader stays.
 abbrev pub next_step : Reader → Step
-next_step r = (taken_at r.sheet.now r.at).step
+next_step r = step_at (steps_in r.sheet.now) r.at
 
 abbrev pub moved : Reader → Reader
-moved r = record { sheet = r.sheet; at = (taken_at r.sheet.now r.at).at }
+moved r = record { sheet = r.sheet; at = pick (ltb r.at (length r.sheet.now / 8)) (r.at + 1) r.at }
+
+-- A call of `next` gives what is at the reader's position, whose step is the reader's next, and moves the reader on.
+pub record MovesOn (r : Reader) (given : Option (Result Step Refusal)) (after : Reader) : Type 0 where
+  pub given_is : answer_in given ≡ taken_at r.sheet.now r.at
+  pub step_is : step_in (answer_in given) ≡ next_step r
+  pub after_is : after ≡ moved r
+
+-- The number of steps that are left for a reader.
+abbrev pub left_in : Reader → Count
+left_in r = at_most (length r.sheet.now / 8 - r.at)
 
 -- The steps that n calls of `next` give, one after another.
 unfoldable pub nexts : ℕ → Reader → List Step
 nexts zero r = []
 nexts (suc n) r = next_step r ∷ nexts n (moved r)
 
--- The number of steps that are read, at most 66, and these steps.
-abbrev pub count_of : List ℕ → ℕ
-count_of sheet = min (length sheet / 8) max_steps
-
+-- The steps that are read: at most 66.
 unfoldable pub steps_read : List ℕ → List Step
 steps_read sheet = take max_steps (steps_in sheet)
-
--- The held steps: none, one appended where there is room, and those from the read position on.
-unfoldable pub no_steps : Steps
-no_steps = record { steps = replicate max_steps (step0 0); count = 0; at = 0 }
-
-unfoldable pub added : Steps → Step → Steps
-added s x =
-    pick (ltb s.count max_steps) (record { steps = set s.steps s.count x; count = s.count + 1; at = s.at }) s
-
-unfoldable pub held : Steps → List Step
-held s = drop s.at (take (min s.count max_steps) s.steps)
 
 -- The value of a part, and the steps after it.
 abbrev pub value_in : {A : Type 0} → Part A → A

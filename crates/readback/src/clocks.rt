@@ -2,63 +2,40 @@
 ghost use Rattle.std.specs.Prelude.{◌≡◌};
 ghost use Rattle.settings.specs.Codes.{chip_from};
 ghost use Rattle.sheet.specs.Read.{read_ref, read_sys, read_peri, read_aux, read_rtc};
-ghost use Rattle.readback.specs.Steps.{held};
 ghost use Rattle.readback.specs.Cut.{cut_ref, cut_aux, cut_rtc, cut_chip};
 ghost use Rattle.readback.specs.Parse.{Reads, ticks, sys_at};
 
 use crate::codes;
-use crate::held::{Steps, ahead, past};
+use crate::held::{ahead, past};
 use chip::Chip;
+use chip::voltage::{CoreVoltage, CoreVoltage235};
 use config::{
-    AuxClkConfig, ChipConfig, OptionAux, OptionPeri, OptionRtc, RefClkConfig, Rp235xConfig,
-    Rp2040Config, RtcClkConfig, SysClkSrc,
+    AuxClkConfig, ChipConfig, PeriClkSrc, RefClkConfig, Rp235xConfig, Rp2040Config, RtcClkConfig,
+    SysClkSrc,
 };
-use step::kind;
+use step::{Step, kind};
 
-// The setting that each part gives, and the steps after the part.
+// The source and the divider of the system clock.
 #[derive(Clone, Copy)]
-pub struct RefRead {
-    pub reference: RefClkConfig,
-    pub rest: Steps,
-}
-
-#[derive(Clone, Copy)]
-pub struct SysRead {
+pub struct Sys {
     pub src: SysClkSrc,
     pub whole: u64,
     pub fraction: u64,
-    pub rest: Steps,
-}
-
-#[derive(Clone, Copy)]
-pub struct PeriRead {
-    pub peri: OptionPeri,
-    pub rest: Steps,
-}
-
-#[derive(Clone, Copy)]
-pub struct AuxRead {
-    pub aux: OptionAux,
-    pub rest: Steps,
 }
 
 // The reference clock; its part has a store, control, wait and divider.
-pub(crate) fn read_ref(s: Steps) -> RefRead
-    ensures { Reads read_ref cut_ref s result.reference result.rest }
+pub(crate) fn read_ref(s: &[Step]) -> (RefClkConfig, &[Step])
+    ensures { Reads read_ref cut_ref s.now result }
 {
-    let control = ahead(s, 1);
-    let divider = ahead(s, 3);
-    RefRead {
-        reference: RefClkConfig {
-            src: settings::ref_from(control.f0),
-            div: codes::div_from(divider.f0),
-        },
-        rest: past(s, 4),
-    }
+    let reference = RefClkConfig {
+        src: settings::ref_from(ahead(s, 1).f0),
+        div: codes::div_from(ahead(s, 3).f0),
+    };
+    (reference, past(s, 4))
 }
 
 // The number of steps of the tick.
-pub(crate) fn ticks(chip: Chip) -> u8
+pub(crate) fn ticks(chip: Chip) -> usize
     ensures { result ≡ ticks chip }
 {
     match chip {
@@ -67,76 +44,65 @@ pub(crate) fn ticks(chip: Chip) -> u8
     }
 }
 
-// The source and the divider of the system clock. Unless the source is the reference clock, control and wait come twice.
-pub(crate) fn read_sys(s: Steps) -> SysRead
-    ensures { Reads read_sys (λ s. s) s (sys_at result) result.rest }
+// The system clock. Unless the source is the reference clock, control and wait come twice.
+pub(crate) fn read_sys(s: &[Step]) -> (Sys, &[Step])
+    ensures { Reads read_sys (λ s. s) s.now (sys_at result.0, result.1) }
 {
     let fourth = ahead(s, 3);
     if fourth.kind != kind::SYS_CONTROL {
-        return SysRead {
+        let sys = Sys {
             src: SysClkSrc::Ref,
             whole: fourth.f0,
             fraction: fourth.f1,
-            rest: past(s, 4),
         };
+        return (sys, past(s, 4));
     }
     let divider = ahead(s, 5);
-    SysRead {
+    let sys = Sys {
         src: settings::sys_from(fourth.f0),
         whole: divider.f0,
         fraction: divider.f1,
-        rest: past(s, 6),
-    }
+    };
+    (sys, past(s, 6))
 }
 
 // The peripheral clock; without a control step it is absent.
-pub(crate) fn read_peri(s: Steps) -> PeriRead
-    ensures { Reads read_peri (λ p. p) s result.peri result.rest }
+pub(crate) fn read_peri(s: &[Step]) -> (Option<PeriClkSrc>, &[Step])
+    ensures { Reads read_peri (λ p. p) s.now result }
 {
     let control = ahead(s, 0);
     if control.kind != kind::PERI_CONTROL {
-        return PeriRead {
-            peri: OptionPeri::None,
-            rest: past(s, 1),
-        };
+        return (None, past(s, 1));
     }
-    PeriRead {
-        peri: OptionPeri::Some(settings::peri_from(control.f0)),
-        rest: past(s, 2),
-    }
+    (Some(settings::peri_from(control.f0)), past(s, 2))
 }
 
 // The USB or the ADC clock, selected by the kind of its divider step; without that step it is absent.
-pub(crate) fn read_aux(s: Steps, divider_kind: u8) -> AuxRead
-    ensures { Reads (read_aux divider_kind) cut_aux s result.aux result.rest }
+pub(crate) fn read_aux(s: &[Step], divider_kind: u8) -> (Option<AuxClkConfig>, &[Step])
+    ensures { Reads (read_aux divider_kind) cut_aux s.now result }
 {
     let divider = ahead(s, 0);
     if divider.kind != divider_kind {
-        return AuxRead {
-            aux: OptionAux::None,
-            rest: past(s, 1),
-        };
+        return (None, past(s, 1));
     }
     let control = ahead(s, 1);
-    AuxRead {
-        aux: OptionAux::Some(AuxClkConfig {
-            src: settings::aux_from(control.f1),
-            div: codes::div_from(divider.f0),
-            phase: codes::cut8(control.f0),
-        }),
-        rest: past(s, 3),
-    }
+    let aux = AuxClkConfig {
+        src: settings::aux_from(control.f1),
+        div: codes::div_from(divider.f0),
+        phase: codes::cut8(control.f0),
+    };
+    (Some(aux), past(s, 3))
 }
 
-fn read_rtc(s: Steps) -> OptionRtc
-    ensures { result ≡ cut_rtc (read_rtc (held s)) }
+fn read_rtc(s: &[Step]) -> Option<RtcClkConfig>
+    ensures { result ≡ cut_rtc (read_rtc s.now) }
 {
     let divider = ahead(s, 0);
     if divider.kind != kind::RTC_DIVIDER {
-        return OptionRtc::None;
+        return None;
     }
     let control = ahead(s, 1);
-    OptionRtc::Some(RtcClkConfig {
+    Some(RtcClkConfig {
         src: settings::aux_from(control.f1),
         div_int: codes::cut32(divider.f0),
         div_frac: codes::cut8(divider.f1),
@@ -145,20 +111,21 @@ fn read_rtc(s: Steps) -> OptionRtc
 }
 
 // The chip-specific part of a plan. The steps start with the RTC part where the chip has one.
-pub(crate) fn read_config(s: Steps, chip: Chip, code: u64, whole: u64, fraction: u64) -> ChipConfig
-    ensures { result ≡ cut_chip (chip_from chip code whole fraction (read_rtc (held s))) }
+#[tactic(auto, using(crate::proofs::Voltages::decodes))]
+pub(crate) fn read_config(s: &[Step], chip: Chip, code: u64, sys: Sys) -> ChipConfig
+    ensures { result ≡ cut_chip (chip_from chip code sys.whole sys.fraction (read_rtc s.now)) }
 {
     match chip {
         Chip::Rp2040 => ChipConfig::Rp2040(Rp2040Config {
-            core_voltage: codes::voltage_from(code),
-            div_int: codes::cut32(whole),
-            div_frac: codes::cut8(fraction),
+            core_voltage: codes::voltage_from(code, CoreVoltage::V1_10),
+            div_int: codes::cut32(sys.whole),
+            div_frac: codes::cut8(sys.fraction),
             rtc_clk: read_rtc(s),
         }),
         Chip::Rp235x => ChipConfig::Rp235x(Rp235xConfig {
-            core_voltage: codes::voltage_from_235(code),
-            div_int: codes::cut16(whole),
-            div_frac: codes::cut16(fraction),
+            core_voltage: codes::voltage_from(code, CoreVoltage235::V1_10),
+            div_int: codes::cut16(sys.whole),
+            div_frac: codes::cut16(sys.fraction),
         }),
     }
 }

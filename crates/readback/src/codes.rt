@@ -1,12 +1,10 @@
 // Decodes voltages and dividers, and truncates numbers to their types.
-ghost use Rattle.std.specs.Prelude.{◌≡◌, ◌%◌, ◌^◌};
-ghost use Rattle.chip.specs.declared.voltage.CoreVoltage.{CoreVoltage};
-ghost use Rattle.chip.specs.declared.voltage.CoreVoltage235.{CoreVoltage235};
-ghost use Rattle.chip.specs.declared.Chip.TheVariants.{Rp2040, Rp235x};
-ghost use Rattle.chip.specs.Voltage.{core_voltage_of};
-ghost use Rattle.settings.specs.Codes.{div_from, value_or};
+ghost use Rattle.std.specs.Prelude.{◌≡◌, ◌%◌, ◌^◌, min, Result};
+ghost use Rattle.std.specs.Result.{result_unwrap_or};
+ghost use Rattle.base.specs.declared.refusal.Refusal.{Refusal};
+ghost use Rattle.settings.specs.Codes.{div_from};
 
-use chip::voltage::{CoreVoltage, CoreVoltage235, VoltageRead, VoltageRead235};
+use base::Refusal;
 
 // The low 8 bits.
 pub(crate) fn cut8(x: u64) -> u8
@@ -36,22 +34,9 @@ pub(crate) fn div_from(code: u64) -> u8
     if code == 0 { 4 } else { cut8(code) }
 }
 
-// Decodes an RP2040 voltage; unknown codes give 1.10 V, and larger values clamp to 255, which is unknown.
-pub(crate) fn voltage_from(code: u64) -> CoreVoltage
-    ensures { result ≡ value_or CoreVoltage.V1_10 (core_voltage_of Rp2040 code) }
+// Decodes a voltage of either chip; an unknown code gives `other`. A larger code than 255 clamps to 255, which is unknown.
+pub(crate) fn voltage_from<V: Copy + TryFrom<u8, Error = Refusal>>(code: u64, other: V) -> V
+    ensures { (r : Result V Refusal) × V.try_from_gives (min code 255) r × (result ≡ result_unwrap_or r other) }
 {
-    match chip::voltage::core_voltage(base::least(code as usize, 255) as u8) {
-        VoltageRead::Voltage(v) => v,
-        VoltageRead::Refused(_) => CoreVoltage::V1_10,
-    }
-}
-
-// Decodes an RP235x voltage; unknown codes give 1.10 V, and larger values clamp to 255, which is unknown.
-pub(crate) fn voltage_from_235(code: u64) -> CoreVoltage235
-    ensures { result ≡ value_or CoreVoltage235.V1_10 (core_voltage_of Rp235x code) }
-{
-    match chip::voltage::core_voltage_235(base::least(code as usize, 255) as u8) {
-        VoltageRead235::Voltage(v) => v,
-        VoltageRead235::Refused(_) => CoreVoltage235::V1_10,
-    }
+    V::try_from(code.min(255) as u8).unwrap_or(other)
 }

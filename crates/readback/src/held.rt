@@ -1,72 +1,75 @@
-// The steps of a sheet, decoded and held by value, with a read position.
-ghost use Rattle.std.specs.Prelude.{◌≡◌, drop};
-ghost use Rattle.sheet_steps.specs.Steps.{step0};
+// The steps of a sheet, decoded and held by value, and reading on in them.
+ghost use Rattle.std.specs.Prelude.{◌≡◌, ◌<◌, [], ◌∷◌, ◌++◌, length, drop};
+ghost use Rattle.step.specs.Sheet.{max_steps};
 ghost use Rattle.sheet.specs.Read.{step_at};
-ghost use Rattle.readback.specs.Steps.{no_steps, added, held};
 
+use std::marker::Model;
 use step::{MAX_STEPS, Step};
 
-// The first `count` steps are in use; those before `at` have been read.
-#[derive(Clone, Copy)]
+// The step that stands for none: no sheet has a step of kind 0.
+pub(crate) const NO_STEP: Step = Step {
+    kind: 0,
+    f0: 0,
+    f1: 0,
+    f2: 0,
+    f3: 0,
+    f4: 0,
+};
+
+// Up to 66 steps, as no sheet of a plan has more. There is no heap, so an array holds them, of which the first `count` are used.
+#[derive(Drop)]
 pub struct Steps {
-    pub steps: [Step; MAX_STEPS],
-    pub count: usize,
-    pub at: usize,
+    steps: [Step; MAX_STEPS],
+    count: usize,
 }
 
-// The step that means the end: no sheet has a step of kind 0.
-pub(crate) fn no_step() -> Step
-    ensures { result ≡ step0 0 }
-{
-    Step {
-        kind: 0,
-        f0: 0,
-        f1: 0,
-        f2: 0,
-        f3: 0,
-        f4: 0,
+impl Model for Steps {
+    ghost use Rattle.std.specs.Prelude.{List, take, ◌≤◌};
+    ghost use Rattle.step.specs.declared.Step.{Step};
+    ghost use Rattle.step.specs.Sheet.{max_steps};
+
+    ghost Value = { List Step };
+
+    ghost view = { λ s. take s.count s.steps };
+
+    ghost invariant = { λ s. s.count ≤ max_steps };
+}
+
+impl Steps {
+    pub(crate) fn new() -> Steps
+        ensures { result ≡ [] }
+    {
+        Steps {
+            steps: [NO_STEP; MAX_STEPS],
+            count: 0,
+        }
+    }
+
+    pub(crate) fn push(&mut self, step: Step)
+        requires { length self.old < max_steps }
+        ensures { self.new ≡ self.old ++ step ∷ [] }
+    {
+        self.steps[self.count] = step;
+        self.count += 1;
+    }
+
+    pub fn as_slice(&self) -> &[Step]
+        ensures { result.now ≡ self.now }
+    {
+        &self.steps[..self.count]
     }
 }
 
-// Room for 66 steps, none in use.
-pub(crate) fn no_steps() -> Steps
-    ensures { result ≡ no_steps }
+// Step i; a step of kind 0 past the last.
+pub(crate) fn ahead(s: &[Step], i: usize) -> Step
+    ensures { result ≡ step_at s.now i }
 {
-    Steps {
-        steps: [no_step(); MAX_STEPS],
-        count: 0,
-        at: 0,
-    }
+    s.get(i).copied().unwrap_or(NO_STEP)
 }
 
-// Appends a step where there is room for it.
-pub(crate) fn add(mut s: Steps, step: Step) -> Steps
-    ensures { result ≡ added s step }
+// The steps after the first n.
+pub(crate) fn past(s: &[Step], n: usize) -> &[Step]
+    ensures { result.now ≡ drop n s.now }
 {
-    let count = s.count;
-    if count < MAX_STEPS {
-        s.steps[count] = step;
-        s.count = count + 1;
-    }
-    s
-}
-
-// The step `more` places after the read position; a step of kind 0 past the last.
-pub(crate) fn ahead(s: Steps, more: u8) -> Step
-    ensures { result ≡ step_at (held s) more }
-{
-    let i = base::least(s.at, MAX_STEPS) + more as usize;
-    if i < base::least(s.count, MAX_STEPS) {
-        s.steps[i]
-    } else {
-        no_step()
-    }
-}
-
-// Moves the read position n steps on.
-pub(crate) fn past(mut s: Steps, n: u8) -> Steps
-    ensures { held result ≡ drop n (held s) }
-{
-    s.at = base::least(s.at, MAX_STEPS) + n as usize;
-    s
+    s.get(n..).unwrap_or(&[])
 }

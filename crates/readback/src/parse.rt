@@ -2,43 +2,36 @@
 // is truncated; this is safe, as the caller writes the plan again and compares the bytes.
 ghost use Rattle.std.specs.Prelude.{◌≡◌};
 ghost use Rattle.sheet.specs.Read.{settings_from};
-ghost use Rattle.readback.specs.Steps.{held};
 ghost use Rattle.readback.specs.Cut.{cut_settings};
 
-use crate::held::{Steps, past};
+use crate::held::past;
 use crate::{clocks, oscillators};
 use settings::Settings;
-use step::kind;
+use step::{Step, kind};
 
-// The settings of the steps; the stores of `xosc`, `pll_sys` and `pll_usb` and the tick are skipped.
-pub(crate) fn settings_in(steps: Steps, reading: u8) -> Settings
-    ensures { result ≡ cut_settings (settings_from reading (held steps)) }
+// The settings of the steps; the nine steps of the head, the stores of `xosc`, `pll_sys` and `pll_usb` and the tick are skipped.
+pub(crate) fn settings_in(steps: &[Step], reading: u8) -> Settings
+    ensures { result ≡ cut_settings (settings_from reading steps.now) }
 {
-    let o = oscillators::oscillators_in(steps, reading);
-    let on = o.chip;
-    let rosc = o.rosc;
-    let xosc = o.xosc;
-    let settling = o.settling;
-    let f = clocks::read_ref(past(o.rest, 3));
-    let reference = f.reference;
-    let s = clocks::read_sys(past(f.rest, clocks::ticks(on)));
-    let sys = s.src;
-    let p = clocks::read_peri(s.rest);
-    let peri = p.peri;
-    let u = clocks::read_aux(p.rest, kind::USB_DIVIDER);
-    let usb = u.aux;
-    let a = clocks::read_aux(u.rest, kind::ADC_DIVIDER);
-    let adc = a.aux;
-    let chip = clocks::read_config(a.rest, on, o.code, s.whole, s.fraction);
-    let board = chip.board();
+    let (on, rest) = oscillators::read_chip(steps);
+    let facts = on.facts();
+    let (rosc, rest) = oscillators::read_ring(past(rest, 9), facts.pass);
+    let (voltage, rest) = oscillators::read_voltage(rest, facts.voltage, reading);
+    let (xosc, rest) = oscillators::read_crystal(rest);
+    let (reference, rest) = clocks::read_ref(past(rest, 3));
+    let (sys, rest) = clocks::read_sys(past(rest, clocks::ticks(on)));
+    let (peri, rest) = clocks::read_peri(rest);
+    let (usb, rest) = clocks::read_aux(rest, kind::USB_DIVIDER);
+    let (adc, rest) = clocks::read_aux(rest, kind::ADC_DIVIDER);
+    let chip = clocks::read_config(rest, on, voltage.code, sys);
     Settings {
         chip,
-        board,
+        board: chip.board(),
         rosc,
         xosc,
-        settling,
+        settling: voltage.settling,
         reference,
-        sys,
+        sys: sys.src,
         peri,
         usb,
         adc,

@@ -1,3 +1,4 @@
+pub mod Examined
 pub mod Accepted
 pub mod Numbers
 pub mod Stored

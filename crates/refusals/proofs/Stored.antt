@@ -1,4 +1,5 @@
 -- Every frequency that the sheet of an accepted plan stores fits in 32 bits, and the RTC's in 16.
+use Rattle.std.specs.Prelude.{Option}
 use mathlib.Core.{Path.◌≡◌, Bool.false, Bool.◌||◌, List.List, List.[], List.◌∷◌}
 use Prim.Native.Nat.{ℕ, ◌≤◌}
 use native.Mathlib.Omega.{arith}
@@ -7,8 +8,8 @@ use borrow.Author.Tests.{ltb-false}
 use Rattle.base.proofs.Bools.{both_false}
 use Rattle.chip.specs.declared.{Chip.Chip, Chip.TheVariants.Rp2040, Chip.TheVariants.Rp235x}
 use Rattle.chip.specs.Chips.{facts_of}
-use Rattle.config.specs.declared.OptionRtc.{OptionRtc}
-use Rattle.config.specs.declared.OptionRtc.TheVariants.{Some as rtc, None as no_rtc}
+use Rattle.config.specs.declared.RtcClkConfig.{RtcClkConfig}
+use Rattle.std.specs.Prelude.{Some as rtc, None as no_rtc}
 use Rattle.settings.specs.declared.{Sources.Sources, Settings.Settings, Frequencies.Frequencies}
 use Rattle.settings.specs.Frequencies.{rtc_hz, sources_in, ref_in, sys_in, frequencies_of, tenth_of, stored_of, ten_of}
 use Rattle.settings.specs.Typed.{Typed}
@@ -18,7 +19,7 @@ use Rattle.refusals.specs.Refusals.{refusal_of}
 use Rattle.refusals.proofs.Accepted.{accepted-by, whole-good}
 
 -- The frequency of an accepted RTC fits in 16 bits.
-rtc-small : (source : ℕ) (f : Sources) (o : OptionRtc) → rtc_bad source (rtc_hz f o) o ≡ false → rtc_hz f o ≤ 65535
+rtc-small : (source : ℕ) (f : Sources) (o : Option RtcClkConfig) → rtc_bad source (rtc_hz f o) o ≡ false → rtc_hz f o ≤ 65535
 unfolding rtc_bad
 rtc-small source f (rtc r) e =
     ltb-false 65535 (rtc_hz f (rtc r))

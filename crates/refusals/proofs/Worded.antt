@@ -8,8 +8,9 @@ use Rattle.base.specs.Choice.{pick}
 use Rattle.chip.specs.declared.Chip.TheVariants.{Rp2040, Rp235x}
 use Rattle.chip.specs.Chips.{facts_of}
 use Rattle.divider.specs.Delay.{startup_sum, delay_of, settling_cycles}
-use Rattle.config.specs.declared.{XoscConfig.XoscConfig, OptionXosc.TheVariants.Some as xosc}
-use Rattle.settings.specs.declared.OptionCycles.TheVariants.{Some as cycles, None as no_cycles}
+use Rattle.config.specs.declared.{XoscConfig.XoscConfig}
+use Rattle.std.specs.Prelude.{Some as xosc}
+use Rattle.std.specs.Prelude.{Some as cycles, None as no_cycles}
 use Rattle.settings.specs.Settings.{crystal_of, settling_step}
 use Rattle.refusals.specs.Rules.{settling_over, startup_over, whole_bad}
 

@@ -1,12 +1,13 @@
 -- The refusals of settings at a reading: a test for each number, in the order of docs/FORMAT.md, Refusals.
 use mathlib.Core.{Path.◌≡◌, List.List, List.[], List.◌∷◌, Bool.Bool}
 use Rattle.std.specs.Prelude.{ℕ, ltb, eqb}
-use Rattle.base.specs.Choice.{pick}
+use Rattle.std.specs.Prelude.{Option, Some, None}
+use Rattle.base.specs.declared.refusal.Refusal.{Refusal}
+use Rattle.base.specs.{Answer.Answer, Answer.value, Answer.refusal, Choice.pick, Refusals.number_of}
 use Rattle.chip.specs.Chips.{facts_of}
 use Rattle.config.specs.declared.ClockConfig.{ClockConfig}
 use Rattle.settings.specs.declared.{Settings.Settings, Frequencies.Frequencies}
 use Rattle.settings.specs.{Settings.settings_of, Frequencies.frequencies_of}
-use Rattle.refusals.specs.declared.Examined.{Examined}
 use Rattle.refusals.specs.Rules.{strengths_over, ring_divider_over, settling_over, startup_over, sys_pll_invalid, usb_pll_invalid}
 use Rattle.refusals.specs.Rules.{divider_bad, reference_bad, whole_bad, peri_bad, aux_bad, rtc_bad}
 
@@ -43,6 +44,12 @@ refusal_of s reading = first (tests_of s (frequencies_of s) reading)
 abbrev pub Accepted : ClockConfig → ℕ → Type 0
 Accepted p reading = refusal_of (settings_of p reading) reading ≡ 0
 
--- The answer of `examine`.
-abbrev pub examined_of : Settings → ℕ → Examined
-examined_of s reading = record { number = refusal_of s reading; frequencies = frequencies_of s }
+-- What `examine` answers: the frequencies of accepted settings, else the refusal.
+abbrev pub examined_of : Settings → ℕ → Answer Frequencies
+examined_of s reading =
+    pick (eqb (refusal_of s reading) 0) (value (frequencies_of s)) (refusal (refusal_of s reading))
+
+-- A refusal of the code by its number, 0 for none.
+abbrev pub number_in : Option Refusal → ℕ
+number_in (Some why) = number_of why
+number_in None = 0

@@ -3,113 +3,90 @@
 
 mod rules;
 
-ghost use Rattle.std.specs.Prelude.{◌≡◌, ℕ};
-ghost use Rattle.config.specs.declared.OptionRosc.{OptionRosc};
+ghost use Rattle.std.specs.Prelude.{◌≡◌, ℕ, Option};
+ghost use Rattle.config.specs.declared.RoscConfig.{RoscConfig};
 ghost use Rattle.settings.specs.Frequencies.{pll_hz, sources_of, frequencies_of};
 ghost use Rattle.config.specs.Board.{FractionFits};
 ghost use Rattle.settings.specs.Typed.{Typed};
 ghost use Rattle.refusals.specs.Rules.{pll_invalid, sys_pll_invalid, usb_pll_invalid};
-ghost use Rattle.refusals.specs.Refusals.{refusal_of, examined_of};
+ghost use Rattle.refusals.specs.Refusals.{number_in, refusal_of, examined_of};
+ghost use Rattle.base.specs.{Answer.answer_of, Choice.pick, Refusals.number_of};
 
-use config::{OptionPll, OptionRosc};
-use settings::{Frequencies, OptionCrystal, Settings, Sources};
+use base::Refusal;
+use pll::PllConfig;
+use settings::{Crystal, Frequencies, Settings, Sources};
 
 // A valid PLL gives 15 MHz or more, so a PLL that is present is invalid exactly where its frequency is 0.
-fn pll_invalid(pll: OptionPll, known_hz: u32) -> bool
+fn pll_invalid(pll: Option<PllConfig>, known_hz: u32) -> bool
     ensures { (hz : ℕ) → known_hz ≡ pll_hz hz pll → result ≡ pll_invalid hz pll }
 {
-    match pll {
-        OptionPll::Some(_) => known_hz == 0,
-        OptionPll::None => false,
-    }
+    pll.is_some() && known_hz == 0
 }
 
-// Which of a crystal's PLLs are invalid.
-#[derive(Clone, Copy)]
-struct PllsBad {
-    sys: bool,
-    usb: bool,
-}
-
-fn plls_invalid(crystal: OptionCrystal, f: Sources) -> PllsBad
-    ensures { (ring : OptionRosc) → f ≡ sources_of ring crystal → (result.sys ≡ sys_pll_invalid crystal) × (result.usb ≡ usb_pll_invalid crystal) }
+// Whether a crystal's system PLL is invalid, and whether its USB PLL is.
+fn plls_invalid(crystal: Option<Crystal>, f: Sources) -> (bool, bool)
+    ensures { (ring : Option RoscConfig) → f ≡ sources_of ring crystal → (result.0 ≡ sys_pll_invalid crystal) × (result.1 ≡ usb_pll_invalid crystal) }
 {
     match crystal {
-        OptionCrystal::Some(on) => {
-            let sys_pll = on.sys;
-            let usb_pll = on.usb;
-            let sys = pll_invalid(sys_pll, f.pll_sys);
-            let usb = pll_invalid(usb_pll, f.pll_usb);
-            PllsBad { sys, usb }
-        }
-        OptionCrystal::None => PllsBad {
-            sys: false,
-            usb: false,
-        },
+        Some(on) => (
+            pll_invalid(on.sys, f.pll_sys),
+            pll_invalid(on.usb, f.pll_usb),
+        ),
+        None => (false, false),
     }
 }
 
-// The number of the first refusal that holds, tested in the order 18, then 1 to 14; 0 where none holds.
-fn refusal_of(s: Settings, f: Frequencies, reading: u8) -> u8
-    ensures { f ≡ frequencies_of s → result ≡ refusal_of s reading }
+// This refusal if its test holds, else that of the tests after it.
+fn refused_if(test: bool, why: Refusal, rest: Option<Refusal>) -> Option<Refusal>
+    ensures { number_in result ≡ pick test (number_of why) (number_in rest) }
 {
-    let b = s.board;
-    let chip = b.chip;
-    let on = chip.facts();
-    let ring = s.rosc;
-    let crystal = s.xosc;
-    let cycles = s.settling;
-    let ref_clk = s.reference;
-    let peri_clk = s.peri;
-    let usb_clk = s.usb;
-    let adc_clk = s.adc;
-    let rtc_clk = b.rtc;
-    let sources = f.sources;
+    if test { Some(why) } else { rest }
+}
+
+// The first refusal that holds, tested in the order 18, then 1 to 14.
+fn refusal_of(s: Settings, f: Frequencies, reading: u8) -> Option<Refusal>
+    ensures { f ≡ frequencies_of s → number_in result ≡ refusal_of s reading }
+{
+    let on = s.board.chip.facts();
     let over = on.top_reading < reading;
-    let strengths = rules::strengths_over(ring);
-    let ring_divider = rules::ring_divider_over(on.pass, ring);
-    let settling = rules::settling_over(cycles);
-    let startup = rules::startup_over(crystal);
-    let plls = plls_invalid(crystal, sources);
-    let divider = rules::divider_bad(ref_clk.div);
+    let strengths = rules::strengths_over(s.rosc);
+    let ring_divider = rules::ring_divider_over(on.pass, s.rosc);
+    let settling = rules::settling_over(s.settling);
+    let startup = rules::startup_over(s.xosc);
+    let (sys_pll, usb_pll) = plls_invalid(s.xosc, f.sources);
+    let divider = rules::divider_bad(s.reference.div);
     let reference = rules::reference_bad(f.reference);
-    let whole = rules::whole_bad(on.top_whole, b.whole);
-    let peri = rules::peri_bad(f.peri, peri_clk);
-    let usb = rules::aux_bad(f.usb_source, usb_clk);
-    let adc = rules::aux_bad(f.adc_source, adc_clk);
-    let rtc = rules::rtc_bad(f.rtc_source, f.rtc, rtc_clk);
-    // The tests go from the last to the first, so that an earlier one overrides.
-    let n = base::number_when(rtc, 14, 0);
-    let n = base::number_when(adc, 13, n);
-    let n = base::number_when(usb, 12, n);
-    let n = base::number_when(peri, 11, n);
-    let n = base::number_when(f.sys == 0, 10, n);
-    let n = base::number_when(whole, 9, n);
-    let n = base::number_when(reference, 8, n);
-    let n = base::number_when(divider, 7, n);
-    let n = base::number_when(plls.usb, 6, n);
-    let n = base::number_when(plls.sys, 5, n);
-    let n = base::number_when(startup, 4, n);
-    let n = base::number_when(settling, 3, n);
-    let n = base::number_when(ring_divider, 2, n);
-    let n = base::number_when(strengths, 1, n);
-    base::number_when(over, 18, n)
+    let whole = rules::whole_bad(on.top_whole, s.board.whole);
+    let peri = rules::peri_bad(f.peri, s.peri);
+    let usb = rules::aux_bad(f.usb_source, s.usb);
+    let adc = rules::aux_bad(f.adc_source, s.adc);
+    let rtc = rules::rtc_bad(f.rtc_source, f.rtc, s.board.rtc);
+    // The tests go from the last to the first, so that an earlier one overrides. A return at each refusal, or a search among the
+    // tests, takes more instructions for each sheet (docs/SPEED.md, What was tried).
+    let n = refused_if(rtc, Refusal::RtcClock, None);
+    let n = refused_if(adc, Refusal::AdcClock, n);
+    let n = refused_if(usb, Refusal::UsbClock, n);
+    let n = refused_if(peri, Refusal::PeriClock, n);
+    let n = refused_if(f.sys == 0, Refusal::SysClock, n);
+    let n = refused_if(whole, Refusal::SysDivider, n);
+    let n = refused_if(reference, Refusal::RefClock, n);
+    let n = refused_if(divider, Refusal::RefDivider, n);
+    let n = refused_if(usb_pll, Refusal::UsbPll, n);
+    let n = refused_if(sys_pll, Refusal::SysPll, n);
+    let n = refused_if(startup, Refusal::StartupDelay, n);
+    let n = refused_if(settling, Refusal::SettlingTime, n);
+    let n = refused_if(ring_divider, Refusal::RingDivider, n);
+    let n = refused_if(strengths, Refusal::DriveStrength, n);
+    refused_if(over, Refusal::VoltageReading, n)
 }
 
-// The number of the refusal of settings at a reading, 0 where they are accepted, and their frequencies.
-#[derive(Clone, Copy)]
-pub struct Examined {
-    pub number: u8,
-    pub frequencies: Frequencies,
-}
-
-// Tests settings at a reading: 18 or 1 to 14 in `number`, 0 where they are accepted. The contract carries the types' bounds.
-pub fn examine(s: Settings, reading: u8) -> Examined
-    ensures { (result ≡ examined_of s reading) × (FractionFits s.board → Typed s) }
+// Tests settings at a reading and answers their frequencies; 18, then 1 to 14. The contract carries the types' bounds.
+pub fn examine(s: Settings, reading: u8) -> Result<Frequencies, Refusal>
+    ensures { (answer_of result ≡ examined_of s reading) × (FractionFits s.board → Typed s) }
 {
     let frequencies = settings::frequencies_of(s);
-    Examined {
-        number: refusal_of(s, frequencies, reading),
-        frequencies,
+    match refusal_of(s, frequencies, reading) {
+        Some(why) => Err(why),
+        None => Ok(frequencies),
     }
 }

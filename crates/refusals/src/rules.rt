@@ -4,8 +4,8 @@ ghost use Rattle.refusals.specs.Rules.{strength_over, strengths_over, ring_divid
 ghost use Rattle.refusals.specs.Rules.{startup_over};
 ghost use Rattle.refusals.specs.Rules.{divider_bad, reference_bad, whole_bad, peri_bad, aux_bad, rtc_bad};
 
-use config::{DriveStrength, OptionAux, OptionPeri, OptionRosc, OptionRtc};
-use settings::{OptionCrystal, OptionCycles};
+use config::{AuxClkConfig, DriveStrength, PeriClkSrc, RoscConfig, RtcClkConfig};
+use settings::Crystal;
 
 fn strength_over(g: DriveStrength) -> bool
     ensures { result ≡ strength_over g }
@@ -21,56 +21,47 @@ fn strength_over(g: DriveStrength) -> bool
 }
 
 // Refusal 1: a drive strength of the ring is over 7.
-pub fn strengths_over(ring: OptionRosc) -> bool
+#[tactic(auto, unfolding(crate::specs::Rules::strengths_over))]
+pub fn strengths_over(ring: Option<RoscConfig>) -> bool
     ensures { result ≡ strengths_over ring }
 {
-    match ring {
-        OptionRosc::Some(on) => {
-            let strengths = on.drive_strength;
-            strength_over(strengths)
-        }
-        OptionRosc::None => false,
-    }
+    ring.is_some_and(|on| strength_over(on.drive_strength))
 }
 
 // Refusal 2: the ring divider plus the chip's pass value does not fit the 16 bits of ROSC_DIV.
-pub fn ring_divider_over(pass: u16, ring: OptionRosc) -> bool
+#[tactic(auto, unfolding(crate::specs::Rules::ring_divider_over))]
+pub fn ring_divider_over(pass: u16, ring: Option<RoscConfig>) -> bool
     ensures { result ≡ ring_divider_over pass ring }
 {
-    match ring {
-        OptionRosc::Some(on) => 65535 < on.div as u32 + pass as u32,
-        OptionRosc::None => false,
-    }
+    ring.is_some_and(|on| 65535 < u32::from(on.div) + u32::from(pass))
 }
 
 // Refusal 3: the settling cycles do not fit in 32 bits.
-pub fn settling_over(settling: OptionCycles) -> bool
+#[tactic(auto, unfolding(crate::specs::Rules::settling_over))]
+pub fn settling_over(settling: Option<u64>) -> bool
     ensures { result ≡ settling_over settling }
 {
-    match settling {
-        OptionCycles::Some(cycles) => 4294967295 < cycles,
-        OptionCycles::None => false,
-    }
+    settling.is_some_and(|cycles| 4294967295 < cycles)
 }
 
 // Refusal 4: the startup delay does not fit in 14 bits.
-pub fn startup_over(crystal: OptionCrystal) -> bool
+#[tactic(auto, unfolding(crate::specs::Rules::startup_over))]
+pub fn startup_over(crystal: Option<Crystal>) -> bool
     ensures { result ≡ startup_over crystal }
 {
-    match crystal {
-        OptionCrystal::Some(on) => 16383 < on.delay,
-        OptionCrystal::None => false,
-    }
+    crystal.is_some_and(|on| 16383 < on.delay)
 }
 
 // Refusal 7, and part of 12 and 13: a divider is not 1 to 4.
+#[tactic(auto, unfolding(crate::specs::Rules::divider_bad))]
 pub fn divider_bad(div: u8) -> bool
     ensures { result ≡ divider_bad div }
 {
-    !base::in_range(1, 4, div as u64)
+    !(1..=4).contains(&div)
 }
 
 // Refusal 8: the reference clock has 0 Hz, or 512 MHz or more, for which the 9 bits of the tick are too few.
+#[tactic(auto, unfolding(crate::specs::Rules::reference_bad))]
 pub fn reference_bad(hz: u32) -> bool
     ensures { result ≡ reference_bad hz }
 {
@@ -78,40 +69,35 @@ pub fn reference_bad(hz: u32) -> bool
 }
 
 // Refusal 9, and part of 14: the whole part of a divider is not 1 to `top`.
+#[tactic(auto, unfolding(crate::specs::Rules::whole_bad))]
 pub fn whole_bad(top: u32, whole: u32) -> bool
     ensures { result ≡ whole_bad top whole }
 {
-    !base::in_range(1, top as u64, whole as u64)
+    !(1..=top).contains(&whole)
 }
 
 // Refusal 11: the peripheral clock is present and has 0 Hz.
-pub fn peri_bad(hz: u64, peri: OptionPeri) -> bool
+#[tactic(auto, unfolding(crate::specs::Rules::peri_bad))]
+pub fn peri_bad(hz: u64, peri: Option<PeriClkSrc>) -> bool
     ensures { result ≡ peri_bad hz peri }
 {
-    match peri {
-        OptionPeri::Some(_) => hz == 0,
-        OptionPeri::None => false,
-    }
+    peri.is_some() && hz == 0
 }
 
 // Refusals 12 and 13: the source has 0 Hz, the divider is not 1 to 4, or the phase is over 3.
-pub fn aux_bad(source: u32, aux: OptionAux) -> bool
+#[tactic(auto, unfolding(crate::specs::Rules::aux_bad))]
+pub fn aux_bad(source: u32, aux: Option<AuxClkConfig>) -> bool
     ensures { result ≡ aux_bad source aux }
 {
-    match aux {
-        OptionAux::Some(on) => (source == 0) | divider_bad(on.div) | (3 < on.phase),
-        OptionAux::None => false,
-    }
+    aux.is_some_and(|on| (source == 0) | divider_bad(on.div) | (3 < on.phase))
 }
 
 // Refusal 14: the source has 0 Hz, the whole part is not 1 to 16777215, the phase is over 3, or the RTC has over 65535 Hz.
-pub fn rtc_bad(source: u32, hz: u64, rtc: OptionRtc) -> bool
+#[tactic(auto, unfolding(crate::specs::Rules::rtc_bad))]
+pub fn rtc_bad(source: u32, hz: u64, rtc: Option<RtcClkConfig>) -> bool
     ensures { result ≡ rtc_bad source hz rtc }
 {
-    match rtc {
-        OptionRtc::Some(on) => {
-            (source == 0) | whole_bad(16777215, on.div_int) | (3 < on.phase) | (65535 < hz)
-        }
-        OptionRtc::None => false,
-    }
+    rtc.is_some_and(|on| {
+        (source == 0) | whole_bad(16777215, on.div_int) | (3 < on.phase) | (65535 < hz)
+    })
 }

@@ -8,7 +8,7 @@ use Rattle.chip.specs.declared.{Chip.Chip, Chip.TheVariants.Rp2040, Chip.TheVari
 use Rattle.step.specs.declared.Step.{Step}
 use Rattle.step.specs.Access.{read_at}
 use Rattle.step.specs.Kinds as kind
-use Rattle.registers.specs.declared.{Access.Access, Accessed.Accessed}
+use Rattle.registers.specs.declared.{Access.Access}
 use Rattle.registers.specs.Map.{RESET, RESET_DONE, CLK_REF_CTRL, CLK_REF_DIV, CLK_REF_SELECTED, CLK_SYS_CTRL}
 use Rattle.registers.specs.Map.{CLK_SYS_DIV, CLK_SYS_SELECTED}
 use Rattle.registers.specs.Map.{CLK_PERI_CTRL, CLK_USB_CTRL, CLK_USB_DIV, CLK_ADC_CTRL, CLK_ADC_DIV, CLK_RTC_CTRL}
@@ -25,23 +25,53 @@ use Rattle.registers.specs.Map.{VSEL, VSEL_235, BOD_EN, POWMAN_PASSWORD, CYCLES,
 
 -- no access
 abbrev pub nothing : Access
-nothing = record { op = 0; address = 0; mask = 0; value = 0 }
+nothing = Access.Nothing
 
 -- the whole register becomes the value
 abbrev pub write : ℕ → ℕ → Access
-write a v = record { op = 1; address = a; mask = whole; value = v }
+write a v = Access.Write a v
 
 -- the bits in the mask become those of the value, the others stay
 abbrev pub change : ℕ → ℕ → ℕ → Access
-change a m v = record { op = 2; address = a; mask = m; value = v }
+change a m v = Access.Change a m v
 
 -- wait until the bits in the mask equal the value
 abbrev pub await : ℕ → ℕ → ℕ → Access
-await a m v = record { op = 3; address = a; mask = m; value = v }
+await a m v = Access.Wait a m v
 
 -- let this many processor cycles pass
 abbrev pub pause : ℕ → Access
-pause cycles = record { op = 4; address = 0; mask = 0; value = cycles }
+pause cycles = Access.Pause cycles
+
+-- An access as numbers (docs/FORMAT.md): what it does, its address, its mask and its value. A write has all bits in its mask, a
+-- pause its cycles as its value; a number that an access lacks is 0.
+abbrev pub op_of : Access → ℕ
+op_of Access.Nothing = 0
+op_of (Access.Write a v) = 1
+op_of (Access.Change a m v) = 2
+op_of (Access.Wait a m v) = 3
+op_of (Access.Pause n) = 4
+
+abbrev pub address_of : Access → ℕ
+address_of Access.Nothing = 0
+address_of (Access.Write a v) = a
+address_of (Access.Change a m v) = a
+address_of (Access.Wait a m v) = a
+address_of (Access.Pause n) = 0
+
+abbrev pub mask_of : Access → ℕ
+mask_of Access.Nothing = 0
+mask_of (Access.Write a v) = whole
+mask_of (Access.Change a m v) = m
+mask_of (Access.Wait a m v) = m
+mask_of (Access.Pause n) = 0
+
+abbrev pub value_of : Access → ℕ
+value_of Access.Nothing = 0
+value_of (Access.Write a v) = v
+value_of (Access.Change a m v) = v
+value_of (Access.Wait a m v) = v
+value_of (Access.Pause n) = n
 
 -- the access of each kind, from kind 0, which no step has; c is the chip, s the step
 unfoldable pub rows : List (Chip → Step → Access)
@@ -114,8 +144,3 @@ access_for c (refusal n) = refusal n
 -- the access of the step at a position of a sheet; refusal 20 where there is no step of this chip
 unfoldable pub access_at : Chip → List ℕ → ℕ → Answer Access
 access_at c sheet position = access_for c (read_at sheet (8 * position))
-
--- the code's answers as answers of the definitions
-abbrev pub accessed_is : Accessed → Answer Access
-accessed_is (Accessed.Does a) = value a
-accessed_is (Accessed.Refused n) = refusal n

@@ -5,62 +5,95 @@
 mod place;
 mod row;
 
-ghost use Rattle.std.specs.Prelude.{◌≡◌};
-ghost use Rattle.registers.specs.Access.{has, access_of, access_at, accessed_is};
+ghost use Rattle.std.specs.Prelude.{◌≡◌, [], ◌∷◌};
+ghost use Rattle.registers.specs.Access.{op_of, address_of, mask_of, value_of, has, access_of, access_at};
+ghost use Rattle.base.specs.Answer.{answer_of};
 
+use base::Refusal;
 use chip::Chip;
-use step::{Step, Unpacked, kind};
+use step::{Step, kind};
 
-// An access, by its op: 0 does nothing, 1 writes the value to the whole register, 2 sets the bits in the mask to
-// those of the value, 3 waits until the bits in the mask equal the value, 4 lets `value` processor cycles pass.
-#[derive(Clone, Copy)]
-pub struct Access {
-    pub op: u8,
-    pub address: u32,
-    pub mask: u32,
-    pub value: u32,
+// All bits of a register.
+pub(crate) const WHOLE: u32 = 0xFFFFFFFF;
+
+// An access to a register.
+#[derive(Clone, Copy, PartialEq, Eq)]
+pub enum Access {
+    Nothing,
+    Write(u32, u32), // address, value: the value becomes the whole register
+    Change(u32, u32, u32), // address, mask, value: the bits in the mask become those of the value
+    Wait(u32, u32, u32), // address, mask, value: until the bits in the mask equal the value
+    Pause(u32), // for this many processor cycles
 }
 
-// An access, or the number of a refusal.
-#[derive(Clone, Copy)]
-pub enum Accessed {
-    Does(Access),
-    Refused(u8),
+impl Access {
+    // The number of what the access does.
+    pub fn op(self) -> u8
+        ensures { result ≡ op_of self }
+    {
+        match self {
+            Access::Nothing => 0,
+            Access::Write(_, _) => 1,
+            Access::Change(_, _, _) => 2,
+            Access::Wait(_, _, _) => 3,
+            Access::Pause(_) => 4,
+        }
+    }
+
+    // Its address, its mask and its value: a write has all bits in its mask, a pause its cycles as its value, and what an access
+    // lacks is 0.
+    pub fn numbers(self) -> [u32; 3]
+        ensures { result ≡ address_of self ∷ mask_of self ∷ value_of self ∷ [] }
+    {
+        match self {
+            Access::Nothing => [0, 0, 0],
+            Access::Write(address, value) => [address, WHOLE, value],
+            Access::Change(address, mask, value) | Access::Wait(address, mask, value) => [
+                address, mask, value,
+            ],
+            Access::Pause(cycles) => [0, 0, cycles],
+        }
+    }
 }
 
 // Whether the chip has this kind of step.
+#[tactic(auto, unfolding(crate::specs::Access::has))]
 fn has(chip: Chip, kind: u8) -> bool
     ensures { result ≡ has chip kind }
 {
     match chip {
-        Chip::Rp2040 => base::in_range(1, kind::STORE as u64, kind as u64),
+        Chip::Rp2040 => (1..=kind::STORE).contains(&kind),
         Chip::Rp235x => {
-            base::in_range(1, kind::SYS_DIVIDER_235 as u64, kind as u64)
-                & ((kind != kind::VOLTAGE)
-                    & ((kind != kind::BROWNOUT)
-                        & ((kind != kind::TICK)
-                            & ((kind != kind::SYS_DIVIDER)
-                                & ((kind != kind::RTC_DIVIDER) & (kind != kind::RTC_CONTROL))))))
+            (1..=kind::SYS_DIVIDER_235).contains(&kind)
+                && !matches!(
+                    kind,
+                    kind::VOLTAGE
+                        | kind::BROWNOUT
+                        | kind::TICK
+                        | kind::SYS_DIVIDER
+                        | kind::RTC_DIVIDER
+                        | kind::RTC_CONTROL
+                )
         }
     }
 }
 
 // Answers the access of a step on a chip; refuses with 20 a kind that the chip does not have.
-pub fn access_of(chip: Chip, s: Step) -> Accessed
-    ensures { accessed_is result ≡ access_of chip s }
+#[tactic(auto, unfolding(crate::specs::Access::access_of))]
+pub fn access_of(chip: Chip, s: Step) -> Result<Access, Refusal>
+    ensures { answer_of result ≡ access_of chip s }
 {
     if !has(chip, s.kind) {
-        return Accessed::Refused(20);
+        return Err(Refusal::NotASheet);
     }
-    Accessed::Does(row::row(chip, s))
+    Ok(row::row(chip, s))
 }
 
 // Answers the access of the step at a position of a sheet; refuses with 20 where no valid step of this chip is there.
-pub fn access_at(chip: Chip, sheet: &[u8], position: u32) -> Accessed
-    ensures { accessed_is result ≡ access_at chip sheet.now position }
+#[tactic(auto, unfolding(crate::specs::Access::access_at))]
+pub fn access_at(chip: Chip, sheet: &[u8], position: u32) -> Result<Access, Refusal>
+    ensures { answer_of result ≡ access_at chip sheet.now position }
 {
-    match step::read(sheet, 8 * base::wide(position) as usize) {
-        Unpacked::Step(s) => access_of(chip, s),
-        Unpacked::Refused(number) => Accessed::Refused(number),
-    }
+    let s = step::read(sheet, 8 * u64::from(position) as usize)?;
+    access_of(chip, s)
 }

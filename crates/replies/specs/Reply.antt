@@ -20,10 +20,13 @@ abbrev pub answer_text : {A : Type 0} → (A → List ℕ) → Answer A → List
 answer_text text (value a) = text a
 answer_text text (refusal n) = refused_text n
 
--- numbers in decimal, each after a space
+-- numbers in decimal, each after a space; `number` gives the number of an element
+abbrev pub spaced_by : {A : Type 0} → (A → ℕ) → List A → List ℕ
+spaced_by number [] = []
+spaced_by number (n ∷ ns) = 32 ∷ (decimal_of (number n) ++ spaced_by number ns)
+
 abbrev pub spaced : List ℕ → List ℕ
-spaced [] = []
-spaced (n ∷ ns) = 32 ∷ (decimal_of n ++ spaced ns)
+spaced = spaced_by (λ n. n)
 
 -- numbers in decimal, with one space between
 abbrev pub row_text : ℕ → List ℕ → List ℕ

@@ -15,8 +15,12 @@ use Rattle.settings.specs.{Settings.settings_of, Frequencies.ten_of, Typed.Typed
 use Rattle.refusals.specs.Refusals.{Accepted}
 use Rattle.sheet_steps.specs.Steps.{release_mask, clocks_part, steps_of}
 use Rattle.sheet.specs.Writer.{sheet_bytes}
-use Rattle.runner.specs.declared.{Runner.Runner, Stepped.Stepped}
-use Rattle.runner.specs.Run.{Progress, Outcome, reply_is, stepped_is, fresh, is_wait, advance_of, Begun, started_with, start_of}
+use Rattle.std.specs.Prelude.{Result}
+use Rattle.base.specs.declared.refusal.Refusal.{Refusal}
+use Rattle.runner.specs.declared.Runner.{Runner}
+use Rattle.runner.specs.declared.Reply.{Reply}
+use Rattle.base.specs.Answer.{answer_of}
+use Rattle.runner.specs.Run.{Outcome, outcome, fresh, is_wait, advance_of, Begun, started_with, start_of}
 use Rattle.runner.specs.Calls.{answers, ready_answer}
 use Rattle.bring_up.specs.Up.{plan_steps}
 use Rattle.bring_up.proofs.Run.{sheet-starts, sheet-answers, sheet-run}
@@ -24,12 +28,12 @@ use Rattle.report.specs.Report.{printed_numbers}
 use Rattle.report.specs.Ran.{released_in, released_by, last_released, runs, ran_of, report_numbers}
 
 -- one call, then the rest
-pub runs-next : (sheet : List ℕ) (left : ℕ) (r : Runner) (mask : ℕ) (s : Stepped) → 0 < left
-    → stepped_is s ≡ advance_of r sheet true
-    → runs sheet (left - 1) s.runner (released_by (reply_is s.reply) mask) ≡ runs sheet left r mask
+pub runs-next : (sheet : List ℕ) (left : ℕ) (r : Runner) (mask : ℕ) (reply : Result Reply Refusal) (next : Runner)
+    → 0 < left → outcome (answer_of reply) next ≡ advance_of r sheet true
+    → runs sheet (left - 1) next (released_by (answer_of reply) mask) ≡ runs sheet left r mask
 unfolding runs
-runs-next sheet zero r mask s some e = absurd (omega arith)
-runs-next sheet (suc n) r mask s some e =
+runs-next sheet zero r mask reply next some e = absurd (omega arith)
+runs-next sheet (suc n) r mask reply next some e =
     let one : suc n - 1 ≡ n = omega arith in
     rw one (ap (λ (x : Outcome Runner). runs sheet n x.next (released_by x.answer mask)) e)
 
@@ -79,7 +83,7 @@ answers-first : (sheet : List ℕ) (n : ℕ) (r : Runner)
 answers-first sheet zero r = refl
 answers-first sheet (suc n) r =
     let call = advance_of r sheet true in
-    ap (λ (l : List (Answer Progress)). call.answer ∷ l) (answers-first sheet n call.next)
+    ap (λ (l : List (Answer Reply)). call.answer ∷ l) (answers-first sheet n call.next)
 
 -- the sheet of an accepted plan at any reading: after one call for each step the numbers are those of the report
 module _ (p : ClockConfig) (r : ℕ) (ok : Accepted p r) (t : Typed (settings_of p r)) where

@@ -5,7 +5,8 @@ use native.Mathlib.Omega.{arith}
 use lib.Dec.{eqb, ltb}
 use Rattle.base.specs.{Choice.pick, Answer.value}
 use Rattle.chip.specs.declared.voltage.CoreVoltage.{CoreVoltage, TheVariants.V1_10, TheVariants.V1_15}
-use Rattle.config.specs.declared.{OptionPll.TheVariants.Some as pll, RoscRange.TheVariants.Medium}
+use Rattle.config.specs.declared.{RoscRange.TheVariants.Medium}
+use Rattle.std.specs.Prelude.{Some as pll}
 use Rattle.config.specs.declared.ClockConfig.{ClockConfig}
 use Rattle.divider.specs.{Clock.divided_hz, Delay.startup_sum, Delay.cycles_per_us, Delay.settling_cycles}
 use Rattle.pll.specs.declared.PllConfig.{PllConfig}

@@ -12,8 +12,12 @@ use Rattle.step.specs.Kinds as kind
 use Rattle.step.specs.{Access.read_at, Sheet.max_steps, Sheet.max_bytes}
 use Rattle.step.proofs.Sizes.{size_fits}
 use Rattle.runner.specs.declared.State.{State}
-use Rattle.runner.specs.Run.{Outcome, outcome, done, handed, passed, moved_on, polled, waits, is_wait, unready}
+use Rattle.runner.specs.declared.Reply.TheVariants.{Done, Handed, Passed}
+use Rattle.runner.specs.Run.{Outcome, outcome, moved_on, polled, waits, is_wait, one_more, unready}
 use Rattle.runner.specs.Run.{take_step, take_read, outside, onward_of, turn_of}
+use Rattle.std.specs.Prelude.{min}
+use Rattle.std.proofs.Common.{rules}
+use Rattle.std.proofs.lemmas.Bool.Decides.{nat_tests}
 use Rattle.text.specs.Ascii.{same}
 use Rattle.step.specs.Size.{bad_size}
 
@@ -27,11 +31,11 @@ module _ (s : State) (len : ℕ) (o : outside s len ≡ false) where
       let both = both_false (ltb max_steps s.position) (ltb 999999 s.lock_polls) ranged.0 in
       (ltb-false max_steps s.position both.0, omega (arith, ltb-false 999999 s.lock_polls both.1))
 
-  pub len-fits : len ≤ max_bytes
-  len-fits = size_fits len ranged.1
+  pub len_fits : len ≤ max_bytes
+  len_fits = size_fits len ranged.1
 
 module _ (s : State) (sheet : List ℕ) (ready : Bool) where
-  pub onward-done : length sheet ≤ 8 * s.position → outcome (value done) s ≡ onward_of s sheet ready
+  pub onward-done : length sheet ≤ 8 * s.position → outcome (value Done) s ≡ onward_of s sheet ready
   unfolding onward_of
   onward-done h = simp (le-leb _ _ h)
 
@@ -45,19 +49,10 @@ module _ (s : State) (len : ℕ) (kept sheet : List ℕ) (ready : Bool) where
   unfolding turn_of
   call-outside o = simp o
 
-  module _ (o : outside s len ≡ false) where
-    pub call-stopped : s.stopped ≡ true → outcome (refusal 22) s ≡ turn_of s len kept sheet ready
-    unfolding turn_of
-    call-stopped t = simp (o, t)
-
-    module _ (t : s.stopped ≡ false) where
-      pub call-differs : same (take len kept) sheet ≡ false → outcome (refusal 27) s ≡ turn_of s len kept sheet ready
-      unfolding turn_of
-      call-differs d = simp (o, t, d)
-
-      pub call-goes : same (take len kept) sheet ≡ true → onward_of s sheet ready ≡ turn_of s len kept sheet ready
-      unfolding turn_of
-      call-goes d = simp (o, t, d)
+  pub call-goes : outside s len ≡ false → s.stopped ≡ false → same (take len kept) sheet ≡ true
+      → onward_of s sheet ready ≡ turn_of s len kept sheet ready
+  unfolding turn_of
+  call-goes o t d = simp (o, t, d)
 
 pub both : {A : Type 0} (P : A → Type 0) (b : Bool) (x y : A) → P x → P y → P (pick b x y)
 both P true x y p q = p
@@ -66,10 +61,10 @@ both P false x y p q = q
 -- a property of every outcome that the rules name holds of a call
 module _ (P : Outcome State → Type 0) (s : State) (len : ℕ) (kept sheet : List ℕ) (ready : Bool)
     (refuses : (n : ℕ) → P (outcome (refusal n) s))
-    (ends : P (outcome (value done) s)) (passes : P (outcome (value passed) (moved_on s 0)))
+    (ends : P (outcome (value Done) s)) (passes : P (outcome (value Passed) (moved_on s 0)))
     (stays : (polls : ℕ) → P (waits s polls)) (stops : P (outcome (refusal 22) (polled s s.lock_polls true)))
     (hands : (step : Step) → read_at sheet (8 * s.position) ≡ value step
-    → P (outcome (value (handed step)) (moved_on s s.lock_polls))) where
+    → P (outcome (value (Handed step)) (moved_on s s.lock_polls))) where
   polls : (wait : ℕ) → P (unready s wait)
   unfolding unready
   polls wait =
@@ -89,3 +84,8 @@ module _ (P : Outcome State → Type 0) (s : State) (len : ℕ) (kept sheet : Li
       (both P s.stopped _ _ (refuses 22)
       (both P (not (same (take len kept) sheet)) _ _ (refuses 27)
       (both P (leb (length sheet) (8 * s.position)) _ _ ends (reads (read_at sheet (8 * s.position)) refl))))
+
+-- the saturating sum of 32 bits
+pub one_more_is : (total : ℕ) → total < 4294967296 → min (total + 1) 4294967295 ≡ one_more total
+unfolding one_more
+one_more_is total h = search (rules, nat_tests)

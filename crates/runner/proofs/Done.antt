@@ -8,16 +8,18 @@ use Rattle.step.specs.declared.Step.{Step}
 use Rattle.step.specs.Kinds as kind
 use Rattle.step.specs.Access.{read_at}
 use Rattle.runner.specs.declared.{State.State, Runner.Runner}
-use Rattle.runner.specs.Run.{Progress, done, handed, passed, waiting, Outcome, outcome, is_wait, unready, take_step}
+use Rattle.runner.specs.declared.Reply.{Reply}
+use Rattle.runner.specs.declared.Reply.TheVariants.{Done, Handed, Passed, Waiting}
+use Rattle.runner.specs.Run.{Outcome, outcome, is_wait, unready, take_step}
 use Rattle.runner.specs.Run.{take_read, outside, onward_of, turn_of, stepper_of, advance_of}
 use Rattle.text.specs.Ascii.{same}
 use Rattle.runner.proofs.Calls.{both}
 
-abbrev NotDone : Answer Progress → Type 0
-NotDone (value done) = ⊥
-NotDone (value (handed step)) = Unit {0}
-NotDone (value passed) = Unit {0}
-NotDone (value waiting) = Unit {0}
+abbrev NotDone : Answer Reply → Type 0
+NotDone (value Done) = ⊥
+NotDone (value (Handed step)) = Unit {0}
+NotDone (value Passed) = Unit {0}
+NotDone (value Waiting) = Unit {0}
 NotDone (refusal n) = Unit {0}
 
 not-at-step : (s : State) (a : Answer Step) (ready : Bool) → NotDone (take_read s a ready).answer
@@ -32,7 +34,7 @@ not-at-step s (refusal n) ready = tt
 
 -- a call does not answer done, or every call does
 either : (s : State) (len : ℕ) (kept sheet : List ℕ) (heard ready : Bool)
-    → NotDone (turn_of s len kept sheet heard).answer ⊎ (turn_of s len kept sheet ready ≡ outcome (value done) s)
+    → NotDone (turn_of s len kept sheet heard).answer ⊎ (turn_of s len kept sheet ready ≡ outcome (value Done) s)
 unfolding turn_of onward_of
 either s len kept sheet heard ready =
     go (outside s len) s.stopped (not (same (take len kept) sheet)) (leb (length sheet) (8 * s.position)) _ _
@@ -41,10 +43,10 @@ either s len kept sheet heard ready =
     calls : Bool → Bool → Bool → Bool → Outcome State → Outcome State
     calls a b c d x =
         pick a (outcome (refusal 21) s)
-        (pick b (outcome (refusal 22) s) (pick c (outcome (refusal 27) s) (pick d (outcome (value done) s) x)))
+        (pick b (outcome (refusal 22) s) (pick c (outcome (refusal 27) s) (pick d (outcome (value Done) s) x)))
 
     go : (a b c d : Bool) (x y : Outcome State) → NotDone x.answer
-        → NotDone (calls a b c d x).answer ⊎ (calls a b c d y ≡ outcome (value done) s)
+        → NotDone (calls a b c d x).answer ⊎ (calls a b c d y ≡ outcome (value Done) s)
     go true b c d x y n = inl tt
     go false true c d x y n = inl tt
     go false false true d x y n = inl tt
@@ -52,8 +54,8 @@ either s len kept sheet heard ready =
     go false false false false x y n = inl n
 
 -- a runner that answers done answers done at each call, ready or not, and stays as it is
-pub done-stays : (r : Runner) (sheet : List ℕ) (heard ready : Bool) → (advance_of r sheet heard).answer ≡ value done
-    → advance_of r sheet ready ≡ outcome (value done) r
+pub done-stays : (r : Runner) (sheet : List ℕ) (heard ready : Bool) → (advance_of r sheet heard).answer ≡ value Done
+    → advance_of r sheet ready ≡ outcome (value Done) r
 unfolding advance_of stepper_of
 done-stays r sheet heard ready e = go (either s r.len r.kept sheet heard ready)
   where
@@ -61,7 +63,7 @@ done-stays r sheet heard ready e = go (either s r.len r.kept sheet heard ready)
     s = r.stepper.state
 
     go : NotDone (turn_of s r.len r.kept sheet heard).answer
-        ⊎ (turn_of s r.len r.kept sheet ready ≡ outcome (value done) s)
-        → advance_of r sheet ready ≡ outcome (value done) r
+        ⊎ (turn_of s r.len r.kept sheet ready ≡ outcome (value Done) s)
+        → advance_of r sheet ready ≡ outcome (value Done) r
     go (inl n) = absurd (rw e at n)
     go (inr t) = rw t

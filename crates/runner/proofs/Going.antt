@@ -9,7 +9,8 @@ use Rattle.step.specs.declared.Step.{Step}
 use Rattle.step.specs.Kinds as kind
 use Rattle.step.specs.{Access.read_at, Sheet.max_steps, Sheet.max_bytes}
 use Rattle.runner.specs.declared.{State.State, Runner.Runner}
-use Rattle.runner.specs.Run.{done, handed, passed, waiting, Outcome, outcome, is_wait, one_more, moved_on, unready}
+use Rattle.runner.specs.declared.Reply.TheVariants.{Done, Handed, Passed, Waiting}
+use Rattle.runner.specs.Run.{Outcome, outcome, is_wait, one_more, moved_on, unready}
 use Rattle.runner.specs.Run.{take_step, take_read, outside, padded, with_stepper, started_with, onward_of, turn_of}
 use Rattle.runner.specs.Run.{stored_by, joined, in_runner, stepper_of, advance_of}
 use Rattle.step.specs.Size.{bad_size}
@@ -38,13 +39,13 @@ wait-stores step freqs w = go (eqb step.kind kind.store) refl
 
 -- a step that is no wait is handed out
 pub hands : (s : State) (step : Step) (ready : Bool) → is_wait step.kind ≡ false
-    → take_step s step ready ≡ outcome (value (handed step)) (moved_on s s.lock_polls)
+    → take_step s step ready ≡ outcome (value (Handed step)) (moved_on s s.lock_polls)
 unfolding take_step
 hands s step ready w = simp w
 
 -- a wait with the ready flag is passed
 pub passes : (s : State) (step : Step) → is_wait step.kind ≡ true
-    → take_step s step true ≡ outcome (value passed) (moved_on s 0)
+    → take_step s step true ≡ outcome (value Passed) (moved_on s 0)
 unfolding take_step
 passes s step w = simp w
 
@@ -52,7 +53,7 @@ passes s step w = simp w
 pub record Polled (p polls total : ℕ) (step : Step) : Type 0 where
   pub now : ℕ
   pub more : now ≤ polls + 1
-  pub is : take_step (going p polls total) step false ≡ outcome (value waiting) (going p now (one_more total))
+  pub is : take_step (going p polls total) step false ≡ outcome (value Waiting) (going p now (one_more total))
 
 at-unready : (s : State) (step : Step) → is_wait step.kind ≡ true → take_step s step false ≡ unready s step.kind
 unfolding take_step
@@ -91,7 +92,7 @@ module _ (sheet : List ℕ) (n : ℕ) (few : n ≤ max_steps) (size : length she
 
   -- a call past the last step answers done
   pub done_at : (total : ℕ) (freqs : List ℕ) (ready : Bool)
-      → advance_of (standing sheet n 0 total freqs) sheet ready ≡ outcome (value done) (standing sheet n 0 total freqs)
+      → advance_of (standing sheet n 0 total freqs) sheet ready ≡ outcome (value Done) (standing sheet n 0 total freqs)
   unfolding advance_of stepper_of
   done_at total freqs ready =
       rw (goes n 0 total ready (omega arith) (omega arith)

@@ -10,7 +10,9 @@ use Rattle.step.specs.declared.Step.{Step}
 use Rattle.step.specs.{Access.read_at, Sheet.max_steps, Sheet.encoded, Sheet.AllFormed}
 use Rattle.step.proofs.Sheets.{length-encoded, read-encoded}
 use Rattle.runner.specs.declared.Runner.{Runner}
-use Rattle.runner.specs.Run.{Progress, done, Outcome, outcome, is_wait, take_step, stored_by, freqs_after, started_with, advance_of}
+use Rattle.runner.specs.declared.Reply.{Reply}
+use Rattle.runner.specs.declared.Reply.TheVariants.{Done}
+use Rattle.runner.specs.Run.{Outcome, outcome, is_wait, take_step, stored_by, freqs_after, started_with, advance_of}
 use Rattle.runner.specs.Calls.{answers, after, ready_answer, stores_of, ready_state, ready_at}
 use Rattle.runner.proofs.Going.{wait-stores, done_at, step-at}
 
@@ -41,7 +43,7 @@ module _ (sheet : List ℕ) (n : ℕ) (few : n ≤ max_steps) (size : length she
   -- a runner before the steps ts takes all of them, then answers done
   record Through (p : ℕ) (freqs : List ℕ) (ts : List Step) : Type 0 where
     answered : answers (ready_at sheet p freqs) sheet (replicate (suc (length ts)) true)
-        ≡ map ready_answer ts ++ (value done ∷ [])
+        ≡ map ready_answer ts ++ (value Done ∷ [])
     left : after (ready_at sheet p freqs) sheet (replicate (length ts) true) ≡ ready_at sheet n (stores_of ts freqs)
 
   through : (d : Step) (ts : List Step) (p : ℕ) (freqs : List ℕ) → p + length ts ≡ n
@@ -54,7 +56,7 @@ module _ (sheet : List ℕ) (n : ℕ) (few : n ≤ max_steps) (size : length she
       let rest = through d ts (p + 1) (stored_by step freqs) (omega arith)
       (λ i h. let next : p + suc i ≡ p + 1 + i = omega arith in rw next at (reads (suc i) (omega arith))) in
       record {
-        answered = rw call (ap (λ (l : List (Answer Progress)). ready_answer step ∷ l) rest.answered);
+        answered = rw call (ap (λ (l : List (Answer Reply)). ready_answer step ∷ l) rest.answered);
         left = ap (λ (x : Outcome Runner). after x.next sheet (replicate (length ts) true)) call ∙ rest.left;
       }
 
@@ -67,7 +69,7 @@ all xs f few =
 
 -- every step is answered in order, then done
 pub ready-answers : (xs : List Step) → AllFormed xs → length xs ≤ max_steps
-    → answers (started_with (encoded xs)) (encoded xs) (replicate (length xs + 1) true) ≡ map ready_answer xs ++ (value done ∷ [])
+    → answers (started_with (encoded xs)) (encoded xs) (replicate (length xs + 1) true) ≡ map ready_answer xs ++ (value Done ∷ [])
 ready-answers xs f few = rw add-one (all xs f few).answered
 
 -- after one call for each step the frequencies are those that the sheet stores

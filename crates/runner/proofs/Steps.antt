@@ -20,15 +20,15 @@ left true b t = tt
 left false b t = t
 
 -- a store names one of the ten clocks, and its Hz fit 32 bits
-pub store-fits : (s : Step) → WellFormed s → s.kind ≡ kind.store → (s.f0 < 10) × (s.f1 < 4294967296)
+pub store_fits : (s : Step) → WellFormed s → s.kind ≡ kind.store → (s.f0 < 10) × (s.f1 < 4294967296)
 unfolding rows width widths storable
-store-fits s w k =
+store_fits s w k =
     let fill = rw k at w.fill in
     let stores : T (storable kind.store s.f0 s.f1) = rw k at w.stores in
     (omega (arith, leb→le s.f0 9 (left (leb s.f0 9) _ stores)), fill.1.1.0)
 
-pub turn-formed : (s : State) (len : ℕ) (kept sheet : List ℕ) (ready : Bool)
+pub turn_formed : (s : State) (len : ℕ) (kept sheet : List ℕ) (ready : Bool)
     → HandsFormed (turn_of s len kept sheet ready).answer
-turn-formed s len kept sheet ready =
+turn_formed s len kept sheet ready =
     every-turn (λ (x : Outcome State). HandsFormed x.answer) s len kept sheet ready (λ n. tt) tt tt
     (λ polls. tt) tt (read-formed sheet (8 * s.position))

@@ -3,7 +3,8 @@ use mathlib.Core.{Bool.Bool, Bool.true, Bool.false, List.List, List.[], List.◌
 use Prim.Native.Nat.{ℕ}
 use Rattle.base.specs.{Answer.Answer, Answer.value, Answer.refusal, Choice.pick}
 use Rattle.runner.specs.declared.{State.State, Stepper.Stepper, Runner.Runner}
-use Rattle.runner.specs.Run.{Progress, Outcome, outcome, polled, outside, turn_of, joined, stepper_of, in_runner, advance_of}
+use Rattle.runner.specs.declared.Reply.{Reply}
+use Rattle.runner.specs.Run.{Outcome, outcome, polled, outside, turn_of, joined, stepper_of, in_runner, advance_of}
 use Rattle.runner.specs.Calls.{after, Untouched, stepper_timed_out, timed_out}
 use Rattle.runner.proofs.Calls.{every-turn}
 
@@ -34,7 +35,7 @@ with-freqs : (b : Stepper) (t : Outcome State) → Kept b.state t
     → Untouched b (stepper_timed_out b) (joined t b.freqs)
 with-freqs b t = go t.answer t.next
   where
-    go : (a : Answer Progress) (s : State) → Kept b.state (outcome a s)
+    go : (a : Answer Reply) (s : State) → Kept b.state (outcome a s)
         → Untouched b (stepper_timed_out b) (joined (outcome a s) b.freqs)
     go (value p) s k = tt
     go (refusal n) s (inl e) = inl (rw e)
@@ -51,7 +52,7 @@ with-kept : (r : Runner) (x : Outcome Stepper) → Untouched r.stepper (stepper_
     → Untouched r (timed_out r) (in_runner r x)
 with-kept r x = go x.answer x.next
   where
-    go : (a : Answer Progress) (b : Stepper) → Untouched r.stepper (stepper_timed_out r.stepper) (outcome a b)
+    go : (a : Answer Reply) (b : Stepper) → Untouched r.stepper (stepper_timed_out r.stepper) (outcome a b)
         → Untouched r (timed_out r) (in_runner r (outcome a b))
     go (value p) b k = tt
     go (refusal n) b (inl e) = inl (rw e)

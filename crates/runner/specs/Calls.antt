@@ -5,10 +5,12 @@ use Rattle.base.specs.{Answer.Answer, Answer.value, Answer.refusal, Choice.pick}
 use Rattle.step.specs.declared.Step.{Step}
 use Rattle.runner.specs.declared.{State.State, Stepper.Stepper, Runner.Runner}
 use Rattle.text.specs.Ascii.{same}
-use Rattle.runner.specs.Run.{Progress, handed, passed, Outcome, is_wait, polled, stored_by, with_stepper, started_with, advance_of}
+use Rattle.runner.specs.declared.Reply.{Reply}
+use Rattle.runner.specs.declared.Reply.TheVariants.{Handed, Passed}
+use Rattle.runner.specs.Run.{Outcome, is_wait, polled, stored_by, with_stepper, started_with, advance_of}
 
 -- the answers of the calls
-abbrev pub answers : Runner → List ℕ → List Bool → List (Answer Progress)
+abbrev pub answers : Runner → List ℕ → List Bool → List (Answer Reply)
 answers r sheet [] = []
 answers r sheet (ready ∷ flags) =
     let call = advance_of r sheet ready in
@@ -34,8 +36,8 @@ flags_of sheet (call given ready ∷ calls) =
     pick (same sheet given) (ready ∷ flags_of sheet calls) (flags_of sheet calls)
 
 -- the answer of a ready call at a step: a wait is passed, any other step is handed out
-abbrev pub ready_answer : Step → Answer Progress
-ready_answer step = value (pick (is_wait step.kind) passed (handed step))
+abbrev pub ready_answer : Step → Answer Reply
+ready_answer step = value (pick (is_wait step.kind) Passed (Handed step))
 
 -- the ten frequencies after steps, in their order
 abbrev pub stores_of : List Step → List ℕ → List ℕ
@@ -54,7 +56,7 @@ ready_at sheet position freqs = with_stepper (started_with sheet) (record { stat
 abbrev pub Untouched : {A : Type 0} → A → A → Outcome A → Type 0
 Untouched {A} same timed_out x = go x.answer x.next
   where
-    go : Answer Progress → A → Type 0
+    go : Answer Reply → A → Type 0
     go (value p) y = Unit {0}
     go (refusal n) y = (y ≡ same) ⊎ ((n ≡ 22) × (y ≡ timed_out))
 

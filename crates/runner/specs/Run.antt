@@ -9,60 +9,23 @@ use Rattle.step.specs.declared.Step.{Step}
 use Rattle.step.specs.Kinds as kind
 use Rattle.step.specs.{Access.read_at, Sheet.max_steps, Sheet.max_bytes, Steps.WellFormed}
 use Rattle.step.specs.Size.{bad_size}
-use Rattle.runner.specs.declared.{Reply.Reply, State.State, Stepper.Stepper, Runner.Runner, Turned.Turned}
-use Rattle.runner.specs.declared.{Moved.Moved, Stepped.Stepped, Opening.Opening, Opened.Opened}
+use Rattle.runner.specs.declared.{Reply.Reply, State.State, Stepper.Stepper, Runner.Runner}
+use Rattle.runner.specs.declared.Reply.TheVariants.{Done, Handed, Passed, Waiting}
 
--- the answer of a call that is not refused
-pub data Progress : Type 0 where
-  done : Progress
-  handed : Step → Progress
-  passed : Progress
-  waiting : Progress
-
--- the answer of a start that is not refused
-pub data Go : Type 0 where
-  started : Go
-
--- the answer of a call or a start, and the state, stepper or runner after it
+-- the answer of a call or a start, and the state, stepper, runner or bench after it
 pub record Leaves (P A : Type 0) : Type 0 where
   pub answer : Answer P
   pub next : A
 
 abbrev pub Outcome : Type 0 → Type 0
-Outcome A = Leaves Progress A
+Outcome A = Leaves Reply A
 
+-- a start that is not refused answers nothing more
 abbrev pub Begun : Type 0 → Type 0
-Begun A = Leaves Go A
+Begun A = Leaves Unit A
 
-abbrev pub outcome : {A : Type 0} → Answer Progress → A → Outcome A
+abbrev pub outcome : {P A : Type 0} → Answer P → A → Leaves P A
 outcome a x = record { answer = a; next = x }
-
-abbrev pub begun : {A : Type 0} → Answer Go → A → Begun A
-begun a x = record { answer = a; next = x }
-
--- the code's answers as answers of the definitions
-abbrev pub reply_is : Reply → Answer Progress
-reply_is Reply.Done = value done
-reply_is (Reply.Handed s) = value (handed s)
-reply_is Reply.Passed = value passed
-reply_is Reply.Waiting = value waiting
-reply_is (Reply.Refused n) = refusal n
-
-abbrev pub opening_is : Opening → Answer Go
-opening_is Opening.Started = value started
-opening_is (Opening.Refused n) = refusal n
-
-abbrev pub turned_is : Turned → Outcome State
-turned_is t = outcome (reply_is t.reply) t.state
-
-abbrev pub moved_is : Moved → Outcome Stepper
-moved_is m = outcome (reply_is m.reply) m.stepper
-
-abbrev pub stepped_is : Stepped → Outcome Runner
-stepped_is s = outcome (reply_is s.reply) s.runner
-
-abbrev pub opened_is : Opened → Begun Runner
-opened_is o = begun (opening_is o.reply) o.runner
 
 -- all numbers 0, and not stopped
 abbrev pub fresh_stepper : Stepper
@@ -100,7 +63,7 @@ polled s polls stopped =
     record { position = s.position; lock_polls = polls; total = one_more s.total; stopped = stopped }
 
 abbrev pub waits : State → ℕ → Outcome State
-waits s polls = outcome (value waiting) (polled s polls s.stopped)
+waits s polls = outcome (value Waiting) (polled s polls s.stopped)
 
 -- rule 8 of a call: unready is waiting, and at the wait for lock adds one lock poll; the 1000000th of these is
 -- refused with 22 and stops the runner
@@ -114,8 +77,8 @@ unready s wait =
 unfoldable pub take_step : State → Step → Bool → Outcome State
 take_step s step ready =
     pick (is_wait step.kind)
-    (pick ready (outcome (value passed) (moved_on s 0)) (unready s step.kind))
-    (outcome (value (handed step)) (moved_on s s.lock_polls))
+    (pick ready (outcome (value Passed) (moved_on s 0)) (unready s step.kind))
+    (outcome (value (Handed step)) (moved_on s s.lock_polls))
 
 -- the step at the position, or the refusal of its bytes
 unfoldable pub take_read : State → Answer Step → Bool → Outcome State
@@ -129,7 +92,7 @@ outside s len = (ltb max_steps s.position || ltb 999999 s.lock_polls) || bad_siz
 -- done past the last step, else the step
 unfoldable pub onward_of : State → List ℕ → Bool → Outcome State
 onward_of s sheet ready =
-    pick (leb (length sheet) (8 * s.position)) (outcome (value done) s)
+    pick (leb (length sheet) (8 * s.position)) (outcome (value Done) s)
     (take_read s (read_at sheet (8 * s.position)) ready)
 
 -- a call: refusal 21, then 22 for a stopped runner, then 27 for a sheet other than the kept one, then done or the step
@@ -145,19 +108,19 @@ unfoldable pub stored_by : Step → List ℕ → List ℕ
 stored_by step freqs = pick (eqb step.kind kind.store) (set freqs step.f0 step.f1) freqs
 
 -- the ten frequencies after an answer: a step stores when it is handed out
-abbrev pub freqs_after : Answer Progress → List ℕ → List ℕ
-freqs_after (value done) freqs = freqs
-freqs_after (value (handed step)) freqs = stored_by step freqs
-freqs_after (value passed) freqs = freqs
-freqs_after (value waiting) freqs = freqs
+abbrev pub freqs_after : Answer Reply → List ℕ → List ℕ
+freqs_after (value Done) freqs = freqs
+freqs_after (value (Handed step)) freqs = stored_by step freqs
+freqs_after (value Passed) freqs = freqs
+freqs_after (value Waiting) freqs = freqs
 freqs_after (refusal n) freqs = freqs
 
 -- a step that is handed out is well-formed
-abbrev pub HandsFormed : Answer Progress → Type 0
-HandsFormed (value done) = Unit {0}
-HandsFormed (value (handed step)) = WellFormed step
-HandsFormed (value passed) = Unit {0}
-HandsFormed (value waiting) = Unit {0}
+abbrev pub HandsFormed : Answer Reply → Type 0
+HandsFormed (value Done) = Unit {0}
+HandsFormed (value (Handed step)) = WellFormed step
+HandsFormed (value Passed) = Unit {0}
+HandsFormed (value Waiting) = Unit {0}
 HandsFormed (refusal n) = Unit {0}
 
 abbrev pub joined : Outcome State → List ℕ → Outcome Stepper
@@ -188,4 +151,4 @@ started_with sheet = record { kept = padded sheet; len = length sheet; stepper =
 -- a start: refusal 20 for a length that no sheet has, which changes nothing; else a fresh runner with the sheet,
 -- whatever it was before
 unfoldable pub start_of : Runner → List ℕ → Begun Runner
-start_of r sheet = pick (bad_size (length sheet)) (begun (refusal 20) r) (begun (value started) (started_with sheet))
+start_of r sheet = pick (bad_size (length sheet)) (outcome (refusal 20) r) (outcome (value tt) (started_with sheet))

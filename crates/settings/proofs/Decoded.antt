@@ -1,4 +1,5 @@
 -- Each code of a range or a source decodes to the range or the source that it was made of, and fits the bits of its field.
+use Rattle.std.specs.Prelude.{Option}
 use mathlib.Core.{Path.◌≡◌, Path.refl, Bool.Bool, Bool.true, Bool.false}
 use Prim.Native.Nat.{ℕ, ◌%◌, ◌≤◌, ◌<◌}
 use native.Mathlib.Omega.{arith}
@@ -21,8 +22,8 @@ use Rattle.config.specs.declared.PeriClkSrc.TheVariants.{Sys as peri_sys, PllSys
 use Rattle.config.specs.declared.PeriClkSrc.TheVariants.{Rosc as peri_rosc, Xosc as peri_xosc}
 use Rattle.config.specs.declared.AuxClkSrc.{AuxClkSrc}
 use Rattle.config.specs.declared.AuxClkSrc.TheVariants.{PllUsb as aux_pll_usb, PllSys as aux_pll_sys, Rosc as aux_rosc, Xosc as aux_xosc}
-use Rattle.config.specs.declared.OptionAux.{OptionAux}
-use Rattle.config.specs.declared.OptionAux.TheVariants.{Some as aux, None as no_aux}
+use Rattle.config.specs.declared.AuxClkConfig.{AuxClkConfig}
+use Rattle.std.specs.Prelude.{Some as aux, None as no_aux}
 use Rattle.config.specs.Board.{board_of}
 use Rattle.settings.specs.Codes.{range_code, ref_code, sys_select, sys_aux, peri_aux, aux_code, range_from, ref_from}
 use Rattle.settings.specs.Codes.{peri_from, aux_from, div_from, chip_from}
@@ -72,7 +73,7 @@ board-small (on235x c) = (code-small Rp235x c.core_voltage, bod-small Rp235x c.c
 abbrev pub Small : ℕ → Type 0
 Small d = (1 ≤ d) × (d ≤ 4)
 
-abbrev pub AuxSmall : OptionAux → Type 0
+abbrev pub AuxSmall : Option AuxClkConfig → Type 0
 AuxSmall (aux a) = Small a.div
 AuxSmall no_aux = Unit {0}
 

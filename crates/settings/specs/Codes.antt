@@ -1,11 +1,12 @@
 -- The codes of ranges and clock sources in steps, and their decoding (docs/FORMAT.md, Codes).
+use Rattle.std.specs.Prelude.{Option}
 use Rattle.std.specs.Prelude.{ℕ, ◌-◌, eqb}
 use Rattle.base.specs.{Choice.pick, Answer.Answer, Answer.value, Answer.refusal}
 use Rattle.chip.specs.declared.{Chip.Chip, Chip.TheVariants.Rp2040, Chip.TheVariants.Rp235x}
 use Rattle.chip.specs.declared.voltage.{CoreVoltage.CoreVoltage, CoreVoltage235.CoreVoltage235}
 use Rattle.chip.specs.Voltage.{core_voltage_of}
 use Rattle.config.specs.declared.{RoscRange.RoscRange, RefClkSrc.RefClkSrc, SysClkSrc.SysClkSrc, PeriClkSrc.PeriClkSrc}
-use Rattle.config.specs.declared.{AuxClkSrc.AuxClkSrc, OptionRtc.OptionRtc, ChipConfig.ChipConfig}
+use Rattle.config.specs.declared.{AuxClkSrc.AuxClkSrc, RtcClkConfig.RtcClkConfig, ChipConfig.ChipConfig}
 
 -- Kind 12: the range of the ring oscillator.
 abbrev pub range_code : RoscRange → ℕ
@@ -88,7 +89,7 @@ value_or other (value v) = v
 value_or other (refusal n) = other
 
 -- The chip-specific part of a plan from voltage code, system divider and RTC; an unknown voltage code gives 1.10 V.
-abbrev pub chip_from : Chip → ℕ → ℕ → ℕ → OptionRtc → ChipConfig
+abbrev pub chip_from : Chip → ℕ → ℕ → ℕ → Option RtcClkConfig → ChipConfig
 chip_from Rp2040 code whole fraction clock =
     ChipConfig.Rp2040
     (record {

@@ -1,32 +1,35 @@
 -- The frequency of each clock in Hz, 0 where it is absent (docs/FORMAT.md, Frequencies and delays).
 -- These are the ten values that a sheet stores.
+use Rattle.std.specs.Prelude.{Option, Some, None}
+use Rattle.config.specs.declared.RoscConfig.{RoscConfig}
 use Rattle.std.specs.Prelude.{ℕ, ◌/◌, List, [], ◌∷◌, ◌++◌}
 use Rattle.chip.specs.declared.{Chip.Chip, Chip.TheVariants.Rp2040, Chip.TheVariants.Rp235x}
 use Rattle.chip.specs.Chips.{facts_of}
 use Rattle.divider.specs.Clock.{divided_hz}
 use Rattle.pll.specs.Setting.{valid_hz}
-use Rattle.config.specs.declared.{OptionRosc.OptionRosc, OptionPll.OptionPll, RefClkSrc.RefClkSrc, SysClkSrc.SysClkSrc}
-use Rattle.config.specs.declared.{PeriClkSrc.PeriClkSrc, RefClkConfig.RefClkConfig, Board.Board, OptionPeri.OptionPeri}
-use Rattle.config.specs.declared.{AuxClkSrc.AuxClkSrc, OptionAux.OptionAux, OptionRtc.OptionRtc}
-use Rattle.settings.specs.declared.{OptionCrystal.OptionCrystal, Settings.Settings, Sources.Sources}
+use Rattle.config.specs.declared.{RefClkSrc.RefClkSrc, SysClkSrc.SysClkSrc}
+use Rattle.pll.specs.declared.PllConfig.{PllConfig}
+use Rattle.config.specs.declared.{PeriClkSrc.PeriClkSrc, RefClkConfig.RefClkConfig, Board.Board}
+use Rattle.config.specs.declared.{AuxClkSrc.AuxClkSrc, AuxClkConfig.AuxClkConfig, RtcClkConfig.RtcClkConfig}
+use Rattle.settings.specs.declared.{Crystal.Crystal, Settings.Settings, Sources.Sources}
 use Rattle.settings.specs.declared.Frequencies.{Frequencies}
 use Rattle.settings.specs.Settings.{ring_hz}
 
 -- An invalid PLL counts as 0 Hz; this value reaches no sheet, as the plan is refused with 5 or 6.
-unfoldable pub pll_hz : ℕ → OptionPll → ℕ
-pll_hz hz (OptionPll.Some p) = valid_hz p hz
-pll_hz hz OptionPll.None = 0
+unfoldable pub pll_hz : ℕ → Option PllConfig → ℕ
+pll_hz hz (Some p) = valid_hz p hz
+pll_hz hz None = 0
 
 -- The oscillators and the PLLs, which the crystal feeds: without a crystal all three have 0 Hz.
-unfoldable pub sources_of : OptionRosc → OptionCrystal → Sources
-sources_of r (OptionCrystal.Some x) =
+unfoldable pub sources_of : Option RoscConfig → Option Crystal → Sources
+sources_of r (Some x) =
     record {
       rosc = ring_hz r;
       xosc = x.hz;
       pll_sys = pll_hz x.hz x.sys;
       pll_usb = pll_hz x.hz x.usb;
     }
-sources_of r OptionCrystal.None = record { rosc = ring_hz r; xosc = 0; pll_sys = 0; pll_usb = 0 }
+sources_of r None = record { rosc = ring_hz r; xosc = 0; pll_sys = 0; pll_usb = 0 }
 
 abbrev pub ref_source : Sources → RefClkSrc → ℕ
 ref_source f RefClkSrc.Xosc = f.xosc
@@ -57,9 +60,9 @@ peri_source f system PeriClkSrc.Rosc = f.rosc
 peri_source f system PeriClkSrc.Xosc = f.xosc
 
 -- The peripheral clock has the frequency of its source; it has no divider.
-abbrev pub peri_hz : Sources → ℕ → OptionPeri → ℕ
-peri_hz f system (OptionPeri.Some src) = peri_source f system src
-peri_hz f system OptionPeri.None = 0
+abbrev pub peri_hz : Sources → ℕ → Option PeriClkSrc → ℕ
+peri_hz f system (Some src) = peri_source f system src
+peri_hz f system None = 0
 
 -- The frequency of a source of USB, ADC or RTC.
 abbrev pub aux_source : Sources → AuxClkSrc → ℕ
@@ -69,23 +72,23 @@ aux_source f AuxClkSrc.Rosc = f.rosc
 aux_source f AuxClkSrc.Xosc = f.xosc
 
 -- The source of a clock that may be absent; 0 Hz where it is.
-abbrev pub aux_source_in : Sources → OptionAux → ℕ
-aux_source_in f (OptionAux.Some a) = aux_source f a.src
-aux_source_in f OptionAux.None = 0
+abbrev pub aux_source_in : Sources → Option AuxClkConfig → ℕ
+aux_source_in f (Some a) = aux_source f a.src
+aux_source_in f None = 0
 
-abbrev pub rtc_source_in : Sources → OptionRtc → ℕ
-rtc_source_in f (OptionRtc.Some r) = aux_source f r.src
-rtc_source_in f OptionRtc.None = 0
+abbrev pub rtc_source_in : Sources → Option RtcClkConfig → ℕ
+rtc_source_in f (Some r) = aux_source f r.src
+rtc_source_in f None = 0
 
 -- USB and ADC: source over divider.
-abbrev pub aux_hz : Sources → OptionAux → ℕ
-aux_hz f (OptionAux.Some a) = aux_source f a.src / a.div
-aux_hz f OptionAux.None = 0
+abbrev pub aux_hz : Sources → Option AuxClkConfig → ℕ
+aux_hz f (Some a) = aux_source f a.src / a.div
+aux_hz f None = 0
 
 -- RTC: source × 256 / (whole × 256 + fraction).
-abbrev pub rtc_hz : Sources → OptionRtc → ℕ
-rtc_hz f (OptionRtc.Some r) = divided_hz 256 (aux_source f r.src) r.div_int r.div_frac
-rtc_hz f OptionRtc.None = 0
+abbrev pub rtc_hz : Sources → Option RtcClkConfig → ℕ
+rtc_hz f (Some r) = divided_hz 256 (aux_source f r.src) r.div_int r.div_frac
+rtc_hz f None = 0
 
 -- The same frequencies for the settings of a plan.
 

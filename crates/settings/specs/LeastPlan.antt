@@ -1,13 +1,14 @@
 -- The plan with these settings whose delay multiplier and settling time are the smallest (docs/FORMAT.md, Reading a sheet back).
+use Rattle.std.specs.Prelude.{Option}
 use Rattle.std.specs.Prelude.{ℕ, ◌+◌, ◌-◌, ◌*◌, ◌/◌, ◌%◌, ◌^◌}
 use Rattle.divider.specs.Delay.{cycles_per_us}
-use Rattle.config.specs.declared.OptionXosc.{OptionXosc}
-use Rattle.config.specs.declared.OptionXosc.TheVariants.{Some as xosc, None as no_xosc}
-use Rattle.config.specs.declared.{OptionU32.OptionU32, OptionU32.TheVariants.Some as given, ClockConfig.ClockConfig}
-use Rattle.settings.specs.declared.OptionCrystal.{OptionCrystal}
-use Rattle.settings.specs.declared.OptionCrystal.TheVariants.{Some as crystal, None as no_crystal}
-use Rattle.settings.specs.declared.OptionCycles.{OptionCycles}
-use Rattle.settings.specs.declared.OptionCycles.TheVariants.{Some as cycles, None as no_cycles}
+use Rattle.config.specs.declared.XoscConfig.{XoscConfig}
+use Rattle.std.specs.Prelude.{Some as xosc, None as no_xosc}
+use Rattle.config.specs.declared.{ClockConfig.ClockConfig}
+use Rattle.std.specs.Prelude.{Some as given}
+use Rattle.settings.specs.declared.Crystal.{Crystal}
+use Rattle.std.specs.Prelude.{Some as crystal, None as no_crystal}
+use Rattle.std.specs.Prelude.{Some as cycles, None as no_cycles}
 use Rattle.settings.specs.declared.Settings.{Settings}
 use Rattle.settings.specs.Settings.{ring_hz}
 
@@ -16,7 +17,7 @@ unfoldable pub multiplier_for : ℕ → ℕ → ℕ
 multiplier_for hz delay = (256 * delay - 128 + (hz / 1000 - 1)) / (hz / 1000)
 
 -- A startup delay has 14 bits.
-abbrev pub xosc_for : OptionCrystal → OptionXosc
+abbrev pub xosc_for : Option Crystal → Option XoscConfig
 xosc_for (crystal x) =
     xosc
     (record {
@@ -28,12 +29,12 @@ xosc_for (crystal x) =
 xosc_for no_crystal = no_xosc
 
 -- The settling cycles, which have 32 bits, over the cycles of a microsecond.
-unfoldable pub time_for : ℕ → OptionCycles → ℕ
+unfoldable pub time_for : ℕ → Option ℕ → ℕ
 time_for hz (cycles n) = n % 2 ^ 32 / cycles_per_us hz
 time_for hz no_cycles = 0
 
 -- The plan with these settings, this crystal and this settling time.
-abbrev pub plan_with : Settings → OptionXosc → OptionU32 → ClockConfig
+abbrev pub plan_with : Settings → Option XoscConfig → Option ℕ → ClockConfig
 plan_with s x time =
     record {
       chip = s.chip;

@@ -1,34 +1,35 @@
 -- The settings of a plan at a reading, which demand 3 compares (docs/FORMAT.md, Settings that count). Each part that may be
 -- absent also says whether it is present.
+use Rattle.std.specs.Prelude.{Option, Some, None}
 use Rattle.std.specs.Prelude.{ℕ, eqb}
 use Rattle.base.specs.Choice.{pick}
 use Rattle.divider.specs.Delay.{delay_of, settling_cycles}
-use Rattle.config.specs.declared.{OptionRosc.OptionRosc, OptionXosc.OptionXosc, OptionU32.OptionU32}
+use Rattle.config.specs.declared.{RoscConfig.RoscConfig, XoscConfig.XoscConfig}
 use Rattle.config.specs.declared.ClockConfig.{ClockConfig}
 use Rattle.config.specs.Board.{board_of}
-use Rattle.settings.specs.declared.{OptionCrystal.OptionCrystal, OptionCycles.OptionCycles, Settings.Settings}
+use Rattle.settings.specs.declared.{Crystal.Crystal, Settings.Settings}
 
 -- The delay multiplier counts only through the startup delay.
-abbrev pub crystal_of : OptionXosc → OptionCrystal
-crystal_of (OptionXosc.Some x) =
-    OptionCrystal.Some
+abbrev pub crystal_of : Option XoscConfig → Option Crystal
+crystal_of (Some x) =
+    Some
     (record { hz = x.hz; delay = delay_of x.hz x.delay_multiplier; sys = x.sys_pll; usb = x.usb_pll })
-crystal_of OptionXosc.None = OptionCrystal.None
+crystal_of None = None
 
 -- The frequency of the ring oscillator, 0 for none.
-abbrev pub ring_hz : OptionRosc → ℕ
-ring_hz (OptionRosc.Some r) = r.hz
-ring_hz OptionRosc.None = 0
+abbrev pub ring_hz : Option RoscConfig → ℕ
+ring_hz (Some r) = r.hz
+ring_hz None = 0
 
 -- The plan's settling time, or the voltage's default where the plan gives none.
-abbrev pub settling_time : OptionU32 → ℕ → ℕ
-settling_time (OptionU32.Some time) default = time
-settling_time OptionU32.None default = default
+abbrev pub settling_time : Option ℕ → ℕ → ℕ
+settling_time (Some time) default = time
+settling_time None default = default
 
 -- There is no settling step where the voltage code equals the reading or the settling time is 0.
-unfoldable pub settling_step : ℕ → ℕ → ℕ → ℕ → OptionCycles
+unfoldable pub settling_step : ℕ → ℕ → ℕ → ℕ → Option ℕ
 settling_step reading code time hz =
-    pick (eqb code reading) OptionCycles.None (pick (eqb time 0) OptionCycles.None (OptionCycles.Some (settling_cycles time hz)))
+    pick (eqb code reading) None (pick (eqb time 0) None (Some (settling_cycles time hz)))
 
 -- The board has the chip-specific part in common fields; all other parts are the plan's own.
 abbrev pub settings_of : ClockConfig → ℕ → Settings

@@ -1,14 +1,15 @@
 -- The bounds that the number types of the code give to settings: 32 bits for a frequency, the chip's scale for a fraction.
+use Rattle.std.specs.Prelude.{Option, Some, None}
 use Rattle.std.specs.Prelude.{◌<◌, ◌^◌}
-use Rattle.config.specs.declared.OptionRtc.{OptionRtc}
+use Rattle.config.specs.declared.RtcClkConfig.{RtcClkConfig}
 use Rattle.config.specs.Board.{FractionFits}
 use Rattle.settings.specs.declared.Settings.{Settings}
 use Rattle.settings.specs.Frequencies.{sources_in}
 
 -- The fraction of the RTC divider has 8 bits.
-abbrev pub RtcTyped : OptionRtc → Type 0
-RtcTyped (OptionRtc.Some r) = r.div_frac < 2 ^ 8
-RtcTyped OptionRtc.None = Unit {0}
+abbrev pub RtcTyped : Option RtcClkConfig → Type 0
+RtcTyped (Some r) = r.div_frac < 2 ^ 8
+RtcTyped None = Unit {0}
 
 -- The ring's and the crystal's frequencies are u32; the fractions fit their dividers.
 pub record Typed (s : Settings) : Type 0 where

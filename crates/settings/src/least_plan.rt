@@ -1,78 +1,66 @@
 // The plan with these settings whose delay multiplier and settling time are the smallest (docs/FORMAT.md, Reading a sheet back).
-ghost use Rattle.std.specs.Prelude.{◌≡◌, ◌%◌, ◌^◌};
-ghost use Rattle.config.specs.declared.OptionU32.TheVariants.{Some as given};
+ghost use Rattle.std.specs.Prelude.{◌≡◌, ◌/◌, ◌%◌, ◌^◌};
+ghost use Rattle.divider.specs.Delay.{cycles_per_us};
 ghost use Rattle.settings.specs.Settings.{ring_hz};
 ghost use Rattle.settings.specs.LeastPlan.{multiplier_for, xosc_for, time_for, plan_of};
 
-use crate::{OptionCrystal, OptionCycles, Settings};
-use config::{ClockConfig, OptionRosc, OptionU32, OptionXosc, XoscConfig};
+use crate::{Crystal, Settings};
+use config::{ClockConfig, RoscConfig, XoscConfig};
 
 // The smallest multiplier: (256 × delay − 128) over the crystal's kHz, rounded up. A startup delay has 14 bits.
+#[tactic(auto, unfolding(crate::specs::LeastPlan::multiplier_for))]
 fn multiplier_for(hz: u32, delay: u64) -> u32
     ensures { result ≡ multiplier_for hz (delay % 2 ^ 14) }
 {
-    let khz = (hz / 1000) as usize;
-    let least = base::less(256 * (delay % 16384) as usize, 128);
-    base::quotient((least + base::less(khz, 1)) as u64, khz as u64) as u32
+    let khz = u64::from(hz / 1000);
+    let least = (256 * (delay % 16384)).saturating_sub(128);
+    (least + khz.saturating_sub(1))
+        .checked_div(khz)
+        .unwrap_or(0) as u32
 }
 
-// The settling time in microseconds, always given, 0 for no settling step. Settling cycles have 32 bits.
-fn time_for(ring: OptionRosc, settling: OptionCycles) -> OptionU32
-    ensures { result ≡ given (time_for (ring_hz ring) settling) }
+// The microseconds of these settling cycles, which have 32 bits, beside a ring of this frequency.
+#[tactic(auto, unfolding(divider::specs::Delay::settling_cycles))]
+fn time_of(cycles: u64, ring_hz: u32) -> u32
+    ensures { result ≡ cycles % 2 ^ 32 / cycles_per_us ring_hz }
 {
-    match settling {
-        OptionCycles::Some(n) => {
-            let per_us = divider::settling_cycles(1, crate::ring_hz(ring));
-            let time = base::quotient(n % 4294967296, per_us) as u32;
-            OptionU32::Some(time)
-        }
-        OptionCycles::None => OptionU32::Some(0),
-    }
+    let per_us = divider::settling_cycles(1, ring_hz);
+    (cycles % 4294967296).checked_div(per_us).unwrap_or(0) as u32
 }
 
-fn xosc_for(crystal: OptionCrystal) -> OptionXosc
+// The settling time in microseconds, 0 for no settling step.
+#[tactic(auto, unfolding(crate::specs::LeastPlan::time_for))]
+fn time_for(ring: Option<RoscConfig>, settling: Option<u64>) -> u32
+    ensures { result ≡ time_for (ring_hz ring) settling }
+{
+    settling.map_or(0, |cycles| time_of(cycles, crate::ring_hz(ring)))
+}
+
+fn xosc_for(crystal: Option<Crystal>) -> Option<XoscConfig>
     ensures { result ≡ xosc_for crystal }
 {
-    match crystal {
-        OptionCrystal::Some(on) => {
-            let delay_multiplier = multiplier_for(on.hz, on.delay);
-            let sys_pll = on.sys;
-            let usb_pll = on.usb;
-            OptionXosc::Some(XoscConfig {
-                hz: on.hz,
-                sys_pll,
-                usb_pll,
-                delay_multiplier,
-            })
-        }
-        OptionCrystal::None => OptionXosc::None,
-    }
+    crystal.map(|on| XoscConfig {
+        hz: on.hz,
+        sys_pll: on.sys,
+        usb_pll: on.usb,
+        delay_multiplier: multiplier_for(on.hz, on.delay),
+    })
 }
 
-// The plan with these settings, the smallest delay multiplier and the smallest settling time.
+// The plan with these settings, the smallest delay multiplier and the smallest settling time, which is always given.
+#[tactic(auto, unfolding(crate::specs::LeastPlan::plan_of))]
 pub fn plan_of(s: Settings) -> ClockConfig
     ensures { result ≡ plan_of s }
 {
-    let chip = s.chip;
-    let rosc = s.rosc;
-    let ref_clk = s.reference;
-    let sys_clk_src = s.sys;
-    let crystal = s.xosc;
-    let xosc = xosc_for(crystal);
-    let settling = s.settling;
-    let voltage_stabilization_delay_us = time_for(rosc, settling);
-    let peri_clk_src = s.peri;
-    let usb_clk = s.usb;
-    let adc_clk = s.adc;
     ClockConfig {
-        chip,
-        rosc,
-        xosc,
-        ref_clk,
-        sys_clk_src,
-        peri_clk_src,
-        usb_clk,
-        adc_clk,
-        voltage_stabilization_delay_us,
+        chip: s.chip,
+        rosc: s.rosc,
+        xosc: xosc_for(s.xosc),
+        ref_clk: s.reference,
+        sys_clk_src: s.sys,
+        peri_clk_src: s.peri,
+        usb_clk: s.usb,
+        adc_clk: s.adc,
+        voltage_stabilization_delay_us: Some(time_for(s.rosc, s.settling)),
     }
 }

@@ -1,5 +1,6 @@
 -- For any weight of the kinds no sheet weighs more than one with every part. With weight 1 this bounds the number of steps: a
 -- sheet has at most 65, on the RP235x 66.
+use Rattle.std.specs.Prelude.{Option}
 use Prim.Native.Nat.{ℕ, ◌+◌, ◌/◌, ◌≤◌}
 use mathlib.Core.{Bool.Bool, Bool.true, Bool.false, List.List, List.[], List.◌∷◌, List.◌++◌, Path.◌≡◌, Path.refl}
 use lib.{Dec.eqb, ListN.length}
@@ -10,20 +11,19 @@ use Rattle.chip.specs.Chips.{facts_of}
 use Rattle.step.specs.declared.Step.{Step}
 use Rattle.step.specs.Sheet.{max_steps}
 use Rattle.step.specs.Kinds as kind
-use Rattle.config.specs.declared.{Board.Board, SysClkSrc.SysClkSrc, OptionRosc.OptionRosc}
-use Rattle.config.specs.declared.OptionRosc.TheVariants.{Some as ring, None as no_ring}
-use Rattle.config.specs.declared.OptionPll.{OptionPll}
-use Rattle.config.specs.declared.OptionPll.TheVariants.{Some as pll, None as no_pll}
-use Rattle.config.specs.declared.OptionPeri.{OptionPeri}
-use Rattle.config.specs.declared.OptionPeri.TheVariants.{Some as peri, None as no_peri}
-use Rattle.config.specs.declared.OptionAux.{OptionAux}
-use Rattle.config.specs.declared.OptionAux.TheVariants.{Some as aux, None as no_aux}
-use Rattle.config.specs.declared.OptionRtc.{OptionRtc}
-use Rattle.config.specs.declared.OptionRtc.TheVariants.{Some as rtc, None as no_rtc}
-use Rattle.settings.specs.declared.OptionCrystal.{OptionCrystal}
-use Rattle.settings.specs.declared.OptionCrystal.TheVariants.{Some as crystal, None as no_crystal}
-use Rattle.settings.specs.declared.OptionCycles.{OptionCycles}
-use Rattle.settings.specs.declared.OptionCycles.TheVariants.{Some as cycles, None as no_cycles}
+use Rattle.config.specs.declared.{Board.Board, SysClkSrc.SysClkSrc, RoscConfig.RoscConfig}
+use Rattle.std.specs.Prelude.{Some as ring, None as no_ring}
+use Rattle.pll.specs.declared.PllConfig.{PllConfig}
+use Rattle.std.specs.Prelude.{Some as pll, None as no_pll}
+use Rattle.config.specs.declared.PeriClkSrc.{PeriClkSrc}
+use Rattle.std.specs.Prelude.{Some as peri, None as no_peri}
+use Rattle.config.specs.declared.AuxClkConfig.{AuxClkConfig}
+use Rattle.std.specs.Prelude.{Some as aux, None as no_aux}
+use Rattle.config.specs.declared.RtcClkConfig.{RtcClkConfig}
+use Rattle.std.specs.Prelude.{Some as rtc, None as no_rtc}
+use Rattle.settings.specs.declared.Crystal.{Crystal}
+use Rattle.std.specs.Prelude.{Some as crystal, None as no_crystal}
+use Rattle.std.specs.Prelude.{Some as cycles, None as no_cycles}
 use Rattle.settings.specs.declared.{Settings.Settings, Frequencies.Frequencies}
 use Rattle.settings.specs.{Codes.sys_select, Frequencies.frequencies_of}
 use Rattle.sheet_steps.specs.Steps.{step1, step2, mark_steps, head_part, ring_part, settling_steps, voltage_part, pll_steps}
@@ -94,31 +94,31 @@ module _ (w : ℕ → ℕ) where
   mark-most Rp2040 = omega arith
   mark-most Rp235x = omega arith
 
-  ring-most : (pass : ℕ) (o : OptionRosc) → weigh w (ring_part pass o) ≤ weight w ring_kinds
+  ring-most : (pass : ℕ) (o : Option RoscConfig) → weigh w (ring_part pass o) ≤ weight w ring_kinds
   unfolding ring_part
   ring-most pass (ring r) = omega arith
   ring-most pass no_ring = omega arith
 
-  voltage-most : (reading : ℕ) (b : Board) (o : OptionCycles)
+  voltage-most : (reading : ℕ) (b : Board) (o : Option ℕ)
       → weigh w (voltage_part reading b o) ≤ weight w (voltage_kinds b.chip)
   unfolding voltage_part
   voltage-most reading b o = go (eqb b.code reading) o
     where
-      changing : OptionCycles → List Step
+      changing : Option ℕ → List Step
       changing o =
           step1 (facts_of b.chip).voltage b.code
           ∷ (settling_steps o ++ (step1 (facts_of b.chip).brownout b.brownout ∷ []))
 
-      go : (same : Bool) (o : OptionCycles) → weigh w (pick same [] (changing o)) ≤ weight w (voltage_kinds b.chip)
+      go : (same : Bool) (o : Option ℕ) → weigh w (pick same [] (changing o)) ≤ weight w (voltage_kinds b.chip)
       go true o = omega arith
       go false no_cycles = omega arith
       go false (cycles n) = omega arith
 
-  pll-most : (which : ℕ) (o : OptionPll) → weigh w (pll_steps which o) ≤ weight w pll_kinds
+  pll-most : (which : ℕ) (o : Option PllConfig) → weigh w (pll_steps which o) ≤ weight w pll_kinds
   pll-most which (pll p) = omega arith
   pll-most which no_pll = omega arith
 
-  crystal-most : (o : OptionCrystal) → weigh w (crystal_part o) ≤ weight w crystal_kinds
+  crystal-most : (o : Option Crystal) → weigh w (crystal_part o) ≤ weight w crystal_kinds
   unfolding crystal_part
   crystal-most (crystal x) = simp (weigh-append w) (omega (arith, pll-most 0 x.sys, pll-most 1 x.usb))
   crystal-most no_crystal = omega arith
@@ -140,18 +140,18 @@ module _ (w : ℕ → ℕ) where
   unfolding sys_part
   sys-most b hz src = simp (weigh-append w) (omega (arith, switch-most (sys_select src)))
 
-  peri-most : (hz : ℕ) (o : OptionPeri) → weigh w (peri_part hz o) ≤ weight w (30 ∷ 37 ∷ [])
+  peri-most : (hz : ℕ) (o : Option PeriClkSrc) → weigh w (peri_part hz o) ≤ weight w (30 ∷ 37 ∷ [])
   unfolding peri_part
   peri-most hz (peri src) = omega arith
   peri-most hz no_peri = omega arith
 
-  aux-most : (divider control clock hz : ℕ) (o : OptionAux)
+  aux-most : (divider control clock hz : ℕ) (o : Option AuxClkConfig)
       → weigh w (aux_part divider control clock hz o) ≤ weight w (divider ∷ control ∷ 37 ∷ [])
   unfolding aux_part
   aux-most divider control clock hz (aux a) = omega arith
   aux-most divider control clock hz no_aux = omega arith
 
-  rtc-most : (chip : Chip) (hz : ℕ) (o : OptionRtc) → weigh w (rtc_part chip hz o) ≤ weight w (rtc_kinds chip)
+  rtc-most : (chip : Chip) (hz : ℕ) (o : Option RtcClkConfig) → weigh w (rtc_part chip hz o) ≤ weight w (rtc_kinds chip)
   unfolding rtc_part
   rtc-most Rp2040 hz (rtc r) = omega arith
   rtc-most Rp2040 hz no_rtc = omega arith

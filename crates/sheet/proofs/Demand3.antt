@@ -1,11 +1,12 @@
 -- Demand 3 is shown for the definitions, then for any two calls of the writer from its contract alone. The settings of an
 -- accepted plan are read back from its steps, and its steps from its bytes.
+use Rattle.std.specs.Prelude.{Result}
+use Rattle.base.specs.declared.refusal.Refusal.{Refusal}
 use mathlib.Core.{Path.◌≡◌, Path.sym, Path.ap, Path.◌∙◌, Logic.◌↔◌, List.List, List.◌++◌}
 use Prim.Native.Nat.{ℕ, ◌≤◌, ◌<◌}
 use native.Mathlib.{Omega.arith, Nat.lt_of_not-le, Decide.dec_le, Decide.ℕ_discrete}
 use lib.{ListN.length, ListN.drop, ListN.get_or, ListN.get_or-append, Seq.ext_get_or}
-use Rattle.base.specs.Answer.{Answer, value, refusal, length_is}
-use Rattle.base.specs.declared.{Length.Length, Length.TheVariants.Refused}
+use Rattle.base.specs.Answer.{Answer, value, refusal, answer_of}
 use Rattle.step.specs.Sheet.{encoded}
 use Rattle.step.proofs.Sheets.{encoded-injective}
 use Rattle.config.specs.declared.ClockConfig.{ClockConfig}
@@ -14,9 +15,9 @@ use Rattle.settings.specs.declared.Settings.{Settings}
 use Rattle.settings.specs.{Settings.settings_of, Typed.Typed}
 use Rattle.refusals.specs.Refusals.{Accepted}
 use Rattle.sheet_steps.specs.Steps.{steps_of}
-use Rattle.sheet.specs.{Read.settings_from, Writer.sheet_bytes, Writer.refusal_in, Writer.InitCall}
+use Rattle.sheet.specs.{Read.settings_from, Writer.sheet_bytes, Writer.refusal_in, Writer.init_answer, Writer.InitCall}
 use Rattle.sheet.specs.Demand3.{SameUpTo, Demand3}
-use Rattle.sheet.proofs.{Sheets.settings-back, Sheets.steps-formed, Ends.accepted, Ends.refused, Ends.too_short}
+use Rattle.sheet.proofs.{Sheets.settings-back, Sheets.steps-formed, Ends.accepted, Ends.refused-answer, Ends.short-answer}
 
 -- Two accepted plans have equal bytes exactly when their settings are equal.
 pub same-sheets : (p q : ClockConfig) (reading : ℕ) → Typed (settings_of p reading) → Typed (settings_of q reading)
@@ -52,20 +53,20 @@ pub record Answered (p : ClockConfig) (reading : ℕ) (before : List ℕ) (n : �
   pub count : n ≡ length (sheet_bytes p reading)
   pub bytes : after ≡ sheet_bytes p reading ++ drop n before
 
-module _ (p : ClockConfig) (reading : ℕ) (b b' : List ℕ) (r : Length) (o : InitCall p reading b r b') where
+module _ (p : ClockConfig) (reading : ℕ) (b b' : List ℕ) (r : (Result ℕ Refusal)) (o : InitCall p reading b r b') where
   -- A call with an accepted plan and room for its sheet answers the length.
   pub answers : Accepted p reading → length (sheet_bytes p reading) ≤ length b
-      → length_is r ≡ value (length (sheet_bytes p reading))
+      → answer_of r ≡ value (length (sheet_bytes p reading))
   answers h l = o.answer ∙ sym (accepted p reading b o.typed h l).answer
 
-  pub answered : (n : ℕ) → length_is r ≡ value n → Answered p reading b n b'
+  pub answered : (n : ℕ) → answer_of r ≡ value n → Answered p reading b n b'
   answered n e =
       elim (ℕ_discrete (refusal_in p reading) 0)
-      [ yes h ↦ fits h | no h ↦ absurd (unlike (refused p reading b o.typed h)) ]
+      [ yes h ↦ fits h | no h ↦ absurd (unlike (refused-answer p reading b o.typed h)) ]
     where
       -- A refusal answers no length.
-      unlike : {k : ℕ} {after : List ℕ} → InitCall p reading b (Refused k) after → ⊥
-      unlike other = never (other.answer ∙ sym o.answer ∙ e)
+      unlike : {k : ℕ} → init_answer p reading b ≡ refusal k → ⊥
+      unlike other = never (sym other ∙ sym o.answer ∙ e)
 
       written : Accepted p reading → length (sheet_bytes p reading) ≤ length b → Answered p reading b n b'
       written h l =
@@ -76,7 +77,7 @@ module _ (p : ClockConfig) (reading : ℕ) (b b' : List ℕ) (r : Length) (o : I
       fits : Accepted p reading → Answered p reading b n b'
       fits h =
           elim (dec_le (length (sheet_bytes p reading)) (length b))
-          [ yes l ↦ written h l | no l ↦ absurd (unlike (too_short p reading b o.typed h (lt_of_not-le l))) ]
+          [ yes l ↦ written h l | no l ↦ absurd (unlike (short-answer p reading b o.typed h (lt_of_not-le l))) ]
 
 -- Byte i of the buffer after such a call is byte i of the sheet.
 byte_at : {p : ClockConfig} {reading : ℕ} {b : List ℕ} {n : ℕ} {b' : List ℕ} → Answered p reading b n b'

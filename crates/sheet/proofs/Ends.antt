@@ -1,11 +1,14 @@
 -- The collected words of an accepted plan are ready to be copied, and each of the writer's three ends meets its contract.
+use Rattle.base.specs.{Answer.Answer, Answer.value, Answer.refusal, Refusals.number_of}
+use Rattle.base.specs.declared.refusal.Refusal.{Refusal}
+use Rattle.base.specs.declared.refusal.Refusal.TheVariants as why
 use mathlib.Core.{Bool.true, Bool.false, Path.◌≡◌, Path.refl, Path.sym, Path.ap, Path.◌∙◌}
 use mathlib.Core.List.{List, [], ◌++◌, map}
 use Prim.Native.Nat.{ℕ, ◌*◌, ◌≤◌, ◌<◌}
 use lib.ListN.{length, take, drop, replicate, length-map}
 use borrow.Author.Tests.{eq-eqb, ne_eqb, lt-ltb, le-ltb, leb-true, leb-false}
 use native.Mathlib.Omega.{arith}
-use Rattle.base.specs.declared.Length.TheVariants.{Bytes, Refused}
+use Rattle.std.specs.Prelude.{Ok, Err}
 use Rattle.step.specs.declared.Step.{Step}
 use Rattle.step.specs.{Bytes.turned_of, Bytes.bytes_of, Sheet.max_steps, Sheet.max_bytes, Sheet.encoded}
 use Rattle.step.specs.Access.{room_for, copied}
@@ -14,7 +17,8 @@ use Rattle.config.specs.declared.ClockConfig.{ClockConfig}
 use Rattle.settings.specs.{Settings.settings_of, Frequencies.frequencies_of, Typed.Typed}
 use Rattle.settings.specs.declared.Settings.{Settings}
 use Rattle.config.specs.Board.{FractionFits}
-use Rattle.refusals.specs.declared.Examined.{Examined}
+use Rattle.settings.specs.declared.Frequencies.{Frequencies}
+use Rattle.refusals.proofs.Examined.{examined-refused, examined-accepted}
 use Rattle.refusals.specs.Refusals.{refusal_of, examined_of, Accepted}
 use Rattle.sheet_steps.specs.{Steps.steps_of, Gather.Gathered, Gather.held, Gather.word_of, Gather.pushes}
 use Rattle.sheet.proofs.Counts.{steps-few}
@@ -63,25 +67,45 @@ module _ (g : Gathered) (bytes b : List ℕ) (y : Ready g bytes) where
   )
 
 -- The facts about a plan before its steps are collected.
-pub record Looked (p : ClockConfig) (reading : ℕ) (s : Settings) (x : Examined) : Type 0 where
+pub record Looked (p : ClockConfig) (reading : ℕ) (s : Settings) (f : Frequencies) : Type 0 where
   pub settings-are : s ≡ settings_of p reading
-  pub number_is : x.number ≡ refusal_in p reading
-  pub frequencies-are : x.frequencies ≡ frequencies_of s
+  pub accepted : Accepted p reading
+  pub frequencies-are : f ≡ frequencies_of s
   pub typed : Typed (settings_of p reading)
 
-pub looked : (p : ClockConfig) (reading : ℕ) {s : Settings} {x : Examined}
-    → (s ≡ settings_of p reading) × FractionFits s.board
-    → (x ≡ examined_of s reading) × (FractionFits s.board → Typed s) → Looked p reading s x
-looked p reading {s} {x} k h =
+-- What is known of settings that `examine` answered.
+abbrev pub Told : ClockConfig → ℕ → Settings → Answer Frequencies → Type 0
+Told p reading s a =
+    ((s ≡ settings_of p reading) × FractionFits s.board) × ((a ≡ examined_of s reading) × (FractionFits s.board → Typed s))
+
+pub looked : (p : ClockConfig) (reading : ℕ) {s : Settings} {f : Frequencies} → Told p reading s (value f) → Looked p reading s f
+looked p reading {s} {f} t =
+    let found = examined-accepted s reading f t.1.0 in
     record {
-      settings-are = k.0;
-      number_is = ap (λ (x : Examined). x.number) h.0 ∙ ap (λ (s : Settings). refusal_of s reading) k.0;
-      frequencies-are = ap (λ (x : Examined). x.frequencies) h.0;
-      typed = rw k.0 at (h.1 k.1);
+      settings-are = t.0.0;
+      accepted = ap (λ (s : Settings). refusal_of s reading) (sym t.0.0) ∙ found.0;
+      frequencies-are = found.1;
+      typed = rw t.0.0 at (t.1.1 t.0.1);
     }
 
-pub ready : (p : ClockConfig) (reading : ℕ) {s : Settings} {x : Examined} {g : Gathered} → Looked p reading s x
-    → (x.frequencies ≡ frequencies_of s → g ≡ pushes (held (replicate max_steps 0) 0) (steps_of reading s))
+-- The facts about a plan that `examine` refused.
+pub record Turned (p : ClockConfig) (reading n : ℕ) : Type 0 where
+  pub refused : Accepted p reading → ⊥
+  pub number_is : n ≡ refusal_in p reading
+  pub typed : Typed (settings_of p reading)
+
+pub turned : (p : ClockConfig) (reading : ℕ) {s : Settings} {n : ℕ} → Told p reading s (refusal n) → Turned p reading n
+turned p reading {s} {n} t =
+    let found = examined-refused s reading n t.1.0 in
+    let same = ap (λ (s : Settings). refusal_of s reading) t.0.0 in
+    record {
+      refused = λ e. found.0 (same ∙ e);
+      number_is = found.1 ∙ same;
+      typed = rw t.0.0 at (t.1.1 t.0.1);
+    }
+
+pub ready : (p : ClockConfig) (reading : ℕ) {s : Settings} {f : Frequencies} {g : Gathered} → Looked p reading s f
+    → (f ≡ frequencies_of s → g ≡ pushes (held (replicate max_steps 0) 0) (steps_of reading s))
     → Ready g (sheet_bytes p reading)
 unfolding sheet_bytes
 ready p reading l e =
@@ -95,17 +119,26 @@ sheet-most p reading =
     omega (arith, length-encoded xs, steps-few reading (settings_of p reading))
 
 module _ (p : ClockConfig) (reading : ℕ) (b : List ℕ) (t : Typed (settings_of p reading)) where
-  pub refused : (Accepted p reading → ⊥) → InitCall p reading b (Refused (refusal_in p reading)) b
-  unfolding init_answer init_buffer
-  refused h = record { answer = rw (ne_eqb _ _ h); bytes = rw (ne_eqb _ _ h); typed = t }
+  pub refused-answer : (Accepted p reading → ⊥) → init_answer p reading b ≡ refusal (refusal_in p reading)
+  unfolding init_answer
+  refused-answer h = rw (ne_eqb _ _ h) refl
 
-  pub too_short : Accepted p reading → length b < length (sheet_bytes p reading) → InitCall p reading b (Refused 19) b
+  pub refused : (Accepted p reading → ⊥) → {reason : Refusal} → number_of reason ≡ refusal_in p reading
+      → InitCall p reading b (Err reason) b
+  unfolding init_answer init_buffer
+  refused h same = record { answer = rw (ne_eqb _ _ h, same) refl; bytes = rw (ne_eqb _ _ h) refl; typed = t }
+
+  pub short-answer : Accepted p reading → length b < length (sheet_bytes p reading) → init_answer p reading b ≡ refusal 19
+  unfolding init_answer
+  short-answer h few = rw (eq-eqb _ _ h, lt-ltb _ _ few) refl
+
+  pub too_short : Accepted p reading → length b < length (sheet_bytes p reading) → InitCall p reading b (Err why.ShortBuffer) b
   unfolding init_answer init_buffer
   too_short h few =
       record { answer = rw (eq-eqb _ _ h, lt-ltb _ _ few); bytes = rw (eq-eqb _ _ h, lt-ltb _ _ few); typed = t }
 
   pub accepted : Accepted p reading → length (sheet_bytes p reading) ≤ length b
-      → InitCall p reading b (Bytes (length (sheet_bytes p reading)))
+      → InitCall p reading b (Ok (length (sheet_bytes p reading)))
       (sheet_bytes p reading ++ drop (length (sheet_bytes p reading)) b)
   unfolding init_answer init_buffer
   accepted h room =

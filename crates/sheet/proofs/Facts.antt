@@ -1,13 +1,14 @@
 -- Bounds for the numbers of a plan that the refusals do not exclude.
+use Rattle.std.specs.Prelude.{Option}
 use mathlib.Core.{Path.◌≡◌, Bool.Bool, Bool.false, Bool.◌||◌}
 use Prim.Native.Nat.{ℕ, ◌≤◌, ◌<◌}
 use native.Mathlib.Omega.{arith}
 use lib.Dec.{eqb, ltb}
 use borrow.Author.Tests.{ltb-false, eq-eqb}
 use Rattle.base.proofs.Bools.{both_false}
-use Rattle.config.specs.declared.OptionAux.{OptionAux}
-use Rattle.config.specs.declared.OptionAux.TheVariants.{Some as aux, None as no_aux}
-use Rattle.settings.specs.declared.OptionCycles.TheVariants.{None as no_cycles}
+use Rattle.config.specs.declared.AuxClkConfig.{AuxClkConfig}
+use Rattle.std.specs.Prelude.{Some as aux, None as no_aux}
+use Rattle.std.specs.Prelude.{None as no_cycles}
 use Rattle.settings.specs.Settings.{settling_step}
 use Rattle.refusals.specs.Rules.{divider_bad, aux_bad}
 use Rattle.refusals.proofs.Accepted.{divider-good}
@@ -18,18 +19,18 @@ pub none_more : (row : Bool) (l x : ℕ) → row || ltb l x ≡ false → (row �
 none_more row l x e = let h = both_false row (ltb l x) e in (h.0, ltb-false l x h.1)
 
 -- The divider and the phase of a present clock fit their fields.
-abbrev pub AuxFits : OptionAux → Type 0
+abbrev pub AuxFits : Option AuxClkConfig → Type 0
 AuxFits (aux a) = Small a.div × (a.phase < 4)
 AuxFits no_aux = Unit {0}
 
-pub aux-fits : (source : ℕ) (o : OptionAux) → aux_bad source o ≡ false → AuxFits o
+pub aux-fits : (source : ℕ) (o : Option AuxClkConfig) → aux_bad source o ≡ false → AuxFits o
 unfolding aux_bad
 aux-fits source (aux a) e =
     let h = none_more (eqb source 0 || divider_bad a.div) 3 a.phase e in
     (divider-good a.div (both_false (eqb source 0) (divider_bad a.div) h.0).1, omega (arith, h.1))
 aux-fits source no_aux e = tt
 
-pub aux-divider : (o : OptionAux) → AuxFits o → AuxSmall o
+pub aux-divider : (o : Option AuxClkConfig) → AuxFits o → AuxSmall o
 aux-divider (aux a) h = h.0
 aux-divider no_aux h = tt
 

@@ -1,4 +1,5 @@
 -- The steps of an accepted plan are well formed: their kinds are known, and every field fits its bits.
+use Rattle.std.specs.Prelude.{Option}
 use mathlib.Core.{Path.◌≡◌, Bool.Bool, Bool.true, Bool.false, Bool.◌||◌, List.List, List.[], List.◌∷◌, List.◌++◌}
 use Prim.Native.Nat.{ℕ, ◌+◌, ◌/◌, ◌≤◌, ◌<◌, ◌^◌}
 use native.Mathlib.Omega.{arith}
@@ -14,20 +15,19 @@ use Rattle.step.specs.declared.Step.{Step}
 use Rattle.step.specs.Kinds as kind
 use Rattle.step.specs.{Fields.Fill, Layout.rows, Layout.width, Layout.widths, Steps.values, Steps.known, Steps.storable}
 use Rattle.step.specs.Sheet.{AllFormed}
-use Rattle.config.specs.declared.{RefClkConfig.RefClkConfig, SysClkSrc.SysClkSrc, Board.Board, OptionRosc.OptionRosc}
-use Rattle.config.specs.declared.OptionRosc.TheVariants.{Some as ring, None as no_ring}
-use Rattle.config.specs.declared.OptionPll.{OptionPll}
-use Rattle.config.specs.declared.OptionPll.TheVariants.{Some as pll, None as no_pll}
-use Rattle.config.specs.declared.OptionPeri.{OptionPeri}
-use Rattle.config.specs.declared.OptionPeri.TheVariants.{Some as peri, None as no_peri}
-use Rattle.config.specs.declared.OptionAux.{OptionAux}
-use Rattle.config.specs.declared.OptionAux.TheVariants.{Some as aux, None as no_aux}
-use Rattle.config.specs.declared.OptionRtc.{OptionRtc}
-use Rattle.config.specs.declared.OptionRtc.TheVariants.{Some as rtc, None as no_rtc}
-use Rattle.settings.specs.declared.OptionCrystal.{OptionCrystal}
-use Rattle.settings.specs.declared.OptionCrystal.TheVariants.{Some as crystal, None as no_crystal}
-use Rattle.settings.specs.declared.OptionCycles.{OptionCycles}
-use Rattle.settings.specs.declared.OptionCycles.TheVariants.{Some as cycles, None as no_cycles}
+use Rattle.config.specs.declared.{RefClkConfig.RefClkConfig, SysClkSrc.SysClkSrc, Board.Board, RoscConfig.RoscConfig}
+use Rattle.std.specs.Prelude.{Some as ring, None as no_ring}
+use Rattle.pll.specs.declared.PllConfig.{PllConfig}
+use Rattle.std.specs.Prelude.{Some as pll, None as no_pll}
+use Rattle.config.specs.declared.PeriClkSrc.{PeriClkSrc}
+use Rattle.std.specs.Prelude.{Some as peri, None as no_peri}
+use Rattle.config.specs.declared.AuxClkConfig.{AuxClkConfig}
+use Rattle.std.specs.Prelude.{Some as aux, None as no_aux}
+use Rattle.config.specs.declared.RtcClkConfig.{RtcClkConfig}
+use Rattle.std.specs.Prelude.{Some as rtc, None as no_rtc}
+use Rattle.settings.specs.declared.Crystal.{Crystal}
+use Rattle.std.specs.Prelude.{Some as crystal, None as no_crystal}
+use Rattle.std.specs.Prelude.{Some as cycles, None as no_cycles}
 use Rattle.settings.specs.declared.Sources.{Sources}
 use Rattle.settings.specs.{Codes.sys_select, Settings.ring_hz, Typed.RtcTyped}
 use Rattle.settings.proofs.Small.{Hz, AllHz}
@@ -108,7 +108,7 @@ head-good chip =
       each = (omega (arith, m.0), (omega arith, (omega arith, (omega arith, (omega arith, (omega arith, omega (arith, m.1)))))));
     }
 
-pub ring-good : (pass : ℕ) (o : OptionRosc) → Hz (ring_hz o) → strengths_over o ≡ false → ring_divider_over pass o ≡ false
+pub ring-good : (pass : ℕ) (o : Option RoscConfig) → Hz (ring_hz o) → strengths_over o ≡ false → ring_divider_over pass o ≡ false
     → GoodSteps (ring_part pass o)
 unfolding ring_part strengths_over ring_divider_over known widths width rows storable
 ring-good pass (ring r) t s d =
@@ -117,12 +117,12 @@ ring-good pass (ring r) t s d =
     record { each = (omega arith, (omega arith, omega (arith, (range-code r.range).1))) }
 ring-good pass no_ring t s d = record { each = omega arith }
 
-settling-good : (o : OptionCycles) → settling_over o ≡ false → AllGood (settling_steps o)
+settling-good : (o : Option ℕ) → settling_over o ≡ false → AllGood (settling_steps o)
 unfolding settling_over known widths width rows storable
 settling-good no_cycles e = tt
 settling-good (cycles n) e = omega (arith, ltb-false 4294967295 n e)
 
-pub voltage-good : (reading : ℕ) (b : Board) (o : OptionCycles) → (b.code < 16) × (b.brownout < 16)
+pub voltage-good : (reading : ℕ) (b : Board) (o : Option ℕ) → (b.code < 16) × (b.brownout < 16)
     → settling_over o ≡ false → GoodSteps (voltage_part reading b o)
 unfolding voltage_part
 voltage-good reading b o small h = record { each = go (eqb b.code reading) }
@@ -137,14 +137,14 @@ voltage-good reading b o small h = record { each = go (eqb b.code reading) }
       good-append (settling_steps o) end (settling-good o h) (brownout-step b.chip b.brownout small.1, tt),
     )
 
-pll-good : (which hz : ℕ) → which < 2 → (o : OptionPll) → pll_invalid hz o ≡ false → AllGood (pll_steps which o)
+pll-good : (which hz : ℕ) → which < 2 → (o : Option PllConfig) → pll_invalid hz o ≡ false → AllGood (pll_steps which o)
 unfolding known widths width rows storable
 pll-good which hz w (pll p) e =
     let v = valid p hz (not-false (valid_of p hz) e) in
     (omega arith, (omega arith, (omega arith, (omega arith, (omega arith, (omega arith, omega arith))))))
 pll-good which hz w no_pll e = tt
 
-pub crystal-good : (o : OptionCrystal) → startup_over o ≡ false → sys_pll_invalid o ≡ false → usb_pll_invalid o ≡ false
+pub crystal-good : (o : Option Crystal) → startup_over o ≡ false → sys_pll_invalid o ≡ false → usb_pll_invalid o ≡ false
     → GoodSteps (crystal_part o)
 unfolding crystal_part startup_over sys_pll_invalid usb_pll_invalid known widths width rows storable
 crystal-good (crystal x) d e u =
@@ -187,13 +187,13 @@ sys-good b hz src h w f =
       );
     }
 
-pub peri-good : (hz : ℕ) → Hz hz → (o : OptionPeri) → GoodSteps (peri_part hz o)
+pub peri-good : (hz : ℕ) → Hz hz → (o : Option PeriClkSrc) → GoodSteps (peri_part hz o)
 unfolding peri_part known widths width rows storable
 peri-good hz h (peri src) = record { each = omega (arith, (peri-code src).1) }
 peri-good hz h no_peri = record { each = omega arith }
 
 -- The part of the USB clock where `usb` is true, else of the ADC clock.
-pub aux-good : (usb : Bool) (hz : ℕ) → Hz hz → (o : OptionAux) → AuxFits o
+pub aux-good : (usb : Bool) (hz : ℕ) → Hz hz → (o : Option AuxClkConfig) → AuxFits o
     → GoodSteps
     (aux_part (pick usb kind.usb_divider kind.adc_divider) (pick usb kind.usb_control kind.adc_control) (pick usb 7 8) hz o)
 unfolding aux_part known widths width rows storable
@@ -202,7 +202,7 @@ aux-good false hz h (aux a) d = record { each = omega (arith, (aux-code a.src).1
 aux-good true hz h no_aux d = record { each = omega arith }
 aux-good false hz h no_aux d = record { each = omega arith }
 
-pub rtc-good : (chip : Chip) (source hz : ℕ) → hz ≤ 65535 → (o : OptionRtc) → RtcTyped o → rtc_bad source hz o ≡ false
+pub rtc-good : (chip : Chip) (source hz : ℕ) → hz ≤ 65535 → (o : Option RtcClkConfig) → RtcTyped o → rtc_bad source hz o ≡ false
     → GoodSteps (rtc_part chip hz o)
 unfolding rtc_part rtc_bad known widths width rows storable
 rtc-good Rp2040 source hz few (rtc r) t e =
@@ -216,7 +216,7 @@ rtc-good Rp2040 source hz few (rtc r) t e =
 rtc-good Rp2040 source hz few no_rtc t e = record { each = ((tt, omega (arith, few), le→leb hz 65535 few), tt) }
 rtc-good Rp235x source hz few o t e = record { each = tt }
 
-pub last-good : (chip : Chip) (p : OptionPeri) (u a : OptionAux) (r : OptionRtc)
+pub last-good : (chip : Chip) (p : Option PeriClkSrc) (u a : Option AuxClkConfig) (r : Option RtcClkConfig)
     → GoodSteps (last_part (release_mask chip p u a r))
 unfolding release_mask known widths width rows storable
 last-good chip p u a r = record { each = omega (arith, (masks chip).2) }

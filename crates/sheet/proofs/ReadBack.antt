@@ -1,4 +1,5 @@
 -- The settings of an accepted plan are read back from their steps, one part after another.
+use Rattle.std.specs.Prelude.{Option}
 use mathlib.Core.{Path.◌≡◌, Path.refl, Bool.Bool, Bool.true, Bool.false, List.List, List.[], List.◌∷◌, List.◌++◌}
 use Prim.Native.Nat.{ℕ, ◌+◌, ◌-◌}
 use native.Mathlib.Omega.{arith}
@@ -12,23 +13,22 @@ use Rattle.config.specs.declared.SysClkSrc.TheVariants.{Ref as sys_ref, PllSys a
 use Rattle.config.specs.declared.SysClkSrc.TheVariants.{Rosc as sys_rosc, Xosc as sys_xosc}
 use Rattle.config.specs.declared.{Board.Board, ChipConfig.ChipConfig}
 use Rattle.config.specs.declared.ChipConfig.TheVariants.{Rp2040 as on2040, Rp235x as on235x}
-use Rattle.config.specs.declared.{ClockConfig.ClockConfig, OptionRosc.OptionRosc}
-use Rattle.config.specs.declared.OptionRosc.TheVariants.{Some as ring, None as no_ring}
-use Rattle.config.specs.declared.OptionPll.{OptionPll}
-use Rattle.config.specs.declared.OptionPll.TheVariants.{Some as pll, None as no_pll}
-use Rattle.config.specs.declared.OptionPeri.{OptionPeri}
-use Rattle.config.specs.declared.OptionPeri.TheVariants.{Some as peri, None as no_peri}
-use Rattle.config.specs.declared.OptionAux.{OptionAux}
-use Rattle.config.specs.declared.OptionAux.TheVariants.{Some as aux, None as no_aux}
-use Rattle.config.specs.declared.OptionRtc.{OptionRtc}
-use Rattle.config.specs.declared.OptionRtc.TheVariants.{Some as rtc, None as no_rtc}
+use Rattle.config.specs.declared.{ClockConfig.ClockConfig, RoscConfig.RoscConfig}
+use Rattle.std.specs.Prelude.{Some as ring, None as no_ring}
+use Rattle.pll.specs.declared.PllConfig.{PllConfig}
+use Rattle.std.specs.Prelude.{Some as pll, None as no_pll}
+use Rattle.config.specs.declared.PeriClkSrc.{PeriClkSrc}
+use Rattle.std.specs.Prelude.{Some as peri, None as no_peri}
+use Rattle.config.specs.declared.AuxClkConfig.{AuxClkConfig}
+use Rattle.std.specs.Prelude.{Some as aux, None as no_aux}
+use Rattle.config.specs.declared.RtcClkConfig.{RtcClkConfig}
+use Rattle.std.specs.Prelude.{Some as rtc, None as no_rtc}
 use Rattle.chip.specs.declared.{Chip.Chip, Chip.TheVariants.Rp2040, Chip.TheVariants.Rp235x}
 use Rattle.chip.specs.Chips.{facts_of}
 use Rattle.config.specs.Board.{board_of}
-use Rattle.settings.specs.declared.OptionCrystal.{OptionCrystal}
-use Rattle.settings.specs.declared.OptionCrystal.TheVariants.{Some as crystal, None as no_crystal}
-use Rattle.settings.specs.declared.OptionCycles.{OptionCycles}
-use Rattle.settings.specs.declared.OptionCycles.TheVariants.{Some as cycles, None as no_cycles}
+use Rattle.settings.specs.declared.Crystal.{Crystal}
+use Rattle.std.specs.Prelude.{Some as crystal, None as no_crystal}
+use Rattle.std.specs.Prelude.{Some as cycles, None as no_cycles}
 use Rattle.settings.specs.declared.Settings.{Settings}
 use Rattle.settings.specs.{Settings.settings_of, Frequencies.sources_of}
 use Rattle.settings.proofs.Decoded.{range-code, ref-code, peri-code, aux-code, chip-back, Small, AuxSmall, div-back}
@@ -47,24 +47,24 @@ mark-back Rp235x ys = refl
 cut : (n pass : ℕ) → n + pass - pass ≡ n
 cut n pass = omega arith
 
-ring-back : (pass : ℕ) (o : OptionRosc) (ys : List Step) → read_ring pass (ring_part pass o ++ ys) ≡ part o ys
+ring-back : (pass : ℕ) (o : Option RoscConfig) (ys : List Step) → read_ring pass (ring_part pass o ++ ys) ≡ part o ys
 unfolding ring_part
 ring-back pass (ring r) ys = rw ((range-code r.range).0, cut r.div pass)
 ring-back pass no_ring ys = refl
 
-module _ (reading : ℕ) (b : Board) (x : OptionCrystal) (hz : ℕ) (ys : List Step) where
+module _ (reading : ℕ) (b : Board) (x : Option Crystal) (hz : ℕ) (ys : List Step) where
   abbrev rest : List Step
   rest = crystal_part x ++ (store_step 1 hz ∷ ys)
 
-  abbrev changing : Chip → OptionCycles → List Step
+  abbrev changing : Chip → Option ℕ → List Step
   changing chip o =
       step1 (facts_of chip).voltage b.code
       ∷ (settling_steps o ++ (step1 (facts_of chip).brownout b.brownout ∷ []))
 
-  abbrev found : OptionCycles → Voltage
+  abbrev found : Option ℕ → Voltage
   found o = record { code = b.code; settling = o }
 
-  changed : (chip : Chip) (o : OptionCycles)
+  changed : (chip : Chip) (o : Option ℕ)
       → read_voltage (facts_of chip).voltage reading (changing chip o ++ rest) ≡ part (found o) rest
   changed Rp2040 no_cycles = refl
   changed Rp2040 (cycles n) = refl
@@ -75,7 +75,7 @@ module _ (reading : ℕ) (b : Board) (x : OptionCrystal) (hz : ℕ) (ys : List S
   unfolding crystal_part
   kept chip e = rw e (go chip x)
     where
-      go : (chip : Chip) (x : OptionCrystal)
+      go : (chip : Chip) (x : Option Crystal)
           → read_voltage (facts_of chip).voltage reading (crystal_part x ++ (store_step 1 hz ∷ ys))
           ≡ part (record { code = reading; settling = no_cycles }) (crystal_part x ++ (store_step 1 hz ∷ ys))
       go Rp2040 (crystal x) = refl
@@ -84,7 +84,7 @@ module _ (reading : ℕ) (b : Board) (x : OptionCrystal) (hz : ℕ) (ys : List S
       go Rp235x no_crystal = refl
 
   -- Where the voltage stays there is no settling step.
-  voltage-back : (o : OptionCycles) → (b.code ≡ reading → o ≡ no_cycles)
+  voltage-back : (o : Option ℕ) → (b.code ≡ reading → o ≡ no_cycles)
       → read_voltage (facts_of b.chip).voltage reading (voltage_part reading b o ++ rest) ≡ part (found o) rest
   unfolding voltage_part
   voltage-back o h = go (eqb b.code reading) refl
@@ -95,18 +95,18 @@ module _ (reading : ℕ) (b : Board) (x : OptionCrystal) (hz : ℕ) (ys : List S
       go true e = let same = eqb-true b.code reading e in rw (h same) (kept b.chip same)
       go false e = changed b.chip o
 
-sys-pll-back : (o u : OptionPll) (hz : ℕ) (ys : List Step)
+sys-pll-back : (o u : Option PllConfig) (hz : ℕ) (ys : List Step)
     → read_pll 0 ((pll_steps 0 o ++ pll_steps 1 u) ++ (store_step 1 hz ∷ ys)) ≡ part o (pll_steps 1 u ++ (store_step 1 hz ∷ ys))
 sys-pll-back (pll p) u hz ys = refl
 sys-pll-back no_pll (pll q) hz ys = refl
 sys-pll-back no_pll no_pll hz ys = refl
 
-usb-pll-back : (u : OptionPll) (hz : ℕ) (ys : List Step)
+usb-pll-back : (u : Option PllConfig) (hz : ℕ) (ys : List Step)
     → read_pll 1 (pll_steps 1 u ++ (store_step 1 hz ∷ ys)) ≡ part u (store_step 1 hz ∷ ys)
 usb-pll-back (pll p) hz ys = refl
 usb-pll-back no_pll hz ys = refl
 
-crystal-back : (r : OptionRosc) (o : OptionCrystal) (ys : List Step)
+crystal-back : (r : Option RoscConfig) (o : Option Crystal) (ys : List Step)
     → read_crystal (crystal_part o ++ (store_step 1 (sources_of r o).xosc ∷ ys)) ≡ part o (store_step 1 (sources_of r o).xosc ∷ ys)
 unfolding crystal_part sources_of
 crystal-back r (crystal x) ys = rw (sys-pll-back x.sys x.usb x.hz ys, usb-pll-back x.usb x.hz ys)
@@ -130,12 +130,12 @@ sys-back b hz sys_pll_usb ys = refl
 sys-back b hz sys_rosc ys = refl
 sys-back b hz sys_xosc ys = refl
 
-peri-back : (hz : ℕ) (o : OptionPeri) (ys : List Step) → read_peri (peri_part hz o ++ ys) ≡ part o ys
+peri-back : (hz : ℕ) (o : Option PeriClkSrc) (ys : List Step) → read_peri (peri_part hz o ++ ys) ≡ part o ys
 unfolding peri_part
 peri-back hz (peri src) ys = rw (peri-code src).0
 peri-back hz no_peri ys = refl
 
-aux-back : (divider control clock hz : ℕ) (o : OptionAux) (ys : List Step) → eqb kind.store divider ≡ false → AuxSmall o
+aux-back : (divider control clock hz : ℕ) (o : Option AuxClkConfig) (ys : List Step) → eqb kind.store divider ≡ false → AuxSmall o
     → read_aux divider (aux_part divider control clock hz o ++ ys) ≡ part o ys
 unfolding aux_part
 aux-back divider control clock hz (aux a) ys other h =
@@ -147,7 +147,7 @@ rtc-back : (c : ChipConfig) (hz mask : ℕ)
 unfolding rtc_part
 rtc-back (on2040 c) hz mask = go c.rtc_clk
   where
-    go : (o : OptionRtc) → read_rtc (rtc_part Rp2040 hz o ++ last_part mask) ≡ o
+    go : (o : Option RtcClkConfig) → read_rtc (rtc_part Rp2040 hz o ++ last_part mask) ≡ o
     go (rtc r) = rw (aux-code r.src).0
     go no_rtc = refl
 rtc-back (on235x c) hz mask = refl

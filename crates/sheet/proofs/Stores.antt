@@ -1,26 +1,26 @@
 -- A sheet stores the frequencies of the settings, one for each clock in the order of the clocks: ten, on the RP235x nine.
+use Rattle.std.specs.Prelude.{Option}
 use mathlib.Core.{Path.◌≡◌, Path.refl, Path.ap, Bool.Bool, Bool.true, Bool.false, List.List, List.[], List.◌∷◌, List.◌++◌}
 use Prim.Native.Nat.{ℕ}
 use lib.Dec.{eqb}
 use Rattle.base.specs.Choice.{pick}
 use Rattle.chip.specs.declared.{Chip.Chip, Chip.TheVariants.Rp2040, Chip.TheVariants.Rp235x}
 use Rattle.chip.specs.Chips.{facts_of}
-use Rattle.config.specs.declared.{Board.Board, SysClkSrc.SysClkSrc, RefClkConfig.RefClkConfig, OptionRosc.OptionRosc}
-use Rattle.config.specs.declared.OptionRosc.TheVariants.{Some as ring, None as no_ring}
-use Rattle.config.specs.declared.OptionPll.{OptionPll}
-use Rattle.config.specs.declared.OptionPll.TheVariants.{Some as pll, None as no_pll}
-use Rattle.config.specs.declared.OptionPeri.{OptionPeri}
-use Rattle.config.specs.declared.OptionPeri.TheVariants.{Some as peri, None as no_peri}
-use Rattle.config.specs.declared.OptionAux.{OptionAux}
-use Rattle.config.specs.declared.OptionAux.TheVariants.{Some as aux, None as no_aux}
-use Rattle.config.specs.declared.OptionRtc.{OptionRtc}
-use Rattle.config.specs.declared.OptionRtc.TheVariants.{Some as rtc, None as no_rtc}
+use Rattle.config.specs.declared.{Board.Board, SysClkSrc.SysClkSrc, RefClkConfig.RefClkConfig, RoscConfig.RoscConfig}
+use Rattle.std.specs.Prelude.{Some as ring, None as no_ring}
+use Rattle.pll.specs.declared.PllConfig.{PllConfig}
+use Rattle.std.specs.Prelude.{Some as pll, None as no_pll}
+use Rattle.config.specs.declared.PeriClkSrc.{PeriClkSrc}
+use Rattle.std.specs.Prelude.{Some as peri, None as no_peri}
+use Rattle.config.specs.declared.AuxClkConfig.{AuxClkConfig}
+use Rattle.std.specs.Prelude.{Some as aux, None as no_aux}
+use Rattle.config.specs.declared.RtcClkConfig.{RtcClkConfig}
+use Rattle.std.specs.Prelude.{Some as rtc, None as no_rtc}
 use Rattle.step.specs.declared.Step.{Step}
 use Rattle.step.specs.Kinds as kind
-use Rattle.settings.specs.declared.OptionCrystal.{OptionCrystal}
-use Rattle.settings.specs.declared.OptionCrystal.TheVariants.{Some as crystal, None as no_crystal}
-use Rattle.settings.specs.declared.OptionCycles.{OptionCycles}
-use Rattle.settings.specs.declared.OptionCycles.TheVariants.{Some as cycles, None as no_cycles}
+use Rattle.settings.specs.declared.Crystal.{Crystal}
+use Rattle.std.specs.Prelude.{Some as crystal, None as no_crystal}
+use Rattle.std.specs.Prelude.{Some as cycles, None as no_cycles}
 use Rattle.settings.specs.declared.Settings.{Settings}
 use Rattle.settings.specs.{Codes.sys_select, Codes.sys_aux, Settings.ring_hz}
 use Rattle.settings.specs.Frequencies.{sources_of, tenth_of, stored_of}
@@ -33,35 +33,35 @@ mark-stores : (chip : Chip) (ys : List Step) → stores_in (mark_steps chip ++ y
 mark-stores Rp2040 ys = refl
 mark-stores Rp235x ys = refl
 
-ring-stores : (pass : ℕ) (o : OptionRosc) (ys : List Step)
+ring-stores : (pass : ℕ) (o : Option RoscConfig) (ys : List Step)
     → stores_in (ring_part pass o ++ ys) ≡ store_step 0 (ring_hz o) ∷ stores_in ys
 unfolding ring_part
 ring-stores pass (ring r) ys = refl
 ring-stores pass no_ring ys = refl
 
-voltage-stores : (reading : ℕ) (b : Board) (o : OptionCycles) (ys : List Step)
+voltage-stores : (reading : ℕ) (b : Board) (o : Option ℕ) (ys : List Step)
     → stores_in (voltage_part reading b o ++ ys) ≡ stores_in ys
 unfolding voltage_part
 voltage-stores reading b o ys = go b.chip (eqb b.code reading) o
   where
-    changing : Chip → OptionCycles → List Step
+    changing : Chip → Option ℕ → List Step
     changing chip o =
         step1 (facts_of chip).voltage b.code
         ∷ (settling_steps o ++ (step1 (facts_of chip).brownout b.brownout ∷ []))
 
-    go : (chip : Chip) (same : Bool) (o : OptionCycles) → stores_in (pick same [] (changing chip o) ++ ys) ≡ stores_in ys
+    go : (chip : Chip) (same : Bool) (o : Option ℕ) → stores_in (pick same [] (changing chip o) ++ ys) ≡ stores_in ys
     go chip true o = refl
     go Rp2040 false no_cycles = refl
     go Rp2040 false (cycles n) = refl
     go Rp235x false no_cycles = refl
     go Rp235x false (cycles n) = refl
 
-crystal-stores : (o : OptionCrystal) (ys : List Step) → stores_in (crystal_part o ++ ys) ≡ stores_in ys
+crystal-stores : (o : Option Crystal) (ys : List Step) → stores_in (crystal_part o ++ ys) ≡ stores_in ys
 unfolding crystal_part
 crystal-stores no_crystal ys = refl
 crystal-stores (crystal x) ys = go x.sys x.usb
   where
-    go : (s u : OptionPll) → stores_in ((pll_steps 0 s ++ pll_steps 1 u) ++ ys) ≡ stores_in ys
+    go : (s u : Option PllConfig) → stores_in ((pll_steps 0 s ++ pll_steps 1 u) ++ ys) ≡ stores_in ys
     go (pll p) (pll q) = refl
     go (pll p) no_pll = refl
     go no_pll (pll q) = refl
@@ -91,26 +91,26 @@ sys-stores b hz src ys = ap (λ (l : List Step). store_step 5 hz ∷ l) (go b.ch
     go Rp235x true = refl
     go Rp235x false = refl
 
-peri-stores : (hz : ℕ) (o : OptionPeri) (ys : List Step) → stores_in (peri_part hz o ++ ys) ≡ store_step 6 hz ∷ stores_in ys
+peri-stores : (hz : ℕ) (o : Option PeriClkSrc) (ys : List Step) → stores_in (peri_part hz o ++ ys) ≡ store_step 6 hz ∷ stores_in ys
 unfolding peri_part
 peri-stores hz (peri src) ys = refl
 peri-stores hz no_peri ys = refl
 
-aux-stores : (divider control clock hz : ℕ) (o : OptionAux) (ys : List Step)
+aux-stores : (divider control clock hz : ℕ) (o : Option AuxClkConfig) (ys : List Step)
     → eqb divider kind.store ≡ false → eqb control kind.store ≡ false
     → stores_in (aux_part divider control clock hz o ++ ys) ≡ store_step clock hz ∷ stores_in ys
 unfolding aux_part
 aux-stores divider control clock hz (aux a) ys d c = rw (d, c)
 aux-stores divider control clock hz no_aux ys d c = refl
 
-rtc-stores : (chip : Chip) (hz : ℕ) (o : OptionRtc) (mask : ℕ)
+rtc-stores : (chip : Chip) (hz : ℕ) (o : Option RtcClkConfig) (mask : ℕ)
     → stores_in (rtc_part chip hz o ++ last_part mask) ≡ stores_from 9 (tenth_of chip hz)
 unfolding rtc_part
 rtc-stores Rp2040 hz (rtc r) mask = refl
 rtc-stores Rp2040 hz no_rtc mask = refl
 rtc-stores Rp235x hz o mask = refl
 
-pub ring-source : (r : OptionRosc) (o : OptionCrystal) → (sources_of r o).rosc ≡ ring_hz r
+pub ring-source : (r : Option RoscConfig) (o : Option Crystal) → (sources_of r o).rosc ≡ ring_hz r
 unfolding sources_of
 ring-source r (crystal x) = refl
 ring-source r no_crystal = refl

@@ -1,5 +1,9 @@
 -- Inside: the settings of a sheet's steps, read part by part in the order of the sheet. The definitions give settings for any list of
 -- steps; for the steps of a plan these are the plan's settings, as `settings-back` shows.
+use Rattle.std.specs.Prelude.{Option, Some, None}
+use Rattle.config.specs.declared.PeriClkSrc.{PeriClkSrc}
+use Rattle.config.specs.declared.AuxClkConfig.{AuxClkConfig}
+use Rattle.config.specs.declared.RtcClkConfig.{RtcClkConfig}
 use mathlib.Core.{Bool.◌&&◌, List.List}
 use Rattle.std.specs.Prelude.{ℕ, ◌-◌}
 use lib.{ListN.get_or, ListN.drop, Dec.eqb}
@@ -8,10 +12,10 @@ use Rattle.chip.specs.declared.{Chip.Chip, Chip.TheVariants.Rp2040, Chip.TheVari
 use Rattle.chip.specs.Chips.{facts_of}
 use Rattle.step.specs.declared.Step.{Step}
 use Rattle.step.specs.Kinds as kind
-use Rattle.config.specs.declared.{RefClkConfig.RefClkConfig, SysClkSrc.SysClkSrc, OptionRosc.OptionRosc}
-use Rattle.config.specs.declared.{OptionPll.OptionPll, OptionPeri.OptionPeri, OptionAux.OptionAux, OptionRtc.OptionRtc}
+use Rattle.config.specs.declared.{RefClkConfig.RefClkConfig, SysClkSrc.SysClkSrc, RoscConfig.RoscConfig}
+use Rattle.pll.specs.declared.PllConfig.{PllConfig}
 use Rattle.config.specs.Board.{board_of}
-use Rattle.settings.specs.declared.{OptionCrystal.OptionCrystal, OptionCycles.OptionCycles, Settings.Settings}
+use Rattle.settings.specs.declared.{Crystal.Crystal, Settings.Settings}
 use Rattle.settings.specs.Codes.{range_from, ref_from, sys_from, peri_from, aux_from, div_from, chip_from}
 use Rattle.sheet_steps.specs.Steps.{step0}
 
@@ -33,11 +37,11 @@ abbrev pub read_chip : List Step → Part Chip
 read_chip xs = pick (eqb (step_at xs 0).kind kind.chip_mark) (part Rp235x (drop 1 xs)) (part Rp2040 xs)
 
 -- With a ring the part has 9 to 12 and the store, else only the store; `pass` is the chip's pass value.
-abbrev pub read_ring : ℕ → List Step → Part OptionRosc
+abbrev pub read_ring : ℕ → List Step → Part (Option RoscConfig)
 read_ring pass xs =
     pick (eqb (step_at xs 0).kind kind.strengths_0_3)
     (part
-    (OptionRosc.Some
+    (Some
     (record {
       hz = (step_at xs 4).f1;
       range = range_from (step_at xs 3).f0;
@@ -55,28 +59,28 @@ read_ring pass xs =
       div = (step_at xs 2).f0 - pass;
     }))
     (drop 5 xs))
-    (part OptionRosc.None (drop 1 xs))
+    (part None (drop 1 xs))
 
 -- The voltage code and the settling step.
 pub record Voltage : Type 0 where
   pub code : ℕ
-  pub settling : OptionCycles
+  pub settling : Option ℕ
 
 -- The part has 13, 14 if the voltage settles, and 15; without 13 the code is the reading. `voltage` is the chip's kind, 13 or 43.
 abbrev pub read_voltage : ℕ → ℕ → List Step → Part Voltage
 read_voltage voltage reading xs =
     pick (eqb (step_at xs 0).kind voltage)
     (pick (eqb (step_at xs 1).kind kind.delay)
-    (part (record { code = (step_at xs 0).f0; settling = OptionCycles.Some (step_at xs 1).f0 }) (drop 3 xs))
-    (part (record { code = (step_at xs 0).f0; settling = OptionCycles.None }) (drop 2 xs)))
-    (part (record { code = reading; settling = OptionCycles.None }) xs)
+    (part (record { code = (step_at xs 0).f0; settling = Some (step_at xs 1).f0 }) (drop 3 xs))
+    (part (record { code = (step_at xs 0).f0; settling = None }) (drop 2 xs)))
+    (part (record { code = reading; settling = None }) xs)
 
 -- A PLL that is present has nine steps from 19 on; `which` is 0 for the system PLL, 1 for the USB PLL.
-abbrev pub read_pll : ℕ → List Step → Part OptionPll
+abbrev pub read_pll : ℕ → List Step → Part (Option PllConfig)
 read_pll which xs =
     pick (eqb (step_at xs 0).kind kind.pll_power && eqb (step_at xs 0).f0 which)
     (part
-    (OptionPll.Some
+    (Some
     (record {
       refdiv = (step_at xs 2).f1;
       fbdiv = (step_at xs 3).f1;
@@ -84,16 +88,16 @@ read_pll which xs =
       post_div2 = (step_at xs 6).f2;
     }))
     (drop 9 xs))
-    (part OptionPll.None xs)
+    (part None xs)
 
 -- The part has 16 to 18 and the PLLs. The crystal's Hz are read from the store after it, which belongs to the next part.
-abbrev pub read_crystal : List Step → Part OptionCrystal
+abbrev pub read_crystal : List Step → Part (Option Crystal)
 read_crystal xs =
     pick (eqb (step_at xs 0).kind kind.startup)
     (read_pll 0 (drop 3 xs) then λ sys ys.
     read_pll 1 ys then λ usb zs.
-    part (OptionCrystal.Some (record { hz = (step_at zs 0).f1; delay = (step_at xs 0).f0; sys = sys; usb = usb })) zs)
-    (part OptionCrystal.None xs)
+    part (Some (record { hz = (step_at zs 0).f1; delay = (step_at xs 0).f0; sys = sys; usb = usb })) zs)
+    (part None xs)
 
 -- The part has the store, 25, 8 and 26; the tick follows.
 abbrev pub read_ref : List Step → Part RefClkConfig
@@ -118,33 +122,33 @@ read_sys xs =
     (part (record { src = SysClkSrc.Ref; whole = (step_at xs 3).f0; fraction = (step_at xs 3).f1 }) (drop 4 xs))
 
 -- A peripheral clock that is present has 30 and the store, an absent one only the store.
-abbrev pub read_peri : List Step → Part OptionPeri
+abbrev pub read_peri : List Step → Part (Option PeriClkSrc)
 read_peri xs =
     pick (eqb (step_at xs 0).kind kind.peri_control)
-    (part (OptionPeri.Some (peri_from (step_at xs 0).f0)) (drop 2 xs))
-    (part OptionPeri.None (drop 1 xs))
+    (part (Some (peri_from (step_at xs 0).f0)) (drop 2 xs))
+    (part None (drop 1 xs))
 
 -- USB has 31 and 32, ADC 33 and 34, and the store; an absent clock has only the store.
-abbrev pub read_aux : ℕ → List Step → Part OptionAux
+abbrev pub read_aux : ℕ → List Step → Part (Option AuxClkConfig)
 read_aux divider xs =
     pick (eqb (step_at xs 0).kind divider)
     (part
-    (OptionAux.Some (record { src = aux_from (step_at xs 1).f1; div = div_from (step_at xs 0).f0; phase = (step_at xs 1).f0 }))
+    (Some (record { src = aux_from (step_at xs 1).f1; div = div_from (step_at xs 0).f0; phase = (step_at xs 1).f0 }))
     (drop 3 xs))
-    (part OptionAux.None (drop 1 xs))
+    (part None (drop 1 xs))
 
 -- An RTC that is present has 35 and 36.
-abbrev pub read_rtc : List Step → OptionRtc
+abbrev pub read_rtc : List Step → Option RtcClkConfig
 read_rtc xs =
     pick (eqb (step_at xs 0).kind kind.rtc_divider)
-    (OptionRtc.Some
+    (Some
     (record {
       src = aux_from (step_at xs 1).f1;
       div_int = (step_at xs 0).f0;
       div_frac = (step_at xs 0).f1;
       phase = (step_at xs 1).f0;
     }))
-    OptionRtc.None
+    None
 
 -- All parts in turn; the nine steps of the head and the stores of `xosc`, `pll_sys` and `pll_usb` are skipped.
 unfoldable pub settings_from : ℕ → List Step → Settings

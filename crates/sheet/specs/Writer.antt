@@ -1,9 +1,9 @@
 -- The answer of `init` and the caller's bytes after the call (docs/FORMAT.md, Sheet writer).
 use mathlib.Core.{Path.◌≡◌, Bool.not, List.List, List.◌++◌}
-use Rattle.std.specs.Prelude.{ℕ}
+use Rattle.std.specs.Prelude.{ℕ, Result}
+use Rattle.base.specs.declared.refusal.Refusal.{Refusal}
 use lib.{Dec.eqb, Dec.ltb, ListN.length, ListN.drop}
-use Rattle.base.specs.{Choice.pick, Answer.Answer, Answer.value, Answer.refusal, Answer.length_is}
-use Rattle.base.specs.declared.Length.{Length}
+use Rattle.base.specs.{Choice.pick, Answer.Answer, Answer.value, Answer.refusal, Answer.answer_of}
 use Rattle.step.specs.Sheet.{encoded}
 use Rattle.config.specs.declared.ClockConfig.{ClockConfig}
 use Rattle.settings.specs.{Settings.settings_of, Typed.Typed}
@@ -35,7 +35,7 @@ unfoldable pub init_buffer : ClockConfig → ℕ → List ℕ → List ℕ
 init_buffer p reading buffer = leaves (init_answer p reading buffer) (sheet_bytes p reading) buffer
 
 -- The contract of a call: its answer, the whole buffer after it, and the bounds that the number types of the plan give.
-pub record InitCall (p : ClockConfig) (reading : ℕ) (before : List ℕ) (r : Length) (after : List ℕ) : Type 0 where
-  pub answer : length_is r ≡ init_answer p reading before
+pub record InitCall (p : ClockConfig) (reading : ℕ) (before : List ℕ) (r : Result ℕ Refusal) (after : List ℕ) : Type 0 where
+  pub answer : answer_of r ≡ init_answer p reading before
   pub bytes : after ≡ init_buffer p reading before
   pub typed : Typed (settings_of p reading)

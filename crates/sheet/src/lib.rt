@@ -8,7 +8,7 @@ ghost use Rattle.sheet_steps.specs.Steps.{steps_of};
 ghost use Rattle.sheet_steps.specs.Gather.{held, pushes};
 ghost use Rattle.sheet.specs.Writer.{InitCall};
 
-use base::Length;
+use base::Refusal;
 use config::ClockConfig;
 use settings::{Frequencies, Settings};
 use sheet_steps::Words;
@@ -17,34 +17,25 @@ use sheet_steps::Words;
 fn gather(words: &mut Words, s: Settings, f: Frequencies, reading: u8) -> usize
     ensures { f ≡ frequencies_of s → held words.new result ≡ pushes (held words.old 0) (steps_of reading s) }
 {
-    let b = s.board;
-    let chip = b.chip;
-    let k = chip.facts();
-    let ring = s.rosc;
-    let crystal = s.xosc;
-    let settling = s.settling;
+    let chip = s.board.chip;
     let at = source_parts::put_start(words, chip);
-    let at = source_parts::put_ring(words, at, k.pass, ring);
-    let at = source_parts::put_voltage(words, at, reading, b, settling);
-    let at = source_parts::put_crystal(words, at, crystal);
+    let at = source_parts::put_ring(words, at, chip.facts().pass, s.rosc);
+    let at = source_parts::put_voltage(words, at, reading, s.board, s.settling);
+    let at = source_parts::put_crystal(words, at, s.xosc);
     clock_parts::put_clocks(words, at, s, f)
 }
 
 // Writes the sheet of a plan at a regulator reading to the start of the caller's bytes and answers its length in bytes; 18, then
 // 1 to 14, then 19 where the bytes are too few. A refusal changes nothing.
-pub fn init(config: ClockConfig, reading: u8, sheet: &mut [u8]) -> Length
+pub fn init(config: ClockConfig, reading: u8, sheet: &mut [u8]) -> Result<usize, Refusal>
     ensures { InitCall config reading sheet.old result sheet.new }
 {
     let s = settings::settings_of(config, reading);
-    let found = refusals::examine(s, reading);
-    if found.number != 0 {
-        return Length::Refused(found.number);
-    }
-    let f = found.frequencies;
+    let f = refusals::examine(s, reading)?;
     let mut words = [0u64; step::MAX_STEPS];
     let count = gather(&mut words, s, f, reading);
     if !step::copy_turned(&words[..count], sheet) {
-        return Length::Refused(19);
+        return Err(Refusal::ShortBuffer);
     }
-    Length::Bytes(8 * count)
+    Ok(8 * count)
 }

@@ -1,18 +1,26 @@
 -- The steps of a sheet, part by part (docs/FORMAT.md, Order of a sheet). The numbers in the comments are kinds of steps.
-use Rattle.std.specs.Prelude.{ℕ, ◌+◌, ◌-◌, ◌/◌, ◌%◌, List, [], ◌∷◌, ◌++◌, eqb}
+use Rattle.std.specs.Prelude.{Option, Some, None}
+use Rattle.config.specs.declared.RoscConfig.{RoscConfig}
+use Rattle.std.specs.Prelude.{ℕ, ◌+◌, ◌-◌, ◌/◌, ◌%◌, List, [], ◌∷◌, ◌++◌, eqb, get_or}
 use Rattle.base.specs.Choice.{pick}
 use Rattle.chip.specs.declared.{Chip.Chip, Chip.TheVariants.Rp2040, Chip.TheVariants.Rp235x}
 use Rattle.chip.specs.Chips.{facts_of}
 use Rattle.step.specs.declared.Step.{Step}
 use Rattle.step.specs.{Steps.step_of, Sheet.max_steps}
 use Rattle.step.specs.Kinds as kind
-use Rattle.config.specs.declared.{OptionRosc.OptionRosc, OptionPll.OptionPll, RefClkConfig.RefClkConfig}
-use Rattle.config.specs.declared.{SysClkSrc.SysClkSrc, Board.Board, OptionPeri.OptionPeri, OptionAux.OptionAux}
-use Rattle.config.specs.declared.OptionRtc.{OptionRtc}
-use Rattle.settings.specs.declared.{OptionCrystal.OptionCrystal, OptionCycles.OptionCycles, Settings.Settings}
+use Rattle.config.specs.declared.{RefClkConfig.RefClkConfig}
+use Rattle.pll.specs.declared.PllConfig.{PllConfig}
+use Rattle.config.specs.declared.{SysClkSrc.SysClkSrc, Board.Board, PeriClkSrc.PeriClkSrc, AuxClkConfig.AuxClkConfig}
+use Rattle.config.specs.declared.RtcClkConfig.{RtcClkConfig}
+use Rattle.settings.specs.declared.{Crystal.Crystal, Settings.Settings}
 use Rattle.settings.specs.declared.{Sources.Sources, Frequencies.Frequencies}
 use Rattle.settings.specs.Codes.{range_code, ref_code, sys_select, sys_aux, peri_aux, aux_code}
 use Rattle.settings.specs.{Settings.ring_hz, Frequencies.frequencies_of}
+
+-- A step of a kind with these fields, of which it has up to five.
+abbrev pub step_with : ℕ → List ℕ → Step
+step_with k fields =
+    step_of k (get_or fields 0 0) (get_or fields 1 0) (get_or fields 2 0) (get_or fields 3 0) (get_or fields 4 0)
 
 -- A step of a kind with fewer than five fields.
 abbrev pub step4 : ℕ → ℕ → ℕ → ℕ → ℕ → Step
@@ -55,8 +63,8 @@ head_part chip =
     ∷ []
 
 -- With a ring there are 9 to 12: strengths, divider plus pass value, range.
-abbrev pub ring_steps : ℕ → OptionRosc → List Step
-ring_steps pass (OptionRosc.Some r) =
+abbrev pub ring_steps : ℕ → Option RoscConfig → List Step
+ring_steps pass (Some r) =
     step4 kind.strengths_0_3 r.drive_strength.s0 r.drive_strength.s1
     r.drive_strength.s2 r.drive_strength.s3
     ∷ step4 kind.strengths_4_7 r.drive_strength.s4 r.drive_strength.s5
@@ -64,20 +72,20 @@ ring_steps pass (OptionRosc.Some r) =
     ∷ step1 kind.ring_divider (r.div + pass)
     ∷ step1 kind.ring_on (range_code r.range)
     ∷ []
-ring_steps pass OptionRosc.None = []
+ring_steps pass None = []
 
 -- The ring part ends with the store of `rosc`.
-unfoldable pub ring_part : ℕ → OptionRosc → List Step
+unfoldable pub ring_part : ℕ → Option RoscConfig → List Step
 ring_part pass r = ring_steps pass r ++ (store_step 0 (ring_hz r) ∷ [])
 
 -- The settling step is 14.
-abbrev pub settling_steps : OptionCycles → List Step
-settling_steps (OptionCycles.Some n) = step1 kind.delay n ∷ []
-settling_steps OptionCycles.None = []
+abbrev pub settling_steps : Option ℕ → List Step
+settling_steps (Some n) = step1 kind.delay n ∷ []
+settling_steps None = []
 
 -- Where the voltage code differs from the reading there is 13, then 14 unless the settling time is 0, then 15. The RP235x has 43
 -- and 44 instead of 13 and 15.
-unfoldable pub voltage_part : ℕ → Board → OptionCycles → List Step
+unfoldable pub voltage_part : ℕ → Board → Option ℕ → List Step
 voltage_part reading b settling =
     pick (eqb b.code reading) []
     (step1 (facts_of b.chip).voltage b.code
@@ -85,8 +93,8 @@ voltage_part reading b settling =
 
 -- A PLL that is present has 19(W, 1, 1, 1, 1), 14(10), 20, 21, 19(W, 0, 0, 1, 1), 22, 23, 24, 14(100); W is 0 for the system PLL,
 -- 1 for the USB PLL.
-abbrev pub pll_steps : ℕ → OptionPll → List Step
-pll_steps which (OptionPll.Some p) =
+abbrev pub pll_steps : ℕ → Option PllConfig → List Step
+pll_steps which (Some p) =
     step_of kind.pll_power which 1 1 1 1
     ∷ step1 kind.delay 10
     ∷ step2 kind.pll_reference which p.refdiv
@@ -97,16 +105,16 @@ pll_steps which (OptionPll.Some p) =
     ∷ step1 kind.pll_post_on which
     ∷ step1 kind.delay 100
     ∷ []
-pll_steps which OptionPll.None = []
+pll_steps which None = []
 
 -- With a crystal there are 16, 17, 18, then the PLLs, the system PLL first.
-unfoldable pub crystal_part : OptionCrystal → List Step
-crystal_part (OptionCrystal.Some x) =
+unfoldable pub crystal_part : Option Crystal → List Step
+crystal_part (Some x) =
     step1 kind.startup x.delay
     ∷ step0 kind.crystal_on
     ∷ step0 kind.wait_stable
     ∷ (pll_steps 0 x.sys ++ pll_steps 1 x.usb)
-crystal_part OptionCrystal.None = []
+crystal_part None = []
 
 -- The stores of `xosc`, `pll_sys` and `pll_usb`.
 abbrev pub source_part : Sources → List Step
@@ -147,54 +155,46 @@ sys_part b hz src =
     ∷ []))
 
 -- A peripheral clock that is present has 30.
-abbrev pub peri_steps : OptionPeri → List Step
-peri_steps (OptionPeri.Some src) = step1 kind.peri_control (peri_aux src) ∷ []
-peri_steps OptionPeri.None = []
+abbrev pub peri_steps : Option PeriClkSrc → List Step
+peri_steps (Some src) = step1 kind.peri_control (peri_aux src) ∷ []
+peri_steps None = []
 
 -- The peripheral part ends with the store of `peri`.
-unfoldable pub peri_part : ℕ → OptionPeri → List Step
+unfoldable pub peri_part : ℕ → Option PeriClkSrc → List Step
 peri_part hz o = peri_steps o ++ (store_step 6 hz ∷ [])
 
 -- USB and ADC each have a kind for the divider, a field of two bits, and a kind for phase and source.
-abbrev pub aux_steps : ℕ → ℕ → OptionAux → List Step
-aux_steps divider control (OptionAux.Some a) = step1 divider (a.div % 4) ∷ step2 control a.phase (aux_code a.src) ∷ []
-aux_steps divider control OptionAux.None = []
+abbrev pub aux_steps : ℕ → ℕ → Option AuxClkConfig → List Step
+aux_steps divider control (Some a) = step1 divider (a.div % 4) ∷ step2 control a.phase (aux_code a.src) ∷ []
+aux_steps divider control None = []
 
 -- USB has 31, 32 and its store; ADC has 33, 34 and its store.
-unfoldable pub aux_part : ℕ → ℕ → ℕ → ℕ → OptionAux → List Step
+unfoldable pub aux_part : ℕ → ℕ → ℕ → ℕ → Option AuxClkConfig → List Step
 aux_part divider control clock hz o = aux_steps divider control o ++ (store_step clock hz ∷ [])
 
 -- An RTC that is present has 35 and 36.
-abbrev pub rtc_steps : OptionRtc → List Step
-rtc_steps (OptionRtc.Some r) =
+abbrev pub rtc_steps : Option RtcClkConfig → List Step
+rtc_steps (Some r) =
     step2 kind.rtc_divider r.div_int r.div_frac
     ∷ step2 kind.rtc_control r.phase (aux_code r.src)
     ∷ []
-rtc_steps OptionRtc.None = []
+rtc_steps None = []
 
 -- The RTC part ends with the store of `rtc`; the RP235x has no RTC part.
-unfoldable pub rtc_part : Chip → ℕ → OptionRtc → List Step
+unfoldable pub rtc_part : Chip → ℕ → Option RtcClkConfig → List Step
 rtc_part Rp2040 hz o = rtc_steps o ++ (store_step 9 hz ∷ [])
 rtc_part Rp235x hz o = []
 
 -- The reset bits that the last release leaves out where a clock is absent (docs/FORMAT.md, Masks).
-abbrev pub peri_bits : ℕ → OptionPeri → ℕ
-peri_bits bits (OptionPeri.Some src) = 0
-peri_bits bits OptionPeri.None = bits
-
-abbrev pub aux_bits : ℕ → OptionAux → ℕ
-aux_bits bits (OptionAux.Some a) = 0
-aux_bits bits OptionAux.None = bits
-
-abbrev pub rtc_bits : ℕ → OptionRtc → ℕ
-rtc_bits bits (OptionRtc.Some r) = 0
-rtc_bits bits OptionRtc.None = bits
+abbrev pub bits_without : {A : Type 0} → ℕ → Option A → ℕ
+bits_without bits (Some clock) = 0
+bits_without bits None = bits
 
 -- The mask of the last release is the chip's without the bits of absent clocks.
-unfoldable pub release_mask : Chip → OptionPeri → OptionAux → OptionAux → OptionRtc → ℕ
+unfoldable pub release_mask : Chip → Option PeriClkSrc → Option AuxClkConfig → Option AuxClkConfig → Option RtcClkConfig → ℕ
 release_mask chip p u a r =
     let k = facts_of chip in
-    k.last - (peri_bits k.peri p + aux_bits k.usb u + aux_bits k.adc a + rtc_bits k.rtc r)
+    k.last - (bits_without k.peri p + bits_without k.usb u + bits_without k.adc a + bits_without k.rtc r)
 
 -- The sheet ends with 2 and 3 of this mask.
 abbrev pub last_part : ℕ → List Step

@@ -1,9 +1,10 @@
 -- After any history, a wake restores the words of the last sleep in its slot, since only a sleep changes a slot, and
 -- only its own.
+use Rattle.std.specs.Prelude.{Option, Some, None}
 use Prim.Native.Nat.{ℕ, zero, suc, ◌<◌, ◌≤◌}
 use native.Mathlib.Omega.{arith}
 use mathlib.Core.{Path.◌≡◌, Path.refl, Path.sym, Path.ap, Path.◌∙◌, Bool.Bool, Bool.true, Bool.false}
-use mathlib.Core.{List.List, List.[], List.◌∷◌, Option.Option, Option.none, Option.some}
+use mathlib.Core.{List.List, List.[], List.◌∷◌}
 use lib.{Dec.ltb, Dec.eqb, ListN.length, ListN.length-set, Seq.get_or-set_same, Seq.get_or-set_other}
 use borrow.Author.Tests.{le-ltb, ltb-false, eqb-true, eqb-false}
 use Rattle.base.specs.Choice.{pick}
@@ -40,11 +41,11 @@ wake-slots slots at ws =
 
 -- the contents of a slot after its last sleep
 abbrev holding : Option (List ℕ) → Slot
-holding (some ws) = saved ws
-holding none = unsaved
+holding (Some ws) = saved ws
+holding None = unsaved
 
 holding-pick : (t : Bool) (ws : List ℕ) (o : Option (List ℕ))
-    → holding (pick t (some ws) o) ≡ pick t (saved ws) (holding o)
+    → holding (pick t (Some ws) o) ≡ pick t (saved ws) (holding o)
 holding-pick true ws o = refl
 holding-pick false ws o = refl
 
@@ -57,8 +58,8 @@ fresh-slot (suc (suc (suc (suc n)))) h = absurd (omega arith)
 
 wake-from : (o : Option (List ℕ)) (slots : List Slot) (handed : List ℕ)
     → pick (holding o).saved (woken slots (holding o).words) (refused_call slots handed 30) ≡ wake_from o slots handed
-wake-from (some ws) slots handed = refl
-wake-from none slots handed = refl
+wake-from (Some ws) slots handed = refl
+wake-from None slots handed = refl
 
 module _ (registers : List ℕ) (n : length registers ≡ 11) where
   four : (h : List SleepEvent) → length (board_after registers h).slots ≡ 4
@@ -102,7 +103,7 @@ module _ (registers : List ℕ) (n : length registers ≡ 11) where
         (λ t. let low : slot ≤ 3 = ltb-false 3 slot t in
         rw (t, held h slot (omega arith)) (wake-from (last_sleep h slot) (board_after registers h).slots handed))
 
-    registers-after : (ws : List ℕ) → slot < 4 → last_sleep h slot ≡ some ws → length ws ≡ 11
+    registers-after : (ws : List ℕ) → slot < 4 → last_sleep h slot ≡ Some ws → length ws ≡ 11
         → (board_after registers (wakes slot handed ∷ h)).registers ≡ ws
     unfolding board_after happens
     registers-after ws k e m =

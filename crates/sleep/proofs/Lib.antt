@@ -1,4 +1,3 @@
 pub mod Words
-pub mod Gathered
 pub mod Replay
 pub mod History

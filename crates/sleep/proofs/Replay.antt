@@ -5,7 +5,9 @@ use mathlib.Core.{Path.◌≡◌, Path.refl, Path.◌∙◌, Bool.Bool, Bool.tru
 use lib.{Dec.ltb, ListN.length, ListN.length-set}
 use Rattle.sleep.specs.declared.steps.Step.{Step}
 use Rattle.sleep.specs.declared.steps.Step.TheVariants.{Write, RingStable, CrystalStable, Locked}
+use Rattle.sleep.specs.declared.register.Pll.TheVariants.{Sys, Usb}
 use Rattle.sleep.specs.declared.Slot.{Slot}
+use Rattle.sleep.specs.Registers.{number_of}
 use Rattle.sleep.specs.{Bits.pll_runs, Bits.crystal_runs, Words.word_in, Words.asleep}
 use Rattle.sleep.specs.Sleep.{answer_steps, wait_if, sleep_steps, wake_steps_by, wake_steps, slot_at, sleep_of, wake_of}
 use Rattle.sleep.specs.History.{written, replayed, order, wait_steps}
@@ -18,7 +20,7 @@ either_way false f g = g refl
 -- ---- eleven registers
 
 length-written : (s : Step) (ws : List ℕ) → length (written s ws) ≡ length ws
-length-written (Write i v) ws = length-set ws i v
+length-written (Write r v) ws = length-set ws (number_of r) v
 length-written RingStable ws = refl
 length-written CrystalStable ws = refl
 length-written (Locked pll) ws = refl
@@ -132,9 +134,9 @@ module _ (ws : List ℕ) where
   pub wake-waits :
       wait_steps (wake_steps ws)
       ≡ wait_if (crystal_runs (word_in ws 9)) CrystalStable
-      ++ (wait_if (pll_runs (word_in ws 8)) (Locked 1) ++ wait_if (pll_runs (word_in ws 7)) (Locked 0))
+      ++ (wait_if (pll_runs (word_in ws 8)) (Locked Usb) ++ wait_if (pll_runs (word_in ws 7)) (Locked Sys))
   unfolding wake_steps_by
   wake-waits =
       waits-apart
-      (λ x y z. wait_steps (wake_steps_by ws x y z) ≡ wait_if x CrystalStable ++ (wait_if y (Locked 1) ++ wait_if z (Locked 0)))
+      (λ x y z. wait_steps (wake_steps_by ws x y z) ≡ wait_if x CrystalStable ++ (wait_if y (Locked Usb) ++ wait_if z (Locked Sys)))
       (crystal_runs (word_in ws 9)) (pll_runs (word_in ws 8)) (pll_runs (word_in ws 7)) refl refl refl refl refl refl refl refl

@@ -23,12 +23,12 @@ module _ (low size v w : ℕ) (inside : low + size < 32) (small : v < 2 ^ size) 
       shr_lt (32 - above) above (rw n (omega arith))
 
   -- `(w >> above) << above`
-  pub high-exact : (w / 2 ^ above * 2 ^ above) % 2 ^ 32 ≡ w / 2 ^ above * 2 ^ above
-  high-exact = shl_exact (32 - above) above 32 high_lt (omega arith)
+  pub high_exact : (w / 2 ^ above * 2 ^ above) % 2 ^ 32 ≡ w / 2 ^ above * 2 ^ above
+  high_exact = shl_exact (32 - above) above 32 high_lt (omega arith)
 
   -- `v << low`
-  pub value-exact : (v * 2 ^ low) % 2 ^ 32 ≡ v * 2 ^ low
-  value-exact = shl_exact size low 32 small (omega arith)
+  pub value_exact : (v * 2 ^ low) % 2 ^ 32 ≡ v * 2 ^ low
+  value_exact = shl_exact size low 32 small (omega arith)
 
   rest_lt : v * 2 ^ low + w % 2 ^ low < 2 ^ above
   rest_lt =

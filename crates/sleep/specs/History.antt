@@ -1,18 +1,19 @@
 -- The registers and the slots after any history of sleeps, wakes and other register writes (docs/SLEEP.md).
-use Rattle.std.specs.Prelude.{ℕ, ◌<◌}
-use mathlib.Core.{Path.◌≡◌, List.List, List.[], List.◌∷◌, Option.Option, Option.none, Option.some}
+use Rattle.std.specs.Prelude.{ℕ, ◌<◌, Option, Some, None}
+use mathlib.Core.{Path.◌≡◌, List.List, List.[], List.◌∷◌}
 use lib.{Dec.ltb, Dec.eqb, ListN.length, ListN.set}
-use Rattle.base.specs.{Choice.pick}
+use Rattle.base.specs.Choice.{pick}
 use Rattle.sleep.specs.declared.steps.Step.{Step}
 use Rattle.sleep.specs.declared.steps.Step.TheVariants.{Write, RingStable, CrystalStable, Locked}
 use Rattle.sleep.specs.declared.Slot.{Slot}
+use Rattle.sleep.specs.Registers.{number_of}
 use Rattle.sleep.specs.Sleep.{SleepOutcome, answer_steps, fresh_slots, refused_call, woken, sleep_of, wake_of}
 
 -- ---- the steps of an answer
 
 -- the registers after a step: a write sets one, a wait none
 abbrev pub written : Step → List ℕ → List ℕ
-written (Write i v) ws = set ws i v
+written (Write r v) ws = set ws (number_of r) v
 written RingStable ws = ws
 written CrystalStable ws = ws
 written (Locked pll) ws = ws
@@ -24,7 +25,7 @@ replayed (s ∷ steps) ws = replayed steps (written s ws)
 -- the registers that are written, in order
 abbrev pub order : List Step → List ℕ
 order [] = []
-order (Write i v ∷ steps) = i ∷ order steps
+order (Write r v ∷ steps) = number_of r ∷ order steps
 order (RingStable ∷ steps) = order steps
 order (CrystalStable ∷ steps) = order steps
 order (Locked pll ∷ steps) = order steps
@@ -32,7 +33,7 @@ order (Locked pll ∷ steps) = order steps
 -- the waits, in order
 abbrev pub wait_steps : List Step → List Step
 wait_steps [] = []
-wait_steps (Write i v ∷ steps) = wait_steps steps
+wait_steps (Write r v ∷ steps) = wait_steps steps
 wait_steps (RingStable ∷ steps) = RingStable ∷ wait_steps steps
 wait_steps (CrystalStable ∷ steps) = CrystalStable ∷ wait_steps steps
 wait_steps (Locked pll ∷ steps) = Locked pll ∷ wait_steps steps
@@ -66,15 +67,15 @@ board_after registers (e ∷ h) = happens e (board_after registers h)
 
 -- the words handed to the last sleep in a slot
 unfoldable pub last_sleep : List SleepEvent → ℕ → Option (List ℕ)
-last_sleep [] slot = none
-last_sleep (sleeps at ws ∷ h) slot = pick (eqb at slot) (some ws) (last_sleep h slot)
+last_sleep [] slot = None
+last_sleep (sleeps at ws ∷ h) slot = pick (eqb at slot) (Some ws) (last_sleep h slot)
 last_sleep (wakes at ws ∷ h) slot = last_sleep h slot
 last_sleep (writes i v ∷ h) slot = last_sleep h slot
 
 -- the outcome of a wake after the last sleep in its slot
 abbrev pub wake_from : Option (List ℕ) → List Slot → List ℕ → SleepOutcome
-wake_from (some ws) slots handed = woken slots ws
-wake_from none slots handed = refused_call slots handed 30
+wake_from (Some ws) slots handed = woken slots ws
+wake_from None slots handed = refused_call slots handed 30
 
 -- After any history, and for any words handed in, a wake answers the words of the last sleep in its slot, and the
 -- registers hold them after it. It is refused with 30 where there was no sleep, and with 29 for a slot over 3.
@@ -83,5 +84,5 @@ pub record Restores (registers : List ℕ) (h : List SleepEvent) (slot : ℕ) (h
       wake_of (board_after registers h).slots slot handed
       ≡ pick (ltb 3 slot) (refused_call (board_after registers h).slots handed 29)
       (wake_from (last_sleep h slot) (board_after registers h).slots handed)
-  pub restores : (ws : List ℕ) → slot < 4 → last_sleep h slot ≡ some ws → length ws ≡ 11
+  pub restores : (ws : List ℕ) → slot < 4 → last_sleep h slot ≡ Some ws → length ws ≡ 11
       → (board_after registers (wakes slot handed ∷ h)).registers ≡ ws

@@ -1,5 +1,5 @@
+pub mod Registers
 pub mod Bits
 pub mod Words
 pub mod Sleep
-pub mod Inside
 pub mod History

@@ -1,12 +1,13 @@
 -- Sleep and wake (docs/SLEEP.md): their answers, and the words and slots after them.
-use Rattle.std.specs.Prelude.{ℕ, zero, suc, min}
-use mathlib.Core.{Path.◌≡◌, Bool.Bool, Bool.true, Bool.false, List.List, List.[], List.◌∷◌, List.◌++◌}
-use lib.{Dec.ltb, ListN.length, ListN.get_or, ListN.set, ListN.replicate}
+use Rattle.std.specs.Prelude.{ℕ}
+use mathlib.Core.{Bool.Bool, Bool.true, Bool.false, List.List, List.[], List.◌∷◌, List.◌++◌, List.map}
+use lib.{Dec.ltb, ListN.get_or, ListN.set, ListN.replicate}
 use Rattle.base.specs.{Answer.Answer, Answer.value, Answer.refusal, Choice.pick}
-use Rattle.sleep.specs.declared.steps.Step.{Step}
+use Rattle.sleep.specs.declared.{register.Register.Register, steps.Step.Step, Slot.Slot}
+use Rattle.sleep.specs.declared.register.Register.TheVariants as reg
+use Rattle.sleep.specs.declared.register.Pll.TheVariants.{Sys, Usb}
 use Rattle.sleep.specs.declared.steps.Step.TheVariants.{Write, RingStable, CrystalStable, Locked}
-use Rattle.sleep.specs.declared.{steps.Item.Item, steps.Steps.Steps, Slot.Slot, Answer.Answer as Answered}
-use Rattle.sleep.specs.declared.{Answer.TheVariants.Done, Answer.TheVariants.Refused, Change.Change}
+use Rattle.sleep.specs.Registers.{number_of}
 use Rattle.sleep.specs.{Bits.pll_runs, Bits.crystal_runs, Words.word_in, Words.asleep}
 
 -- the outcome of a call: its steps or a refusal, and the words and slots after it
@@ -15,63 +16,42 @@ pub record SleepOutcome : Type 0 where
   pub words : List ℕ
   pub slots : List Slot
 
--- ---- the code's answers as outcomes
-
--- the first n items
-abbrev pub first_steps : List Item → ℕ → List Step
-first_steps items zero = []
-first_steps items (suc n) = first_steps items n ++ ((get_or items n (record { step = Write 0 0 })).step ∷ [])
-
--- the steps of a list of at most fourteen
-abbrev pub step_list : Steps → List Step
-step_list s = first_steps s.items (min s.len 14)
-
-abbrev pub answer_is : Answered → List Step → Answer (List Step)
-answer_is Done steps = value steps
-answer_is (Refused n) steps = refusal n
-
-abbrev pub change_is : Change → SleepOutcome
-change_is c = record { answer = answer_is c.answer (step_list c.steps); words = c.words; slots = c.slots }
+abbrev pub outcome : Answer (List Step) → List ℕ → List Slot → SleepOutcome
+outcome answer ws slots = record { answer = answer; words = ws; slots = slots }
 
 -- the steps of an answer; a refusal has none
 abbrev pub answer_steps : Answer (List Step) → List Step
 answer_steps (value steps) = steps
 answer_steps (refusal n) = []
 
--- the list holds exactly the steps xs; the items past the length are unspecified
-pub record StepsAre (s : Steps) (xs : List Step) : Type 0 where
-  pub list : step_list s ≡ xs
-  pub exact : s.len ≡ length xs
-
--- the contract of a call: it answers the outcome, with exactly its steps and none after a refusal; the items past the
--- length are unspecified
-pub record Changed (c : Change) (o : SleepOutcome) : Type 0 where
-  pub outcome : change_is c ≡ o
-  pub exact : c.steps.len ≡ length (answer_steps o.answer)
-
 -- ---- the steps, to the words ws
 
-abbrev pub write : List ℕ → ℕ → Step
-write ws i = Write i (word_in ws i)
+-- the word of a register, written to it
+abbrev pub write : List ℕ → Register → Step
+write ws r = Write r (word_in ws (number_of r))
+
+abbrev pub writes : List ℕ → List Register → List Step
+writes ws rs = map (write ws) rs
 
 -- into sleep: from the first register to the last; the ring is stable before any clock runs from it
 unfoldable pub sleep_steps : List ℕ → List Step
 sleep_steps ws =
-    write ws 0 ∷ write ws 1 ∷ write ws 2 ∷ write ws 3 ∷ write ws 4 ∷ RingStable
-    ∷ write ws 5 ∷ write ws 6 ∷ write ws 7 ∷ write ws 8 ∷ write ws 9 ∷ write ws 10 ∷ []
+    writes ws (reg.AdcCtrl ∷ reg.UsbCtrl ∷ reg.PeriCtrl ∷ reg.RoscCtrl ∷ reg.RoscDiv ∷ [])
+    ++ (RingStable
+    ∷ writes ws (reg.RefCtrl ∷ reg.SysCtrl ∷ reg.PllSysPwr ∷ reg.PllUsbPwr ∷ reg.XoscCtrl ∷ reg.XipCtrl ∷ []))
 
 -- a wait, if what it waits for was running
 abbrev pub wait_if : Bool → Step → List Step
 wait_if running wait = pick running (wait ∷ []) []
 
--- out of sleep: from the last register to the first, but ring control (3) before ring divider (4)
+-- out of sleep: from the last register to the first, but ring control before ring divider
 unfoldable pub wake_steps_by : List ℕ → Bool → Bool → Bool → List Step
 wake_steps_by ws crystal usb sys =
-    write ws 10
-    ∷ write ws 9 ∷ (wait_if crystal CrystalStable
-    ++ (write ws 8 ∷ (wait_if usb (Locked 1)
-    ++ (write ws 7 ∷ (wait_if sys (Locked 0)
-    ++ (write ws 6 ∷ write ws 5 ∷ write ws 3 ∷ write ws 4 ∷ write ws 2 ∷ write ws 1 ∷ write ws 0 ∷ []))))))
+    writes ws (reg.XipCtrl ∷ reg.XoscCtrl ∷ [])
+    ++ (wait_if crystal CrystalStable
+    ++ (write ws reg.PllUsbPwr ∷ (wait_if usb (Locked Usb)
+    ++ (write ws reg.PllSysPwr ∷ (wait_if sys (Locked Sys)
+    ++ writes ws (reg.SysCtrl ∷ reg.RefCtrl ∷ reg.RoscCtrl ∷ reg.RoscDiv ∷ reg.PeriCtrl ∷ reg.UsbCtrl ∷ reg.AdcCtrl ∷ []))))))
 
 -- a wake waits exactly for what was running
 abbrev pub wake_steps : List ℕ → List Step

@@ -3,36 +3,25 @@
 #![tactic(auto)]
 
 mod bits;
+mod register;
 pub mod steps;
 
 ghost use Rattle.std.specs.Prelude.{◌≡◌};
+ghost use Rattle.base.specs.Answer.{answer_of};
 ghost use Rattle.sleep.specs.Words.{asleep};
-ghost use Rattle.sleep.specs.Sleep.{Changed, fresh_slots, refused_call, sleep_of, wake_of};
+ghost use Rattle.sleep.specs.Sleep.{fresh_slots, outcome, sleep_of, wake_of};
 
-use bits::with_field;
+use base::Refusal;
+use bits::{CLOCK_ENABLE, DIV, ENABLE, FREQ_RANGE, POWER_DOWN, REF_SRC, SYS_SRC};
+pub use register::{Pll, Register};
 use steps::Steps;
 
-// A slot: whether it holds a sleep, and the words handed to the last one.
+// A slot: whether it holds a sleep, and the words handed to the last one. It is no Option: the words of a slot that holds no
+// sleep are numbers of the C interface too, and are written back as they were.
 #[derive(Clone, Copy)]
 pub struct Slot {
     pub saved: bool,
     pub words: [u32; 11],
-}
-
-// Whether a call was carried out, or the number of its refusal.
-#[derive(Drop)]
-pub enum Answer {
-    Done,
-    Refused(u8),
-}
-
-// The result of a call: its steps or a refusal, and the words and slots after it.
-#[derive(Drop)]
-pub struct Change {
-    pub answer: Answer,
-    pub steps: Steps,
-    pub words: [u32; 11],
-    pub slots: [Slot; 4],
 }
 
 // Four slots with nothing saved.
@@ -46,75 +35,67 @@ pub fn fresh_slots() -> [Slot; 4]
     [none; 4]
 }
 
-// A refusal: no steps, and words and slots unchanged.
-fn refused(slots: [Slot; 4], words: [u32; 11], number: u8) -> Change
-    ensures { Changed result (refused_call slots words number) }
-{
-    Change {
-        answer: Answer::Refused(number),
-        steps: steps::none(),
-        words,
-        slots,
-    }
-}
-
 // The words of a sleeping chip: sleep sets these fields and keeps the other bits.
-fn asleep(words: [u32; 11]) -> [u32; 11]
-    ensures { result ≡ asleep words }
+#[tactic(auto, unfolding(crate::specs::Words::asleep))]
+fn asleep(words: &[u32; 11]) -> [u32; 11]
+    ensures { result ≡ asleep words.now }
 {
+    let [
+        adc,
+        usb,
+        peri,
+        rosc,
+        div,
+        reference,
+        sys,
+        pll_sys,
+        pll_usb,
+        xosc,
+        xip,
+    ] = *words;
     [
-        with_field(words[0], 11, 1, 0), // CLK_ADC_CTRL: ENABLE is 0
-        with_field(words[1], 11, 1, 0), // CLK_USB_CTRL: ENABLE is 0
-        with_field(words[2], 11, 1, 0), // CLK_PERI_CTRL: ENABLE is 0
-        // ROSC CTRL: FREQ_RANGE is LOW, ENABLE is ENABLE
-        with_field(with_field(words[3], 0, 12, 0xfa4), 12, 12, 0xfab),
-        with_field(words[4], 0, 12, 0xaa0), // ROSC DIV: DIV is 0xaa0, which divides by 32
-        with_field(words[5], 0, 2, 0), // CLK_REF_CTRL: SRC is 0, the ring
-        with_field(words[6], 0, 1, 0), // CLK_SYS_CTRL: SRC is 0, the reference clock
-        bits::pll_off(words[7]),
-        bits::pll_off(words[8]),
-        with_field(words[9], 12, 12, 0xd1e), // XOSC CTRL: ENABLE is DISABLE
-        with_field(words[10], 3, 1, 1), // XIP CTRL: POWER_DOWN is 1
+        CLOCK_ENABLE.set(adc, 0),
+        CLOCK_ENABLE.set(usb, 0),
+        CLOCK_ENABLE.set(peri, 0),
+        ENABLE.set(FREQ_RANGE.set(rosc, 0xfa4), 0xfab), // LOW and ENABLE
+        DIV.set(div, 0xaa0), // divides by 32
+        REF_SRC.set(reference, 0), // the ring
+        SYS_SRC.set(sys, 0), // the reference clock
+        bits::pll_off(pll_sys),
+        bits::pll_off(pll_usb),
+        ENABLE.set(xosc, 0xd1e), // DISABLE
+        POWER_DOWN.set(xip, 1),
     ]
 }
 
-// Saves the words in a slot and answers the steps into sleep; refuses with 29 a slot over 3.
-pub fn sleep(slots: [Slot; 4], slot: u8, words: [u32; 11]) -> Change
-    ensures { Changed result (sleep_of slots slot words) }
+// Saves the words in a slot, makes them those of a sleeping chip, and answers the steps into sleep. Refuses with 29 a slot
+// over 3, and then changes nothing.
+#[tactic(auto, using(std::proofs::lemmas::Bool::Decides::nat_tests), unfolding(crate::specs::Sleep::sleep_of))]
+pub fn sleep(slots: &mut [Slot; 4], slot: u8, words: &mut [u32; 11]) -> Result<Steps, Refusal>
+    ensures { outcome (answer_of result) words.new slots.new ≡ sleep_of slots.old slot words.old }
 {
     if slot > 3 {
-        return refused(slots, words, 29);
+        return Err(Refusal::NoSlot);
     }
-    let at = slot as usize;
-    let mut after = slots;
-    after[at] = Slot { saved: true, words };
-    let sleeping = asleep(words);
-    Change {
-        answer: Answer::Done,
-        steps: steps::to_sleep(sleeping),
-        words: sleeping,
-        slots: after,
-    }
+    slots[slot as usize] = Slot {
+        saved: true,
+        words: *words,
+    };
+    *words = asleep(words);
+    Ok(steps::to_sleep(words))
 }
 
-// Answers the steps back to the words of the last sleep in a slot, which keeps them; refuses with 29 a slot over 3,
-// and with 30 a slot that holds no sleep. The words handed in come back only with a refusal.
-pub fn wake(slots: [Slot; 4], slot: u8, handed: [u32; 11]) -> Change
-    ensures { Changed result (wake_of slots slot handed) }
+// Makes the words those of the last sleep in a slot, which keeps them, and answers the steps back to them; the words handed
+// in count for nothing. Refuses with 29 a slot over 3 and with 30 a slot that holds no sleep, and then changes nothing.
+#[tactic(auto, using(std::proofs::lemmas::Bool::Decides::nat_tests), unfolding(crate::specs::Sleep::wake_of))]
+pub fn wake(slots: &[Slot; 4], slot: u8, words: &mut [u32; 11]) -> Result<Steps, Refusal>
+    ensures { outcome (answer_of result) words.new slots.now ≡ wake_of slots.now slot words.old }
 {
-    if slot > 3 {
-        return refused(slots, handed, 29);
+    let held = slots.get(slot as usize).ok_or(Refusal::NoSlot)?;
+    if !held.saved {
+        return Err(Refusal::EmptySlot);
     }
-    let at = slot as usize;
-    let held = slots[at];
-    if held.saved {
-        let kept = held.words;
-        return Change {
-            answer: Answer::Done,
-            steps: steps::to_wake(kept),
-            words: kept,
-            slots,
-        };
-    }
-    refused(slots, handed, 30)
+    let kept = held.words;
+    *words = kept;
+    Ok(steps::to_wake(words))
 }

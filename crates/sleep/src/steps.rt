@@ -1,120 +1,131 @@
 // The steps of a sleep or a wake, in the order of docs/SLEEP.md.
-ghost use Rattle.std.specs.Prelude.{◌≡◌, ◌<◌};
-ghost use Rattle.sleep.specs.Sleep.{StepsAre, write, sleep_steps, wake_steps};
-ghost use Rattle.sleep.specs.Inside.{empty, step_pushed, pushed_if};
-ghost use Rattle.sleep.specs.declared.steps.Step.TheVariants.{Write};
+ghost use Rattle.std.specs.Prelude.{◌≡◌, ◌+◌, ◌<◌, ◌≤◌, [], ◌∷◌, ◌++◌, length};
+ghost use Rattle.sleep.specs.Sleep.{writes, wait_if, sleep_steps, wake_steps};
 
-use crate::bits;
+use crate::register::Register::{
+    AdcCtrl, PeriCtrl, PllSysPwr, PllUsbPwr, RefCtrl, RoscCtrl, RoscDiv, SysCtrl, UsbCtrl, XipCtrl,
+    XoscCtrl,
+};
+use crate::{Pll, Register, bits};
+use std::marker::Model;
 
 // A step: a register write or a wait.
 #[derive(Clone, Copy)]
 pub enum Step {
-    // Write the value to one of the eleven registers.
-    Write { register: u8, value: u32 },
+    // Write the value to a register.
+    Write { register: Register, value: u32 },
     // Wait until the ring is stable.
     RingStable,
     // Wait until the crystal is stable.
     CrystalStable,
-    // Wait until the PLL has locked: 0 system, 1 USB.
-    Locked(u8),
+    // Wait until the PLL has locked.
+    Locked(Pll),
 }
 
-// A step wrapped in a struct, since an array within a struct holds structs only.
-#[derive(Clone, Copy)]
-pub struct Item {
-    pub step: Step,
-}
-
-// A list of at most 14 steps: the first `len` items. The items after them are unspecified.
-#[derive(Clone, Copy)]
+// A list of at most 14 steps: the first `len` items. A contract sees the list alone.
+#[derive(Drop)]
 pub struct Steps {
-    pub items: [Item; 14],
-    pub len: usize,
+    items: [Step; 14],
+    len: usize,
 }
 
-// The empty list.
-pub(crate) fn none() -> Steps
-    ensures { result ≡ empty }
-{
-    let filler = Item {
-        step: Step::RingStable,
-    };
-    Steps {
-        items: [filler; 14],
-        len: 0,
-    }
+impl Model for Steps {
+    ghost use Rattle.std.specs.Prelude.{List, ◌≤◌, take};
+    ghost use Rattle.sleep.specs.declared.steps.Step.{Step};
+
+    ghost Value = { List Step };
+
+    ghost view = { λ s. take s.len s.items };
+
+    ghost invariant = { λ s. s.len ≤ 14 };
 }
 
 impl Steps {
-    // Appends a step; a full list stays as it is.
-    fn push(self, step: Step) -> Steps
-        ensures { result ≡ step_pushed self step }
+    // The empty list.
+    fn new() -> Self
+        ensures { result ≡ [] }
     {
-        let at = self.len;
-        if at < 14 {
-            let mut next = self;
-            next.items[at] = Item { step };
-            next.len = at + 1;
-            return next;
+        Steps {
+            items: [Step::RingStable; 14],
+            len: 0,
         }
-        self
     }
 
-    // Appends a write.
-    fn write(self, register: u8, value: u32) -> Steps
-        ensures { result ≡ step_pushed self (Write register value) }
+    // The steps in order.
+    pub fn as_slice(&self) -> &[Step]
+        ensures list { result.now ≡ self.now }
+        ensures few { length self.now ≤ 14 }
     {
-        self.push(Step::Write { register, value })
+        &self.items[..self.len]
     }
 
-    // Appends the writes of three of the words to their registers.
-    fn write3(self, words: [u32; 11], i: u8, j: u8, k: u8) -> Steps
-        requires { (i < 11) × (j < 11) × (k < 11) }
-        ensures { result ≡ step_pushed (step_pushed (step_pushed self (write words i)) (write words j)) (write words k) }
+    // Appends a step.
+    fn push(&mut self, step: Step)
+        requires { length self.old < 14 }
+        ensures { self.new ≡ self.old ++ step ∷ [] }
     {
-        self.write(i, words[i as usize])
-            .write(j, words[j as usize])
-            .write(k, words[k as usize])
+        self.items[self.len] = step;
+        self.len += 1;
     }
 
-    // Appends the write of a saved word, followed by the wait if what it controls was running.
-    fn restore(self, register: u8, word: u32, running: bool, wait: Step) -> Steps
-        ensures { result ≡ pushed_if running (step_pushed self (Write register word)) wait }
+    // Appends a step if the test holds.
+    fn push_if(&mut self, test: bool, step: Step)
+        requires { length self.old < 14 }
+        ensures { self.new ≡ self.old ++ wait_if test step }
     {
-        let written = self.write(register, word);
-        if running {
-            return written.push(wait);
+        if test {
+            self.push(step);
         }
-        written
+    }
+
+    // Appends the writes of these registers' words.
+    #[tactic(auto, using(std::proofs::lemmas::List::map_more))]
+    fn write(&mut self, words: &[u32; 11], registers: &[Register])
+        requires { length self.old + length registers.now ≤ 14 }
+        ensures { self.new ≡ self.old ++ writes words.now registers.now }
+    {
+        for &register in registers {
+            let value = words[register as usize];
+            self.push(Step::Write { register, value });
+        }
     }
 }
 
 // The steps into sleep, which write the words of a sleeping chip.
-pub(crate) fn to_sleep(words: [u32; 11]) -> Steps
-    ensures { StepsAre result (sleep_steps words) }
+#[tactic(auto, unfolding(crate::specs::Sleep::sleep_steps))]
+pub(crate) fn to_sleep(words: &[u32; 11]) -> Steps
+    ensures { result ≡ sleep_steps words.now }
 {
-    none()
-        .write3(words, 0, 1, 2)
-        .write(3, words[3])
-        .write(4, words[4])
-        .push(Step::RingStable)
-        .write3(words, 5, 6, 7)
-        .write3(words, 8, 9, 10)
+    let mut steps = Steps::new();
+    steps.write(words, &[AdcCtrl, UsbCtrl, PeriCtrl, RoscCtrl, RoscDiv]);
+    steps.push(Step::RingStable);
+    steps.write(
+        words,
+        &[RefCtrl, SysCtrl, PllSysPwr, PllUsbPwr, XoscCtrl, XipCtrl],
+    );
+    steps
 }
 
 // The steps of a wake, which write the saved words back.
-pub(crate) fn to_wake(words: [u32; 11]) -> Steps
-    ensures { StepsAre result (wake_steps words) }
+#[tactic(auto, unfolding(crate::specs::Sleep::wake_steps_by))]
+pub(crate) fn to_wake(words: &[u32; 11]) -> Steps
+    ensures { result ≡ wake_steps words.now }
 {
-    let crystal = bits::crystal_runs(words[9]);
-    let usb = bits::pll_runs(words[8]);
-    let sys = bits::pll_runs(words[7]);
-    none()
-        .write(10, words[10])
-        .restore(9, words[9], crystal, Step::CrystalStable)
-        .restore(8, words[8], usb, Step::Locked(1))
-        .restore(7, words[7], sys, Step::Locked(0))
-        .write3(words, 6, 5, 3)
-        .write3(words, 4, 2, 1)
-        .write(0, words[0])
+    let crystal = bits::crystal_runs(words[XoscCtrl as usize]);
+    let usb = bits::pll_runs(words[PllUsbPwr as usize]);
+    let sys = bits::pll_runs(words[PllSysPwr as usize]);
+    let mut steps = Steps::new();
+    steps.write(words, &[XipCtrl, XoscCtrl]);
+    steps.push_if(crystal, Step::CrystalStable);
+    steps.write(words, &[PllUsbPwr]);
+    steps.push_if(usb, Step::Locked(Pll::Usb));
+    steps.write(words, &[PllSysPwr]);
+    steps.push_if(sys, Step::Locked(Pll::Sys));
+    steps.write(
+        words,
+        &[
+            SysCtrl, RefCtrl, RoscCtrl, RoscDiv, PeriCtrl, UsbCtrl, AdcCtrl,
+        ],
+    );
+    steps
 }

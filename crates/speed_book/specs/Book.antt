@@ -1,10 +1,10 @@
 -- The book (docs/PLL.md, The 12 MHz book): every candidate of the search at 12 MHz, ordered by output.
-use Rattle.std.specs.Prelude.{List, [], ◌∷◌, map, ℕ, ◌+◌, ◌*◌, ◌/◌, ◌%◌}
+use Rattle.std.specs.Prelude.{Option, Some, None, List, [], ◌∷◌, map, ℕ, ◌+◌, ◌*◌, ◌/◌, ◌%◌}
 use lib.{Dec.leb, Dec.ltb, ListN.get_or}
 use Rattle.base.specs.Choice.{pick}
 use Rattle.pll.specs.{Setting.output_hz, Search.setting, Search.candidates}
 use Rattle.pll.specs.declared.PllConfig.{PllConfig}
-use Rattle.speed_book.specs.declared.{Line.Line, Line.TheVariants.Entry, Line.TheVariants.Nothing}
+use Rattle.speed_book.specs.declared.Line.{Line}
 
 -- 12 MHz
 abbrev pub crystal : ℕ
@@ -50,6 +50,6 @@ output_at l k = output_in (get_or l k 0)
 abbrev pub setting_at : List ℕ → ℕ → PllConfig
 setting_at l k = setting_in (get_or l k 0)
 
--- the line at an index; nothing from 1988 on
-unfoldable pub line_in : List ℕ → ℕ → Line
-line_in l k = pick (ltb k 1988) (Entry (output_at l k) (setting_at l k)) Nothing
+-- the line at an index; none from 1988 on
+unfoldable pub line_in : List ℕ → ℕ → Option Line
+line_in l k = pick (ltb k 1988) (Some (record { hz = output_at l k; setting = setting_at l k })) None

@@ -1,8 +1,9 @@
 -- A line of the printed book has the output in hertz, the feedback divider, post 1 and post 2.
-use Rattle.std.specs.Prelude.{List, [], ◌∷◌, ◌++◌, ℕ}
+use Rattle.std.specs.Prelude.{Option, Some, None, List, [], ◌∷◌, ◌++◌, ℕ}
 use Rattle.replies.specs.Reply.{row_text}
-use Rattle.speed_book.specs.declared.{Line.Line, Line.TheVariants.Entry, Line.TheVariants.Nothing}
+use Rattle.speed_book.specs.declared.Line.{Line}
 
-abbrev pub entry_line : Line → List ℕ
-entry_line (Entry hz c) = row_text hz (c.fbdiv ∷ c.post_div1 ∷ c.post_div2 ∷ []) ++ (10 ∷ [])
-entry_line Nothing = []
+abbrev pub entry_line : Option Line → List ℕ
+entry_line (Some e) =
+    row_text e.hz (e.setting.fbdiv ∷ e.setting.post_div1 ∷ e.setting.post_div2 ∷ []) ++ (10 ∷ [])
+entry_line None = []

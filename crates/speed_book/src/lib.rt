@@ -6,30 +6,42 @@ pub mod page;
 mod table;
 
 ghost use Rattle.std.specs.Prelude.{◌≡◌};
-ghost use Rattle.pll.specs.Search.{search_of, found_is};
+ghost use Rattle.pll.specs.Search.{search_of};
+ghost use Rattle.base.specs.Answer.{answer_of};
 ghost use Rattle.speed_book.specs.Book.{crystal, table, setting_in, line_in};
 ghost use Rattle.speed_book.specs.Lookup.{entry_at, first_from, nearer_entry, lookup_in};
 
-use pll::{Found, PllConfig};
-
-// An output in whole hertz and its setting, or nothing past the end.
-#[derive(Drop)]
-pub enum Line {
-    Entry(u64, PllConfig),
-    Nothing,
-}
+use base::Refusal;
+use pll::PllConfig;
 
 // The number of settings at 12 MHz.
 pub const ENTRIES: usize = 1988;
 
+// The table of a book: an output and its setting as the decimal digits of one number.
+pub type Book = [u64; ENTRIES];
+
+// A line of the book: an output in whole hertz and its setting.
+#[derive(Clone, Copy)]
+pub struct Line {
+    pub hz: u64,
+    pub setting: PllConfig,
+}
+
 // The entry past the end: its output is more than twice any target, so it is never the nearer one.
 const FAR: u64 = 8589934592_000_0_0;
 
-// The table. A caller that looks up more than once keeps it, since each use of a constant stores it again.
-pub fn open() -> [u64; 1988]
+// The book. It is a static, so that no use stores it anew.
+pub fn book() -> &'static Book
+    ensures { result.now ≡ table }
+{
+    &table::BOOK
+}
+
+// The table of the book, for a caller that keeps it.
+pub fn open() -> Book
     ensures { result ≡ table }
 {
-    table::BOOK
+    *book()
 }
 
 // The setting that an entry encodes.
@@ -44,62 +56,58 @@ fn setting_in(entry: u64) -> PllConfig
     }
 }
 
-// The line at an index of an open book, from 0; nothing from 1988 on.
-pub fn entry_in(book: &[u64; 1988], k: usize) -> Line
+// The line at an index of an open book, from 0; none from 1988 on.
+pub fn entry_in(book: &Book, k: usize) -> Option<Line>
     ensures { result ≡ line_in book.now k }
 {
-    if k < ENTRIES {
-        let entry = book[k];
-        Line::Entry(entry / 100000, setting_in(entry))
-    } else {
-        Line::Nothing
-    }
+    let entry = *book.get(k)?;
+    Some(Line {
+        hz: entry / 100000,
+        setting: setting_in(entry),
+    })
 }
 
-// The line at an index of the book, from 0; nothing from 1988 on.
-pub fn entry(k: usize) -> Line
+// The line at an index of the book, from 0; none from 1988 on.
+pub fn entry(k: usize) -> Option<Line>
     ensures { result ≡ line_in table k }
 {
-    let book = open();
-    entry_in(&book, k)
+    entry_in(book(), k)
 }
 
-// The index of the first entry that is not less than the bound, by 11 halvings, since 1988 is below 2 to the power of 11.
-fn first_from(book: &[u64; 1988], bound: u64) -> usize
+// The index of the first entry that is not less than the bound. Halving is written out, and no `partition_point`: any table
+// may be handed in, and what halving finds in it is promised.
+fn first_from(book: &Book, bound: u64) -> usize
     ensures { result ≡ first_from book.now bound }
 {
-    let mut low: usize = 0;
-    let mut high: usize = 1988;
-    let mut halvings: u8 = 11;
-    while 0 < halvings {
-        halvings -= 1;
-        if low < high {
-            let middle = low + (high - low) / 2;
-            if book[middle] < bound {
-                low = middle + 1;
-            } else {
-                high = middle;
-            }
+    let mut low = 0;
+    let mut high = ENTRIES;
+    while low < high {
+        let middle = (low + high) / 2;
+        if book[middle] < bound {
+            low = middle + 1;
+        } else {
+            high = middle;
         }
     }
     low
 }
 
 // The entry at an index, and `FAR` past the end.
-fn entry_at(book: &[u64; 1988], k: usize) -> u64
+fn entry_at(book: &Book, k: usize) -> u64
     ensures { result ≡ entry_at book.now k }
 {
-    if ENTRIES <= k { FAR } else { book[k] }
+    book.get(k).copied().unwrap_or(FAR)
 }
 
 // The nearer of an entry below the target and one that is not; of equally near ones the first in the order of the search.
+#[tactic(auto, using(std::proofs::lemmas::Bool::Decides::nat_tests), unfolding(crate::specs::Lookup::nearer_entry))]
 fn nearer(target_hz: u32, lower: u64, upper: u64) -> u64
     ensures { result ≡ nearer_entry target_hz lower upper }
 {
-    let twice = 2 * target_hz as u64;
+    let twice = 2 * u64::from(target_hz);
     let both = lower / 100000 + upper / 100000;
     let first = upper % 100000 < lower % 100000;
-    if (twice < both) | ((twice == both) & first) {
+    if twice < both || twice == both && first {
         lower
     } else {
         upper
@@ -107,21 +115,20 @@ fn nearer(target_hz: u32, lower: u64, upper: u64) -> u64
 }
 
 // Answers the setting for a target frequency at 12 MHz from an open book, as the search does; it never refuses.
-pub fn lookup_in(book: &[u64; 1988], target_hz: u32) -> Found
-    ensures { found_is result ≡ lookup_in book.now target_hz }
+pub fn lookup_in(book: &Book, target_hz: u32) -> Result<PllConfig, Refusal>
+    ensures { answer_of result ≡ lookup_in book.now target_hz }
 {
-    let above = first_from(book, target_hz as u64 * 100000);
-    let before = entry_at(book, base::less(above, 1));
+    let above = first_from(book, u64::from(target_hz) * 100000);
+    let before = entry_at(book, above.saturating_sub(1));
     let below = first_from(book, before / 100000 * 100000);
     let lower = entry_at(book, below);
     let upper = entry_at(book, above);
-    Found::Params(setting_in(nearer(target_hz, lower, upper)))
+    Ok(setting_in(nearer(target_hz, lower, upper)))
 }
 
 // Answers the setting for a target frequency at 12 MHz, as the search does; it never refuses.
-pub fn lookup(target_hz: u32) -> Found
-    ensures { found_is result ≡ search_of crystal target_hz }
+pub fn lookup(target_hz: u32) -> Result<PllConfig, Refusal>
+    ensures { answer_of result ≡ search_of crystal target_hz }
 {
-    let book = open();
-    lookup_in(&book, target_hz)
+    lookup_in(book(), target_hz)
 }

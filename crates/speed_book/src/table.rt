@@ -1,6 +1,6 @@
 // The table of the book. An entry has these decimal digits: the output in whole hertz, three of the feedback divider,
 // one of post 1, one of post 2. Equal outputs are in the order of the search.
-pub(crate) const BOOK: [u64; 1988] = [
+pub(crate) static BOOK: [u64; 1988] = [
     15428571_063_7_7,
     15673469_064_7_7,
     15918367_065_7_7,

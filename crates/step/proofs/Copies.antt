@@ -1,34 +1,32 @@
 -- Each iteration of the copy adds the bytes of one word; `copied` is the buffer in the end, with room for all words and without.
-use mathlib.Core.{Bool.true, Bool.false, Path.◌≡◌, Path.refl, Path.ap, Path.◌∙◌}
-use mathlib.Core.List.{List, [], ◌∷◌, ◌++◌, map, map-append, append-nil}
+use mathlib.Core.{Bool.true, Bool.false, Path.◌≡◌, Path.refl, Path.sym, Path.ap, Path.◌∙◌}
+use mathlib.Core.List.{List, [], ◌∷◌, ◌++◌, map, map-append, append-nil, append_assoc}
 use Prim.Native.Nat.{ℕ, ◌+◌, ◌*◌, ◌≤◌, ◌<◌}
 use lib.ListN.{length, take, drop, get_or, length-map}
-use lib.Seq.{length-take-le, take_at, drop-append-add, drop-drop, take-suc}
+use lib.Seq.{length-take-le, take_at, drop_at, drop-drop, take-suc}
+use borrow.Rule.Slice.PartMut.{put_mid}
 use borrow.Author.Tests.{le-leb, lt-leb}
 use native.Mathlib.{Numerals.add-one, Omega.arith}
-use Rattle.step.specs.{Bytes.bytes8, Bytes.turned_of, Bytes.bytes_of, Access.room_for, Access.copied, Inside.splice}
-use Rattle.step.proofs.Sheets.{length-bytes8, length-bytes_of, bytes_of-append}
+use Rattle.step.specs.{Bytes.bytes8, Bytes.turned_of, Bytes.bytes_of, Access.room_for, Access.copied}
+use Rattle.step.proofs.Sheets.{length-bytes_of, bytes_of-append}
 
 -- After the first i words, writing word i extends the bytes at the start by its eight.
-pub copied_more : (ws b₀ b : List ℕ) (i : ℕ) → i < length ws
-    → b ≡ bytes_of (map turned_of (take i ws)) ++ drop (8 * i) b₀
-    → splice b (8 * i) (bytes8 (turned_of (get_or ws i 0)))
-    ≡ bytes_of (map turned_of (take (i + 1) ws)) ++ drop (8 * (i + 1)) b₀
-unfolding splice
-copied_more ws b₀ b i h e =
+pub copied_more : (ws b₀ b new : List ℕ) (i k : ℕ) → i < length ws → k ≡ 8
+    → b ≡ bytes_of (map turned_of (take i ws)) ++ drop (8 * i) b₀ → new ≡ bytes8 (turned_of (get_or ws i 0))
+    → put_mid (8 * i) k b new ≡ bytes_of (map turned_of (take (i + 1) ws)) ++ drop (8 * (i + 1)) b₀
+copied_more ws b₀ b new i k h eight e is =
     let w : ℕ = turned_of (get_or ws i 0) in
     let done : List ℕ = bytes_of (map turned_of (take i ws)) in
     let n : length done ≡ 8 * i =
     length-bytes_of (map turned_of (take i ws))
     ∙ ap (λ (k : ℕ). 8 * k) (length-map (take i ws) turned_of ∙ length-take-le i ws (omega arith)) in
     let front : take (8 * i) b ≡ done = rw e (take_at done (drop (8 * i) b₀) (8 * i) n) in
-    let back : drop (8 * i + 8) b ≡ drop (8 * i + 8) b₀ =
-    rw (e, ← n) (drop-append-add done (drop (length done) b₀) 8 ∙ drop-drop 8 (length done) b₀) in
+    let back : drop (8 * i) b ≡ drop (8 * i) b₀ = rw e (drop_at done (drop (8 * i) b₀) (8 * i) n) in
     let grown : bytes_of (map turned_of (take (i + 1) ws)) ≡ done ++ bytes8 w =
     rw (add-one, take-suc ws i 0, map-append turned_of)
     (bytes_of-append (map turned_of (take i ws)) (w ∷ []) ∙ ap (λ (l : List ℕ). done ++ l) (append-nil (bytes8 w))) in
     let past : 8 * (i + 1) ≡ 8 * i + 8 = omega arith in
-    rw (length-bytes8, front, back, grown, past)
+    rw (front, back, eight, is, grown, past, ← drop-drop 8 (8 * i) b₀) (sym (append_assoc done (bytes8 w) _))
 
 pub copied-room : (ws xs : List ℕ) → 8 * length ws ≤ length xs
     → (true ≡ room_for ws xs) × (bytes_of (map turned_of ws) ++ drop (8 * length ws) xs ≡ copied ws xs)

@@ -1,6 +1,6 @@
 -- Inside: definitions that only the contracts of the crate's private functions use.
-use mathlib.Core.{Path.◌≡◌, List.List, List.◌++◌}
-use Rattle.std.specs.Prelude.{ℕ, ◌+◌, ◌≤◌, length, take, drop}
+use mathlib.Core.{Path.◌≡◌}
+use Rattle.std.specs.Prelude.{ℕ, ◌+◌, ◌≤◌}
 use Rattle.step.specs.declared.packing.Widths.{Widths}
 use Rattle.step.specs.Layout.{width}
 
@@ -12,7 +12,3 @@ pub record Laid (k : ℕ) (r : Widths) : Type 0 where
   pub at3 : r.3 ≡ width k 3
   pub at4 : r.4 ≡ width k 4
   pub room : r.0 + r.1 + r.2 + r.3 + r.4 ≤ 58
-
--- The list with the elements from index `at` on replaced by those of bs.
-unfoldable pub splice : List ℕ → ℕ → List ℕ → List ℕ
-splice xs at bs = take at xs ++ bs ++ drop (at + length bs) xs

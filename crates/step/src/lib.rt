@@ -27,13 +27,6 @@ pub struct Step {
     pub f4: u64,
 }
 
-// The step of a word, or the number of the refusal.
-#[derive(Drop)]
-pub enum Unpacked {
-    Step(Step),
-    Refused(u8),
-}
-
 // Whether no sheet has this length in bytes: it is over 528 or not a multiple of 8.
 pub fn bad_size(n: usize) -> bool
     ensures { result ≡ bad_size n }

@@ -1,18 +1,19 @@
 // Packs steps into words and unpacks them, by shifts and masks with the widths of each kind's fields.
 ghost use Rattle.std.specs.Prelude.{◌≡◌, ◌+◌, ◌-◌, ◌*◌, ◌/◌, ◌%◌, ◌^◌, ◌≤◌, ◌<◌};
-ghost use Rattle.base.specs.Answer.{value, refusal};
-ghost use Rattle.base.specs.Choice.{pick};
 ghost use Rattle.step.specs.Layout.{kinds};
-ghost use Rattle.step.specs.Steps.{step_of, pack_of, unpacked_is, unpack_of, kind_in, storable};
+ghost use Rattle.step.specs.Steps.{step_of, pack_of, unpack_of, kind_in, storable};
+ghost use Rattle.base.specs.Answer.{answer_of};
 ghost use Rattle.step.specs.Inside.{Laid};
 
-use crate::{Step, Unpacked, kind};
+use crate::{Step, kind};
+use base::Refusal;
 
 // The widths in bits of a kind's five fields; an absent field has width 0.
 #[derive(Drop)]
 struct Widths(u32, u32, u32, u32, u32);
 
 // The table of widths is a `match`, since a constant array would be copied to the stack at each read.
+#[tactic(auto, unfolding(crate::specs::Layout::rows, crate::specs::Layout::width))]
 fn layout(kind: u8) -> Widths
     ensures { Laid kind result }
 {
@@ -75,7 +76,7 @@ fn low(x: u64, w: u32) -> u64
 }
 
 // The w low bits of v, placed directly below bit `above`, over the bits of rest.
-pub(crate) fn place(above: u32, w: u32, v: u64, rest: u64) -> u64
+fn place(above: u32, w: u32, v: u64, rest: u64) -> u64
     requires { (w < 64) × (w ≤ above) × (above ≤ 64) × (above - w < 64) × (rest < 2 ^ (above - w)) }
     ensures { (result ≡ v % 2 ^ w * 2 ^ (above - w) + rest) × (result < 2 ^ above) }
 {
@@ -83,7 +84,7 @@ pub(crate) fn place(above: u32, w: u32, v: u64, rest: u64) -> u64
 }
 
 // The w bits of x directly below bit `above`.
-pub(crate) fn bits(x: u64, above: u32, w: u32) -> u64
+fn bits(x: u64, above: u32, w: u32) -> u64
     requires { (w < 64) × (w ≤ above) × (above - w < 64) }
     ensures { (result ≡ x / 2 ^ (above - w) % 2 ^ w) × (result < 2 ^ w) }
 {
@@ -109,24 +110,15 @@ pub fn pack(kind: u8, f0: u64, f1: u64, f2: u64, f3: u64, f4: u64) -> u64
 }
 
 // Whether a step may have these first two fields: a store has a clock up to 9, and the RTC (9) has at most 65535 Hz.
+#[tactic(auto, unfolding(crate::specs::Steps::storable))]
 fn allowed(kind: u8, clock: u64, hz: u64) -> bool
     ensures { result ≡ storable kind clock hz }
 {
     (kind != kind::STORE) | ((clock <= 9) & ((clock != 9) | (hz <= 65535)))
 }
 
-// The step where its word is sound, else refusal 20.
-fn step_if(sound: bool, s: Step) -> Unpacked
-    ensures { unpacked_is result ≡ pick sound (value s) (refusal 20) }
-{
-    if sound {
-        Unpacked::Step(s)
-    } else {
-        Unpacked::Refused(20)
-    }
-}
-
 // The kind of a word, its six highest bits.
+#[tactic(auto, unfolding(crate::specs::Steps::kind_in))]
 fn kind_in(word: u64) -> u8
     ensures { result ≡ kind_in word }
 {
@@ -134,9 +126,9 @@ fn kind_in(word: u64) -> u8
 }
 
 // The step of a word of this kind; 20 where a spare bit is set or a store is not allowed.
-fn unpack_as(kind: u8, word: u64) -> Unpacked
+fn unpack_as(kind: u8, word: u64) -> Result<Step, Refusal>
     requires { (kind ≡ kind_in word) × (1 ≤ kind) × (kind ≤ kinds) }
-    ensures { unpacked_is result ≡ unpack_of word }
+    ensures { answer_of result ≡ unpack_of word }
 {
     let w = layout(kind);
     let b0 = 58 - w.0;
@@ -150,23 +142,23 @@ fn unpack_as(kind: u8, word: u64) -> Unpacked
     let f4 = bits(word, b3, w.4);
     let spare = low(word, b3 - w.4);
     let sound = (spare == 0) & allowed(kind, f0, f1);
-    step_if(
-        sound,
-        Step {
-            kind,
-            f0,
-            f1,
-            f2,
-            f3,
-            f4,
-        },
-    )
+    if !sound {
+        return Err(Refusal::NotASheet);
+    }
+    Ok(Step {
+        kind,
+        f0,
+        f1,
+        f2,
+        f3,
+        f4,
+    })
 }
 
 // The step of a word; 20 for an unknown kind, a set spare bit or a store that is not allowed. Each kind has an arm, since a call
 // with a constant kind compiles to the few shifts of that kind.
-pub(crate) fn unpack(word: u64) -> Unpacked
-    ensures { unpacked_is result ≡ unpack_of word }
+pub(crate) fn unpack(word: u64) -> Result<Step, Refusal>
+    ensures { answer_of result ≡ unpack_of word }
 {
     match kind_in(word) {
         kind::RESET => unpack_as(kind::RESET, word),
@@ -214,6 +206,6 @@ pub(crate) fn unpack(word: u64) -> Unpacked
         kind::VOLTAGE_235 => unpack_as(kind::VOLTAGE_235, word),
         kind::BROWNOUT_235 => unpack_as(kind::BROWNOUT_235, word),
         kind::SYS_DIVIDER_235 => unpack_as(kind::SYS_DIVIDER_235, word),
-        _ => Unpacked::Refused(20),
+        _ => Err(Refusal::NotASheet),
     }
 }

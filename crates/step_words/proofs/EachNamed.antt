@@ -8,6 +8,7 @@ use Rattle.base.specs.{Answer.Answer, Answer.value, Answer.refusal, Choice.pick,
 use Rattle.chip.specs.declared.{Chip.Chip, Chip.TheVariants.Rp2040, Chip.TheVariants.Rp235x}
 use Rattle.step.specs.declared.Step.{Step}
 use Rattle.registers.specs.{declared.Access.Access, Access.nothing, Access.rows, Access.has, Access.access_of}
+use Rattle.registers.specs.Access.{op_of, address_of, value_of}
 use Rattle.step_words.specs.Names.{name_rows, name_of}
 
 -- 1 to 3 use a register: it has a name
@@ -16,10 +17,10 @@ named c op address = pick (in_range 1 3 op) (leb 1 (length (name_of c address)))
 
 -- 4 is a pause: its cycles fit 32 bits
 abbrev pub Paused : Access → Type 0
-Paused a = pick (eqb a.op 4) (a.value < 2 ^ 32) (Unit {0})
+Paused a = pick (eqb (op_of a) 4) ((value_of a) < 2 ^ 32) (Unit {0})
 
 abbrev Told : Chip → ℕ → Access → Type 0
-Told c k a = (pick (has c k) (named c a.op a.address) true ≡ true) × Paused a
+Told c k a = (pick (has c k) (named c (op_of a) (address_of a)) true ≡ true) × Paused a
 
 abbrev AllTold : Chip → ℕ → List (Chip → Step → Access) → Type 0
 AllTold c k [] = Unit {0}
@@ -92,7 +93,7 @@ all_told Rp235x = all-235x
 
 -- what a step does, where the chip has it
 abbrev pub NamedIn : Chip → Answer Access → Type 0
-NamedIn c (value a) = (named c a.op a.address ≡ true) × Paused a
+NamedIn c (value a) = (named c (op_of a) (address_of a) ≡ true) × Paused a
 NamedIn c (refusal n) = Unit {0}
 
 pub each-named : (c : Chip) (s : Step) → NamedIn c (access_of c s)
@@ -100,7 +101,7 @@ unfolding access_of
 each-named c s =
     go (has c s.kind) (get_or rows s.kind (λ c s. nothing) c s) (rw zero-add at (told_at c 0 s.kind rows (all_told c) s))
   where
-    go : (b : Bool) (a : Access) → (pick b (named c a.op a.address) true ≡ true) × Paused a
+    go : (b : Bool) (a : Access) → (pick b (named c (op_of a) (address_of a)) true ≡ true) × Paused a
         → NamedIn c (pick b (value a) (refusal 20))
     go true a e = e
     go false a e = tt

@@ -10,6 +10,7 @@ use Rattle.text.proofs.Decimals.{length-decimal}
 use Rattle.step.specs.{declared.Step.Step, Access.read_at, Steps.WellFormed}
 use Rattle.step.proofs.Accesses.{read-sound}
 use Rattle.registers.specs.{declared.Access.Access, Access.access_of}
+use Rattle.registers.specs.Access.{op_of, address_of, mask_of, value_of}
 use Rattle.readback.specs.Law.{chip_in}
 use Rattle.step_words.specs.Does.{word_text, register_text, write_text, change_text, wait_text, pause_text, does_text}
 use Rattle.step_words.specs.Steps.{on_chip, found_in, is_step, meaning_text, line_text, found_at, line_at, lines_from, lines_of, steps_text}
@@ -32,17 +33,17 @@ does_most = 78
 
 does-most : (c : Chip) (a : Access) → Paused a → length (does_text c a) ≤ does_most
 unfolding does_text
-does-most c a paused = go (eqb a.op 1) (eqb a.op 2) (eqb a.op 3) (eqb a.op 4) paused
+does-most c a paused = go (eqb (op_of a) 1) (eqb (op_of a) 2) (eqb (op_of a) 3) (eqb (op_of a) 4) paused
   where
-    go : (p q r t : Bool) → pick t (a.value < 2 ^ 32) (Unit {0})
+    go : (p q r t : Bool) → pick t ((value_of a) < 2 ^ 32) (Unit {0})
         → length (pick p (write_text c a) (pick q (change_text c a) (pick r (wait_text c a)
         (pick t (pause_text a) (ascii "no register"))))) ≤ does_most
-    go true q r t h = simp length-append (omega (arith, register-most c a.address, word-length a.value))
+    go true q r t h = simp length-append (omega (arith, register-most c (address_of a), word-length (value_of a)))
     go false true r t h =
-        simp length-append (omega (arith, register-most c a.address, word-length a.mask, word-length a.value))
+        simp length-append (omega (arith, register-most c (address_of a), word-length (mask_of a), word-length (value_of a)))
     go false false true t h =
-        simp length-append (omega (arith, register-most c a.address, word-length a.mask, word-length a.value))
-    go false false false true h = simp length-append (omega (arith, (length-decimal 9 a.value (omega (arith, h))).1))
+        simp length-append (omega (arith, register-most c (address_of a), word-length (mask_of a), word-length (value_of a)))
+    go false false false true h = simp length-append (omega (arith, (length-decimal 9 (value_of a) (omega (arith, h))).1))
     go false false false false h = omega arith
 
 -- ---- a line

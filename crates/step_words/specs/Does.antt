@@ -5,6 +5,7 @@ use Rattle.base.specs.Choice.{pick}
 use Rattle.chip.specs.declared.Chip.{Chip}
 use Rattle.text.specs.{Ascii.ascii, Decimal.decimal_of, Hex.hex_of}
 use Rattle.registers.specs.declared.Access.{Access}
+use Rattle.registers.specs.Access.{op_of, address_of, mask_of, value_of}
 use Rattle.step_words.specs.Names.{name_of}
 
 -- a number of 32 bits as eight hexadecimal digits
@@ -16,26 +17,26 @@ unfoldable pub register_text : Chip → ℕ → List ℕ
 register_text c address = name_of c address ++ (ascii " 0x" ++ word_text address)
 
 abbrev pub write_text : Chip → Access → List ℕ
-write_text c a = (ascii "write " ++ register_text c a.address) ++ (ascii " = 0x" ++ word_text a.value)
+write_text c a = (ascii "write " ++ register_text c (address_of a)) ++ (ascii " = 0x" ++ word_text (value_of a))
 
 abbrev pub change_text : Chip → Access → List ℕ
 change_text c a =
-    (ascii "change " ++ register_text c a.address)
-    ++ (ascii " bits 0x" ++ word_text a.mask)
-    ++ (ascii " to 0x" ++ word_text a.value)
+    (ascii "change " ++ register_text c (address_of a))
+    ++ (ascii " bits 0x" ++ word_text (mask_of a))
+    ++ (ascii " to 0x" ++ word_text (value_of a))
 
 abbrev pub wait_text : Chip → Access → List ℕ
 wait_text c a =
-    (ascii "wait until " ++ register_text c a.address)
-    ++ (ascii " bits 0x" ++ word_text a.mask)
-    ++ (ascii " are 0x" ++ word_text a.value)
+    (ascii "wait until " ++ register_text c (address_of a))
+    ++ (ascii " bits 0x" ++ word_text (mask_of a))
+    ++ (ascii " are 0x" ++ word_text (value_of a))
 
 abbrev pub pause_text : Access → List ℕ
-pause_text a = ascii "let " ++ decimal_of a.value ++ ascii " cycles pass"
+pause_text a = ascii "let " ++ decimal_of (value_of a) ++ ascii " cycles pass"
 
 -- a store and the chip mark use no register
 unfoldable pub does_text : Chip → Access → List ℕ
 does_text c a =
-    pick (eqb a.op 1) (write_text c a)
-    (pick (eqb a.op 2) (change_text c a)
-    (pick (eqb a.op 3) (wait_text c a) (pick (eqb a.op 4) (pause_text a) (ascii "no register"))))
+    pick (eqb (op_of a) 1) (write_text c a)
+    (pick (eqb (op_of a) 2) (change_text c a)
+    (pick (eqb (op_of a) 3) (wait_text c a) (pick (eqb (op_of a) 4) (pause_text a) (ascii "no register"))))

@@ -9,35 +9,35 @@ use Rattle.step.specs.{declared.Step.Step, Access.read_at}
 use Rattle.registers.specs.{declared.Access.Access, Access.access_of}
 use Rattle.readback.specs.Law.{chip_in}
 use Rattle.meanings.specs.Steps.{step_text}
-use Rattle.step_words.specs.declared.Found.{Found}
-use Rattle.step_words.specs.declared.Found.TheVariants.{Step as a_step, Nothing as nothing}
+use Rattle.step_words.specs.declared.Known.{Known}
+use Rattle.std.specs.Prelude.{Option, Some, None}
 use Rattle.step_words.specs.Does.{does_text}
 
 -- a step with what it does; nothing where the chip has no step of its kind
-abbrev pub on_chip : Step → Answer Access → Found
-on_chip s (value a) = a_step (record { step = s; access = a })
-on_chip s (refusal n) = nothing
+abbrev pub on_chip : Step → Answer Access → Option Known
+on_chip s (value a) = Some (record { step = s; access = a })
+on_chip s (refusal n) = None
 
 -- nothing, too, where there is no step
-abbrev pub found_in : Chip → Answer Step → Found
+abbrev pub found_in : Chip → Answer Step → Option Known
 found_in c (value s) = on_chip s (access_of c s)
-found_in c (refusal n) = nothing
+found_in c (refusal n) = None
 
-abbrev pub is_step : Found → Bool
-is_step (a_step k) = true
-is_step nothing = false
+abbrev pub is_step : Option Known → Bool
+is_step (Some k) = true
+is_step None = false
 
-abbrev pub meaning_text : Chip → Found → List ℕ
-meaning_text c (a_step k) = step_text k.step ++ ascii "; " ++ does_text c k.access
-meaning_text c nothing = ascii "no step"
+abbrev pub meaning_text : Chip → Option Known → List ℕ
+meaning_text c (Some k) = step_text k.step ++ ascii "; " ++ does_text c k.access
+meaning_text c None = ascii "no step"
 
 -- a line: its position, the bytes there and what they mean, closed by a newline, which is byte 10
-unfoldable pub line_text : Chip → ℕ → List ℕ → Found → List ℕ
+unfoldable pub line_text : Chip → ℕ → List ℕ → Option Known → List ℕ
 line_text c position bytes f =
     decimal_of position ++ ascii " " ++ hex_of bytes ++ ascii " " ++ meaning_text c f ++ (10 ∷ [])
 
 -- what is found at a position, and its line
-unfoldable pub found_at : Chip → List ℕ → ℕ → Found
+unfoldable pub found_at : Chip → List ℕ → ℕ → Option Known
 found_at c sheet i = found_in c (read_at sheet (8 * i))
 
 unfoldable pub line_at : Chip → List ℕ → ℕ → List ℕ

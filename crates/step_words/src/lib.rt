@@ -5,17 +5,18 @@
 mod does;
 mod names;
 
-ghost use Rattle.std.specs.Prelude.{◌≡◌, ◌+◌, ◌≤◌, ◌<◌};
-ghost use Rattle.base.specs.Choice.{pick};
+ghost use Rattle.std.specs.Prelude.{◌≡◌};
 ghost use Rattle.base.specs.Placed.{Placed};
+ghost use Rattle.base.specs.Writing.{Puts};
 ghost use Rattle.registers.specs.Access.{access_of};
 ghost use Rattle.step.specs.Access.{read_at};
-ghost use Rattle.step_words.specs.Steps.{on_chip, found_in, is_step, meaning_text, line_text, lines_of, steps_text};
+ghost use Rattle.step_words.specs.Steps.{on_chip, found_in, meaning_text, line_text, steps_text};
 
-use crate::does::put_does;
+use crate::does::write_does;
+use base::Writer;
 use chip::Chip;
-use registers::{Access, Accessed};
-use step::{Step, Unpacked};
+use registers::Access;
+use step::Step;
 
 // A step of a chip, and what it does there.
 #[derive(Clone, Copy)]
@@ -24,101 +25,79 @@ pub struct Known {
     pub access: Access,
 }
 
-// What the bytes at a position are.
-#[derive(Clone, Copy)]
-pub enum Found {
-    Step(Known),
-    Nothing,
-}
-
 // A step with what it does on the chip; nothing where the chip has no step of this kind.
-fn on_chip(chip: Chip, step: Step) -> Found
+fn on_chip(chip: Chip, step: Step) -> Option<Known>
     ensures { result ≡ on_chip step (access_of chip step) }
 {
-    match registers::access_of(chip, step) {
-        Accessed::Does(access) => Found::Step(Known { step, access }),
-        Accessed::Refused(_) => Found::Nothing,
-    }
+    let access = registers::access_of(chip, step).ok()?;
+    Some(Known { step, access })
 }
 
-// The step of the chip whose bytes start at an index.
-fn found_at(chip: Chip, sheet: &[u8], from: usize) -> Found
-    ensures { result ≡ found_in chip (read_at sheet.now from) }
+// The step of the chip in the first eight bytes.
+fn found_in(chip: Chip, bytes: &[u8]) -> Option<Known>
+    ensures { result ≡ found_in chip (read_at bytes.now 0) }
 {
-    match step::read(sheet, from) {
-        Unpacked::Step(step) => on_chip(chip, step),
-        Unpacked::Refused(_) => Found::Nothing,
-    }
+    on_chip(chip, step::read(bytes, 0).ok()?)
 }
 
-// Puts kind, fields and what the step does; `no step` where there is none.
-fn put_meaning(out: &mut [u8], at: usize, chip: Chip, found: Found) -> usize
-    ensures { Placed out.old at (meaning_text chip found) result out.new }
+// Writes kind, fields and what the step does; `no step` where there is none.
+#[tactic(auto, using(base::proofs::Writing::put_more))]
+fn write_meaning(out: &mut Writer<'_, u8>, chip: Chip, found: Option<Known>)
+    ensures { Puts out.old (meaning_text chip found) out.new }
 {
     match found {
-        Found::Step(known) => {
-            let step = known.step;
-            let access = known.access;
-            let end = meanings::put_step(out, at, step);
-            let end = text::put_bytes(out, end, b"; ");
-            put_does(out, end, chip, access)
+        Some(known) => {
+            meanings::write_step(out, known.step);
+            out.put_all(b"; ");
+            write_does(out, chip, known.access);
         }
-        Found::Nothing => text::put_bytes(out, at, b"no step"),
+        None => out.put_all(b"no step"),
     }
 }
 
-// Puts the line of a position.
-fn put_line(
-    out: &mut [u8],
-    at: usize,
+// Writes the line of a position.
+#[tactic(auto, using(base::proofs::Writing::put_more), unfolding(crate::specs::Steps::line_text))]
+fn write_line(
+    out: &mut Writer<'_, u8>,
     chip: Chip,
     position: usize,
     bytes: &[u8],
-    found: Found,
-) -> usize
-    ensures { Placed out.old at (line_text chip position bytes.now found) result out.new }
+    found: Option<Known>,
+)
+    ensures { Puts out.old (line_text chip position bytes.now found) out.new }
 {
-    let end = text::put_decimal(out, at, position as u64);
-    let end = text::put_byte(out, end, b' ');
-    let end = text::put_hex(out, end, bytes);
-    let end = text::put_byte(out, end, b' ');
-    let end = put_meaning(out, end, chip, found);
-    text::put_byte(out, end, b'\n')
+    text::write_decimal(out, position as u64);
+    out.put(b' ');
+    text::write_hex(out, bytes);
+    out.put(b' ');
+    write_meaning(out, chip, found);
+    out.put(b'\n');
 }
 
-// The number of positions of a sheet; the last may have fewer than 8 bytes.
-fn lines_of(sheet: &[u8]) -> usize
-    ensures { result ≡ lines_of sheet.now }
+// Writes a line for each step of a sheet. A sheet whose bytes stop being steps of its chip is listed up to there, and the last
+// line has the bytes that are left, at most 8.
+pub fn write_steps(out: &mut Writer<'_, u8>, sheet: &[u8])
+    ensures { Puts out.old (steps_text sheet.now) out.new }
 {
-    sheet.len() / 8 + (sheet.len() % 8 + 7) / 8
-}
-
-// The position after a step; the end where there is no step.
-fn next_of(found: Found, position: usize, lines: usize) -> usize
-    requires { position < lines }
-    ensures { (result ≡ pick (is_step found) (position + 1) lines) × (position < result) × (result ≤ lines) }
-{
-    match found {
-        Found::Step(_) => position + 1,
-        Found::Nothing => lines,
+    let chip = readback::chip_in(sheet);
+    for (position, bytes) in sheet.chunks(8).enumerate() {
+        let found = found_in(chip, bytes);
+        write_line(out, chip, position, bytes, found);
+        if found.is_none() {
+            return;
+        }
     }
 }
 
-// Puts a line for each step of a sheet. A sheet whose bytes stop being steps of its chip is listed up to there, and the last line
-// has the bytes that are left, at most 8.
-#[tactic(auto, unfolding(crate::specs::Steps::lines_of))]
+// Puts the lines at an index, as `write_steps`.
 pub fn put_steps(out: &mut [u8], at: usize, sheet: &[u8]) -> usize
     ensures { Placed out.old at (steps_text sheet.now) result out.new }
 {
-    let chip = readback::chip_in(sheet);
-    let lines = lines_of(sheet);
-    let mut end = base::least(at, out.len());
-    let mut i = 0;
-    while i < lines {
-        let from = 8 * i;
-        let found = found_at(chip, sheet, from);
-        end = put_line(out, end, chip, i, base::first(&sheet[from..], 8), found);
-        i = next_of(found, i, lines);
-    }
-    end
+    let start = at.min(out.len());
+    let mut w = Writer {
+        buf: out,
+        at: start,
+    };
+    write_steps(&mut w, sheet);
+    w.at
 }

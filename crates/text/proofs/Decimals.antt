@@ -27,13 +27,13 @@ enough (suc k) (suc m) n h l = elim (dec_lt n 10) [
       (enough k m (n / 10) (omega arith) (omega arith))
 ]
 
-pub decimal-small : (n : ℕ) → n < 10 → decimal_of n ≡ last_digit n ∷ []
+pub decimal_small : (n : ℕ) → n < 10 → decimal_of n ≡ last_digit n ∷ []
 unfolding decimal_of
-decimal-small n small = digits-small n n small
+decimal_small n small = digits-small n n small
 
-pub decimal-more : (n : ℕ) → 10 ≤ n → decimal_of n ≡ decimal_of (n / 10) ++ (last_digit n ∷ [])
+pub decimal_more : (n : ℕ) → 10 ≤ n → decimal_of n ≡ decimal_of (n / 10) ++ (last_digit n ∷ [])
 unfolding decimal_of
-decimal-more n more =
+decimal_more n more =
     digits_more n n more
     ∙ ap (λ (ds : List ℕ). ds ++ (last_digit n ∷ [])) (enough n (suc (n / 10)) (n / 10) (omega arith) (omega arith))
 
@@ -43,10 +43,10 @@ by_digits : (P : ℕ → List ℕ → Type 0) → ((n : ℕ) → n < 10 → P n 
     → (k n : ℕ) → n < k → P n (decimal_of n)
 by_digits P small more zero n h = absurd (omega arith)
 by_digits P small more (suc k) n h = elim (dec_lt n 10) [
-  | yes l ↦ rw (decimal-small n l) (small n l)
+  | yes l ↦ rw (decimal_small n l) (small n l)
   | no l ↦
       let m : 10 ≤ n = omega arith in
-      rw (decimal-more n m) (more n (decimal_of (n / 10)) m (by_digits P small more k (n / 10) (omega arith)))
+      rw (decimal_more n m) (more n (decimal_of (n / 10)) m (by_digits P small more k (n / 10) (omega arith)))
 ]
 
 value-last : (cs : List ℕ) (n d : ℕ) → value_after n (cs ++ (d ∷ [])) ≡ value_after n cs * 10 + (d - 48)
@@ -79,13 +79,13 @@ digits_decimal n = by_digits (λ (m : ℕ) (ds : List ℕ). all_digits ds ≡ tr
 
 -- a number below 10 ^ (k + 1) has 1 to k + 1 digits
 pub length-decimal : (k n : ℕ) → n < 10 ^ suc k → (1 ≤ length (decimal_of n)) × (length (decimal_of n) ≤ suc k)
-length-decimal zero n h = let l : n < 10 = omega arith in rw (decimal-small n l) (omega arith, omega arith)
+length-decimal zero n h = let l : n < 10 = omega arith in rw (decimal_small n l) (omega arith, omega arith)
 length-decimal (suc k) n h =
     let p : 10 ^ suc (suc k) ≡ 10 ^ suc k * 10 = pow-suc 10 (suc k) in
     let e = length-decimal k (n / 10) (omega arith) in
     elim (dec_lt n 10) [
-      | yes l ↦ rw (decimal-small n l) (omega arith, omega arith)
-      | no l ↦ rw (decimal-more n (omega arith)) (simp length-append (omega arith))
+      | yes l ↦ rw (decimal_small n l) (omega arith, omega arith)
+      | no l ↦ rw (decimal_more n (omega arith)) (simp length-append (omega arith))
     ]
 
 -- a value does not decrease with more digits

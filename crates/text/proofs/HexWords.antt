@@ -1,14 +1,13 @@
--- A word of hex that is read into a buffer is readable and its bytes are at the buffer's start; where the answer is Bad the word
+-- A word of hex that is read into a buffer is readable and its bytes are at the buffer's start; where the answer is None the word
 -- is not readable.
 use mathlib.Core.{Path.◌≡◌, Path.refl, Path.sym, Path.ap, Path.◌∙◌, Bool.Bool, Bool.true, Bool.false, List.List}
-use mathlib.Core.Option.{none, some}
+use Rattle.std.specs.Prelude.{Option, Some, None}
 use Prim.Native.Nat.{ℕ, ◌+◌, ◌≤◌}
 use native.Mathlib.Omega.{arith}
 use borrow.Author.Tests.{leb-true}
 use lib.{ListN.length, ListN.take, ListN.drop, Seq.take-append_seam, Seq.length-sets, Seq.sets-eq}
 use Rattle.base.proofs.Bools.{both_true}
 use Rattle.text.specs.Hex.{is_hex_word, pair_values, is_readable, HexReading}
-use Rattle.text.specs.declared.{HexRead.HexRead, HexRead.TheVariants.Bytes, HexRead.TheVariants.Bad}
 
 -- a word that is read: the first k bytes of the buffer are its bytes
 pub record WordRead (w xs : List ℕ) (k : ℕ) (ys : List ℕ) : Type 0 where
@@ -17,14 +16,14 @@ pub record WordRead (w xs : List ℕ) (k : ℕ) (ys : List ℕ) : Type 0 where
   pub taken : k ≡ length (take k ys)
   pub bytes : take k ys ≡ pair_values w
 
-module _ {w xs ys : List ℕ} {r : HexRead} where
-  pub word_read : {k : ℕ} → r ≡ Bytes k → HexReading w xs r ys → WordRead w xs k ys
+module _ {w xs ys : List ℕ} {r : Option ℕ} where
+  pub word_read : {k : ℕ} → r ≡ Some k → HexReading w xs r ys → WordRead w xs k ys
   unfolding is_readable
   word_read {k} told h = go (is_readable w (length xs)) refl
     where
       go : (t : Bool) → is_readable w (length xs) ≡ t → WordRead w xs k ys
       go true e =
-          let a : some k ≡ some (length (pair_values w)) = rw (e, told) at h.answer in
+          let a : Some k ≡ Some (length (pair_values w)) = rw (e, told) at h.answer in
           let long : k ≡ length (pair_values w) = cc in
           let room = leb-true (length (pair_values w)) (length xs) (both_true (is_hex_word w) _ e).1 in
           let bytes = rw e at h.bytes in
@@ -33,16 +32,16 @@ module _ {w xs ys : List ℕ} {r : HexRead} where
           (take-append_seam (pair_values w) (drop (0 + length (pair_values w)) xs)) in
           record { readable = e; within = omega arith; taken = long ∙ sym (ap length in-front); bytes = in-front }
       go false e =
-          let a : some k ≡ none = rw (e, told) at h.answer in
+          let a : Some k ≡ None = rw (e, told) at h.answer in
           let z : ◌≡◌ {A = ℕ} 0 1 = cc in
           absurd (omega arith)
 
-  pub no_word : r ≡ Bad → HexReading w xs r ys → is_readable w (length xs) ≡ false
+  pub no_word : r ≡ None → HexReading w xs r ys → is_readable w (length xs) ≡ false
   no_word told h = go (is_readable w (length xs)) refl
     where
       go : (t : Bool) → is_readable w (length xs) ≡ t → is_readable w (length xs) ≡ false
       go true e =
-          let a : none ≡ some (length (pair_values w)) = rw (e, told) at h.answer in
+          let a : None ≡ Some (length (pair_values w)) = rw (e, told) at h.answer in
           let z : ◌≡◌ {A = ℕ} 0 1 = cc in
           absurd (omega arith)
       go false e = e

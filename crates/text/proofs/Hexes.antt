@@ -1,22 +1,17 @@
 -- Hex digits are printed byte by byte and read pair by pair, and printed bytes read back as themselves.
-use mathlib.Core.{Path.◌≡◌, Path.refl, Path.ap, Path.◌∙◌, Bool.Bool, Bool.true, Bool.false}
-use mathlib.Core.{List.List, List.[], List.◌∷◌, List.◌++◌, Option.some}
-use Prim.Native.Nat.{ℕ, suc, ◌+◌, ◌-◌, ◌/◌, ◌%◌, ◌≤◌, ◌<◌}
+use mathlib.Core.{Path.◌≡◌, Path.refl, Path.ap, Bool.Bool, Bool.true, Bool.false, Bool.◌&&◌, Bool.◌||◌}
+use mathlib.Core.List.{List, [], ◌∷◌, ◌++◌, map}
+use Prim.Native.Nat.{ℕ, suc, ◌+◌, ◌*◌, ◌/◌, ◌%◌, ◌≤◌, ◌<◌}
 use native.Mathlib.{Decide.dec_lt, Numerals.add-one, Omega.arith}
 use borrow.Author.Tests.{lt-ltb, le-ltb, le-leb, lt-leb, ltb-true}
-use lib.{Dec.ltb, Dec.eqb, ListN.length, ListN.take, ListN.drop, ListN.get_or, ListN.drop_of_length-le, Pow.are_bytes}
-use lib.Seq.{drop-cons, take-suc}
-use Rattle.base.specs.{Choice.pick, Choice.in_range, Placed.Placed}
-use Rattle.base.proofs.Bools.{both_true, in-range}
+use lib.{Dec.ltb, ListN.length, ListN.take, ListN.get_or, Pow.are_bytes, Seq.take-suc}
+use Rattle.std.specs.{Char.is_ascii_hexdigit, List.list_all, Prelude.Some, Prelude.None}
+use Rattle.std.specs.Simd.{first_chunks}
+use Rattle.base.specs.{Choice.in_range, Placed.Placed}
+use Rattle.base.proofs.Bools.{both_true}
 use Rattle.text.specs.Decimal.{is_digit}
-use Rattle.text.specs.Hex.{hex_digit, hex_pair, hex_digits, hex_of, hex_value, is_hex, are_pairs, pair_values, is_hex_word}
+use Rattle.text.specs.Hex.{hex_digit, hex_pair, hex_digits, hex_of, hex_value, is_hex, is_pair, are_pairs, pair_values, is_hex_word}
 use Rattle.text.specs.Hex.{is_readable, HexReading}
-use Rattle.text.specs.declared.HexRead.TheVariants.{Bytes, Bad}
-
--- a byte's two digits
-pub hex-pair : (b high low : ℕ) → b < 256 → high ≡ hex_digit (b / 16 % 16) → low ≡ hex_digit (b % 16)
-    → high ∷ low ∷ [] ≡ hex_pair b
-hex-pair b high low h p q = let e : b / 16 % 16 ≡ b / 16 = omega arith in rw (p, q, e)
 
 hex-append : (xs ys : List ℕ) → hex_digits (xs ++ ys) ≡ hex_digits xs ++ hex_digits ys
 hex-append [] ys = refl
@@ -38,76 +33,73 @@ unfolding hex_of
 hex-none [] h = refl
 hex-none (b ∷ bs) h = absurd (omega arith)
 
--- from index i on: two bytes and the rest, or a single byte, which is no pair
-pub pair_step : (s : List ℕ) (i : ℕ) → i + 1 < length s → drop i s ≡ get_or s i 0 ∷ get_or s (i + 1) 0 ∷ drop (i + 2) s
-pair_step s i inside =
-    let two : suc (i + 1) ≡ i + 2 = omega arith in
-    drop-cons s i 0 (omega arith)
-    ∙ rw (← add-one i, drop-cons s (i + 1) 0 inside, two)
+-- the tests of a byte, of all bytes, and of pairs agree
+hex-digit : (c : ℕ) → is_ascii_hexdigit c ≡ is_hex c
+hex-digit c = swap (is_digit c) (in_range 65 70 c) (in_range 97 102 c)
+  where
+    swap : (a b d : Bool) → ((a || b) || d) ≡ ((a || d) || b)
+    swap true b d = refl
+    swap false true true = refl
+    swap false true false = refl
+    swap false false true = refl
+    swap false false false = refl
 
-pub pair-last : (s : List ℕ) (i : ℕ) → i < length s → length s ≤ i + 1 → are_pairs (drop i s) ≡ false
-pair-last s i inside last =
-    rw (drop-cons s i 0 inside, drop_of_length-le s (let h : length s ≤ suc i = omega arith in h))
+pub pairs-even : (w : List ℕ) → length w % 2 ≡ 0 → list_all is_ascii_hexdigit w ≡ are_pairs w
+pairs-even [] even = refl
+pairs-even (a ∷ []) even = absurd (omega arith)
+pairs-even (a ∷ b ∷ cs) even =
+    rw (hex-digit a, hex-digit b, pairs-even cs (omega arith)) (join (is_hex a) (is_hex b) (are_pairs cs))
+  where
+    join : (x y z : Bool) → (x && (y && z)) ≡ ((x && y) && z)
+    join true y z = refl
+    join false y z = refl
+
+pub pairs-odd : (w : List ℕ) → (length w % 2 ≡ 0 → ⊥) → are_pairs w ≡ false
+pairs-odd [] odd = absurd (odd refl)
+pairs-odd (a ∷ []) odd = refl
+pairs-odd (a ∷ b ∷ cs) odd = rw (pairs-odd cs (λ e. odd (omega (arith, e)))) (none (is_pair a b))
+  where
+    none : (x : Bool) → (x && false) ≡ false
+    none true = refl
+    none false = refl
+
+-- the value of a pair of digits, and the values of the pairs that a word is cut into
+abbrev pub pair_value : List ℕ → ℕ
+pair_value p = hex_value (get_or p 0 0) * 16 + hex_value (get_or p 1 0)
+
+pub pairs-cut : (w : List ℕ) → map pair_value (first_chunks 2 (length w / 2) w) ≡ pair_values w
+pairs-cut [] = refl
+pairs-cut (a ∷ []) = refl
+pairs-cut (a ∷ b ∷ cs) =
+    let half : length (a ∷ b ∷ cs) / 2 ≡ suc (length cs / 2) = omega arith in
+    rw half (ap (λ (l : List ℕ). (hex_value a * 16 + hex_value b) ∷ l) (pairs-cut cs))
 
 pub length_pairs : (w : List ℕ) → length (pair_values w) ≡ length w / 2
 length_pairs [] = refl
 length_pairs (a ∷ []) = refl
 length_pairs (a ∷ b ∷ cs) = let e = length_pairs cs in omega arith
 
--- fewer than two bytes make no pair
-pub pairs_end : (w : List ℕ) → length w ≤ 1 → pair_values w ≡ []
-pairs_end [] h = refl
-pairs_end (a ∷ []) h = refl
-pairs_end (a ∷ b ∷ cs) h = absurd (omega arith)
-
-pub word_none : (w : List ℕ) → length w ≡ 0 → false ≡ is_hex_word w
-word_none [] h = refl
-word_none (a ∷ cs) h = absurd (omega arith)
-
-pub word-one : (w : List ℕ) → length w ≡ 1 → eqb (get_or w 0 0) 45 ≡ is_hex_word w
-word-one [] h = absurd (omega arith)
-word-one (a ∷ []) h = refl
-word-one (a ∷ b ∷ cs) h = absurd (omega arith)
-
-pub word_more : (w : List ℕ) → (length w ≡ 0 → ⊥) → (length w ≡ 1 → ⊥) → are_pairs w ≡ is_hex_word w
-word_more [] h l = absurd (h refl)
-word_more (a ∷ []) h l = absurd (l refl)
-word_more (a ∷ b ∷ cs) h l = refl
-
-pick_small : (low high base c other : ℕ) → high - base < 16 → other < 16
-    → pick (in_range low high c) (c - base) other < 16
-pick_small low high base c other h l = go (in_range low high c) refl
-  where
-    go : (t : Bool) → in_range low high c ≡ t → pick t (c - base) other < 16
-    go true e = let r = in-range low high c e in omega arith
-    go false e = l
-
-pub hex-small : (c : ℕ) → hex_value c < 16
-hex-small c =
-    pick_small 48 57 48 c _ (omega arith) (pick_small 97 102 87 c _ (omega arith)
-    (pick_small 65 70 55 c 0 (omega arith) (omega arith)))
-
-unreadable : (w xs : List ℕ) → is_readable w (length xs) ≡ false → HexReading w xs Bad xs
+unreadable : (w xs : List ℕ) → is_readable w (length xs) ≡ false → HexReading w xs None xs
 unreadable w xs e = record { answer = rw e; bytes = rw e }
 
 module _ (w xs : List ℕ) where
-  pub no_word : is_hex_word w ≡ false → HexReading w xs Bad xs
+  pub no_word : is_hex_word w ≡ false → HexReading w xs None xs
   unfolding is_readable
   no_word e = unreadable w xs (rw e)
 
-  pub no_room : is_hex_word w ≡ true → length xs < length w / 2 → HexReading w xs Bad xs
+  pub no_room : is_hex_word w ≡ true → length xs < length w / 2 → HexReading w xs None xs
   unfolding is_readable
   no_room e h = unreadable w xs (rw (e, length_pairs w) (lt-leb (length w / 2) (length xs) h))
 
   pub word_read : is_hex_word w ≡ true → length w / 2 ≤ length xs → (n : ℕ) (ys : List ℕ)
-      → Placed xs 0 (pair_values w) n ys → HexReading w xs (Bytes n) ys
+      → Placed xs 0 (pair_values w) n ys → HexReading w xs (Some n) ys
   unfolding is_readable
   word_read e h n ys p =
       let l = length_pairs w in
       let i = p.index in
       let readable : is_readable w (length xs) ≡ true =
       rw e (le-leb (length (pair_values w)) (length xs) (omega arith)) in
-      record { answer = rw readable (ap some (omega arith)); bytes = rw readable p.bytes }
+      record { answer = rw readable (ap Some (omega arith)); bytes = rw readable p.bytes }
 
 -- the digit printed for a number has that number as its value
 digit-back : (d : ℕ) → d < 16 → (hex_value (hex_digit d) ≡ d) × (is_hex (hex_digit d) ≡ true)

@@ -4,4 +4,3 @@ pub mod HexWords
 pub mod Lines
 pub mod Outputs
 pub mod Same
-pub mod SameBytes

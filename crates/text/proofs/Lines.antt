@@ -1,28 +1,52 @@
 -- The index of the first occurrence of a byte, the bytes before it, and how many bytes of an input decide the number on its first
 -- line.
 use mathlib.Core.{Path.◌≡◌, Path.refl, Path.sym, Path.ap, Path.◌∙◌, Bool.Bool, Bool.true, Bool.false}
+use Rattle.std.specs.Prelude.{Some, None, cond, not}
+use Rattle.std.specs.Option.{unwrap_or}
+use Rattle.std.proofs.lemmas.List.Sums.{prefix_len-le-length}
+use Rattle.std.specs.List.{position_or_len}
 use mathlib.Core.{List.List, List.[], List.◌∷◌, Logic.◌⊎◌, Logic.inl, Logic.inr}
 use Prim.Native.Nat.{ℕ, zero, suc, ◌+◌, ◌-◌, ◌≤◌, ◌<◌}
-use native.Mathlib.{Decide.dec_le, Nat.add-zero, Numerals.add-one, Omega.arith}
-use borrow.Author.Tests.{eq-eqb, ne_eqb, le-leb, lt-leb}
-use lib.{Dec.eqb, ListN.length, ListN.take, ListN.drop, ListN.get_or, ListN.length-take, ListN.drop_of_length-le}
-use lib.Seq.{drop-cons, take_all}
+use native.Mathlib.{Decide.dec_le, Nat.add-zero, Omega.arith}
+use borrow.Author.Tests.{le-leb, lt-leb, ltb-false}
+use lib.{Dec.eqb, Dec.ltb, ListN.length, ListN.take, ListN.drop, ListN.length-take, ListN.length-drop, ListN.drop_of_length-le}
+use lib.Seq.{take_all}
 use Rattle.base.specs.{Answer.refusal, Choice.pick}
 use Rattle.text.specs.{Decimal.number_of, Words.up_to, Words.index_from, Words.line_number_of}
 use Rattle.text.proofs.Decimals.{bad-length}
 
-module _ (s : List ℕ) (b i : ℕ) where
-  pub index-hit : i < length s → get_or s i 0 ≡ b → index_from s i b ≡ i
-  unfolding index_from
-  index-hit inside same = rw (drop-cons s i 0 inside, eq-eqb (get_or s i 0) b same, add-zero)
+-- the place of the first that passes, or the length
+pub place-or-length : (p : ℕ → Bool) (xs : List ℕ)
+    → unwrap_or (cond (ltb (position_or_len p xs) (length xs)) (Some (position_or_len p xs)) None) (length xs) ≡ position_or_len p xs
+place-or-length p xs = go (ltb (position_or_len p xs) (length xs)) refl
+  where
+    go : (t : Bool) → ltb (position_or_len p xs) (length xs) ≡ t
+        → unwrap_or (cond t (Some (position_or_len p xs)) None) (length xs) ≡ position_or_len p xs
+    go true e = refl
+    go false e =
+        omega (arith, prefix_len-le-length (λ x. not (p x)) xs, ltb-false (position_or_len p xs) (length xs) e)
 
-  pub index-miss : i < length s → (get_or s i 0 ≡ b → ⊥) → index_from s (i + 1) b ≡ index_from s i b
-  unfolding index_from
-  index-miss inside other = rw (add-one, drop-cons s i 0 inside, ne_eqb (get_or s i 0) b other) (omega arith)
+-- the bytes up to the first b are as many as its index says
+pub length-up : (b : ℕ) (xs : List ℕ) → length (up_to b xs) ≡ position_or_len (λ x. eqb x b) xs
+length-up b [] = refl
+length-up b (x ∷ xs) = go (eqb x b) (length-up b xs)
+  where
+    go : (t : Bool) → length (up_to b xs) ≡ position_or_len (λ y. eqb y b) xs
+        → length (pick t [] (x ∷ up_to b xs)) ≡ cond (not t) (1 + position_or_len (λ y. eqb y b) xs) 0
+    go true e = refl
+    go false e = omega arith
 
-  pub index-end : length s ≤ i → index_from s i b ≡ i
-  unfolding index_from
-  index-end out = rw (drop_of_length-le s out, add-zero)
+-- so the index of the first b from index at on is its place in the rest
+pub index-found : (s : List ℕ) (at b : ℕ) {n : ℕ} → n ≡ position_or_len (λ x. eqb x b) (take (length s - at) (drop at s))
+    → at + n ≡ index_from s at b
+unfolding index_from
+index-found s at b place =
+    let rest = take_all (length s - at) (drop at s) (simp length-drop (omega arith)) in
+    ap (λ (n : ℕ). at + n) (rw rest at place ∙ sym (length-up b (drop at s)))
+
+pub index-end : (s : List ℕ) (b i : ℕ) → length s ≤ i → index_from s i b ≡ i
+unfolding index_from
+index-end s b i out = rw (drop_of_length-le s out, add-zero)
 
 -- the bytes before the first b are those up to it
 pub take-up : (b : ℕ) (xs : List ℕ) → take (length (up_to b xs)) xs ≡ up_to b xs

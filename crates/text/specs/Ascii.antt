@@ -1,7 +1,7 @@
 -- Quoted text as bytes, the ASCII code of each character, and the comparison of two texts.
-use mathlib.Core.{Bool.Bool, Bool.true, Bool.false, Bool.◌&&◌, List.List, List.[], List.◌∷◌}
+use mathlib.Core.{Bool.Bool, List.List, List.[], List.◌∷◌}
 use Prim.Native.{Nat.ℕ, Char.code, String.String, String.[] as ended, String.◌∷◌ as ◌before◌}
-use Rattle.std.specs.Prelude.{eqb}
+use lib.{Dec.eqb, Pointwise.pointwise}
 
 abbrev pub ascii : String → List ℕ
 ascii ended = []
@@ -9,7 +9,4 @@ ascii (c before cs) = code c ∷ ascii cs
 
 -- whether two texts are the same
 abbrev pub same : List ℕ → List ℕ → Bool
-same [] [] = true
-same [] (y ∷ ys) = false
-same (x ∷ xs) [] = false
-same (x ∷ xs) (y ∷ ys) = eqb x y && same xs ys
+same = pointwise eqb

@@ -1,12 +1,10 @@
 -- Bytes as hexadecimal digits, two for each byte, the more significant first: the text printed for bytes, and the bytes that a
 -- text spells.
 use mathlib.Core.{Path.◌≡◌, Bool.Bool, Bool.true, Bool.false, Bool.◌&&◌, Bool.◌||◌, List.List, List.[], List.◌∷◌, List.◌++◌}
-use Rattle.std.proofs.Math.Option.{Option, none, some}
-use Rattle.std.specs.Prelude.{ℕ, ◌+◌, ◌-◌, ◌*◌, ◌/◌, ◌%◌}
+use Rattle.std.specs.Prelude.{Option, Some, None, ℕ, ◌+◌, ◌-◌, ◌*◌, ◌/◌, ◌%◌}
 use lib.{Dec.leb, Dec.ltb, Dec.eqb, ListN.length, Seq.sets}
 use Rattle.base.specs.Choice.{pick, in_range}
 use Rattle.text.specs.Decimal.{is_digit}
-use Rattle.text.specs.declared.{HexRead.HexRead, HexRead.TheVariants.Bytes, HexRead.TheVariants.Bad}
 
 -- the digit of a number below 16: `0` to `9`, then `a` to `f`
 abbrev pub hex_digit : ℕ → ℕ
@@ -57,11 +55,7 @@ is_hex_word (a ∷ b ∷ cs) = are_pairs (a ∷ b ∷ cs)
 unfoldable pub is_readable : List ℕ → ℕ → Bool
 is_readable w room = is_hex_word w && leb (length (pair_values w)) room
 
-abbrev pub hex_read_is : HexRead → Option ℕ
-hex_read_is (Bytes n) = some n
-hex_read_is Bad = none
-
 -- the call that reads the word w into the buffer xs, answers r and leaves the buffer ys; an unreadable word changes nothing
-pub record HexReading (w xs : List ℕ) (r : HexRead) (ys : List ℕ) : Type 0 where
-  pub answer : hex_read_is r ≡ pick (is_readable w (length xs)) (some (length (pair_values w))) none
+pub record HexReading (w xs : List ℕ) (r : Option ℕ) (ys : List ℕ) : Type 0 where
+  pub answer : r ≡ pick (is_readable w (length xs)) (Some (length (pair_values w))) None
   pub bytes : ys ≡ pick (is_readable w (length xs)) (sets xs 0 (pair_values w)) xs

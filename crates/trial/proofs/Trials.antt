@@ -3,8 +3,11 @@ use mathlib.Core.{Bool.Bool, Bool.false, List.List, Path.◌≡◌, Path.sym, Pa
 use Rattle.std.proofs.Common.{ℕ, suc, ◌+◌, length}
 use native.Mathlib.{Nat.zero-add, Numerals.add-one}
 use Rattle.text.specs.Words.{up_to, index_from}
-use Rattle.runner.specs.declared.{Runner.Runner, Stepped.Stepped, Opened.Opened}
-use Rattle.runner.specs.Run.{Outcome, stepped_is, advance_of, Begun, opened_is, started_with, start_of}
+use Rattle.std.specs.Prelude.{Result}
+use Rattle.base.specs.declared.refusal.Refusal.{Refusal}
+use Rattle.base.specs.Answer.{answer_of}
+use Rattle.runner.specs.declared.{Runner.Runner, Reply.Reply}
+use Rattle.runner.specs.Run.{Outcome, outcome, advance_of, Begun, started_with, start_of}
 use Rattle.step.specs.Size.{bad_size}
 use Rattle.runner.proofs.Starts.{start-kept}
 use Rattle.bring_up.specs.Wait.{runner_after}
@@ -12,11 +15,11 @@ use Rattle.trial.specs.Lcg.{drawn, top_bit}
 use Rattle.trial.specs.Load.{flags}
 
 module _ (seed i : ℕ) where
-  pub runner-next : (sheet : List ℕ) {y : ℕ} {r : Runner} {ready : Bool} (s : Stepped) → y ≡ drawn seed (i + 1)
-      → r ≡ runner_after sheet (flags seed) i → ready ≡ top_bit y → stepped_is s ≡ advance_of r sheet ready
-      → s.runner ≡ runner_after sheet (flags seed) (i + 1)
+  pub runner-next : (sheet : List ℕ) {y : ℕ} {r : Runner} {ready : Bool} (reply : Result Reply Refusal) (next : Runner) → y ≡ drawn seed (i + 1)
+      → r ≡ runner_after sheet (flags seed) i → ready ≡ top_bit y → outcome (answer_of reply) next ≡ advance_of r sheet ready
+      → next ≡ runner_after sheet (flags seed) (i + 1)
   unfolding runner_after
-  runner-next sheet {y} {r} {ready} s drew before heard call =
+  runner-next sheet {y} {r} {ready} reply next drew before heard call =
       let last : y ≡ drawn seed (suc i) = rw add-one at drew in
       let flag : ready ≡ flags seed i = heard ∙ ap top_bit last in
       rw add-one
@@ -24,9 +27,9 @@ module _ (seed i : ℕ) where
       ∙ ap₂ (λ (q : Runner) (b : Bool). (advance_of q sheet b).next) before flag)
 
 -- before the first call the runner is started with the sheet
-pub begins : (sheet : List ℕ) (r : Runner) (o : Opened) → bad_size (length sheet) ≡ false → opened_is o ≡ start_of r sheet
-    → o.runner ≡ started_with sheet
-begins sheet r o good e = ap (λ (x : Begun Runner). x.next) (e ∙ sym (start-kept r sheet good))
+pub begins : (sheet : List ℕ) (r : Runner) (opened : Result Unit Refusal) (next : Runner) → bad_size (length sheet) ≡ false
+    → outcome (answer_of opened) next ≡ start_of r sheet → next ≡ started_with sheet
+begins sheet r opened next good e = ap (λ (x : Begun Runner). x.next) (e ∙ sym (start-kept r sheet good))
 
 -- the index of the first space is the length of the text before it
 pub space-at : (s : List ℕ) → index_from s 0 32 ≡ length (up_to 32 s)

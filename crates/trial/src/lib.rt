@@ -5,15 +5,15 @@
 mod lcg;
 
 ghost use Rattle.std.specs.Prelude.{◌≡◌, ◌≤◌, false, length};
-ghost use Rattle.base.specs.Answer.{value, number_is};
-ghost use Rattle.base.specs.Placed.{Placed};
+ghost use Rattle.base.specs.Answer.{value, answer_of};
+ghost use Rattle.base.specs.Writing.{Puts};
 ghost use Rattle.text.specs.Output.{Printed};
 ghost use Rattle.step.specs.Size.{bad_size};
 ghost use Rattle.bring_up.specs.Wait.{runner_after};
 ghost use Rattle.trial.specs.Load.{flags, trial_runner, runner_line};
 ghost use Rattle.trial.specs.Load.{trials, load_with, load_of};
 
-use base::{Length, Number};
+use base::{Refusal, Writer};
 use chip::Chip;
 use config::ClockConfig;
 use runner::Runner;
@@ -33,15 +33,12 @@ fn run(sheet: &[u8], seed: u32, count: u32) -> Runner
     requires { bad_size (length sheet.now) ≡ false }
     ensures { result ≡ runner_after sheet.now (flags seed) count }
 {
-    let opened = runner::restarted(Runner::new(), sheet);
-    let mut runner = opened.runner;
+    let mut runner = Runner::new();
+    let _opened = runner.start(sheet);
     let mut x = seed;
-    let mut i = 0;
-    while i < count {
+    for _ in 0..count {
         x = lcg::draw(x);
-        let stepped = runner::advance(runner, sheet, lcg::top_bit(x));
-        runner = stepped.runner;
-        i += 1;
+        let _reply = runner.poll(sheet, lcg::top_bit(x));
     }
     runner
 }
@@ -51,7 +48,7 @@ fn trial_runner(seed: u32, count: u32) -> Runner
     ensures { result ≡ trial_runner seed count }
 {
     let mut bytes = [0u8; MAX_BYTES];
-    let Length::Bytes(n) = sheet::init(
+    let Ok(n) = sheet::init(
         ClockConfig::crystal(Chip::Rp2040, CRYSTAL_HZ),
         READING,
         &mut bytes,
@@ -61,49 +58,45 @@ fn trial_runner(seed: u32, count: u32) -> Runner
     run(&bytes[..n], seed, count)
 }
 
-// Puts the position and the total of unready polls of a runner on a line.
-fn put_runner(out: &mut [u8], at: usize, r: Runner) -> usize
-    ensures { Placed out.old at (runner_line r) result out.new }
+// Writes the position and the total of unready polls of a runner on a line.
+#[tactic(auto, using(base::proofs::Writing::writing), unfolding(crate::specs::Load::runner_line))]
+fn write_runner(out: &mut Writer<'_, u8>, r: &Runner)
+    ensures { Puts out.old (runner_line r.now) out.new }
 {
-    let total = [r.stepper.state.total as u64];
-    let at = replies::put_row(out, at, r.stepper.state.position as u64, &total);
-    text::put_byte(out, at, b'\n')
+    let state = &r.stepper.state;
+    replies::write_row(out, state.position as u64, &[u64::from(state.total)]);
+    out.put(b'\n');
 }
 
-// Puts the lines of both trials.
-fn put_trials(out: &mut [u8], seed: u32, count: u32) -> usize
-    ensures { Placed out.old 0 (trials seed count) result out.new }
+// Writes the lines of both trials.
+#[tactic(auto, using(base::proofs::Writing::writing), unfolding(crate::specs::Load::trials))]
+fn write_trials(out: &mut Writer<'_, u8>, seed: u32, count: u32)
+    ensures { Puts out.old (trials seed count) out.new }
 {
-    let at = lcg::put_targets(out, seed, count);
-    put_runner(out, at, trial_runner(seed, count))
+    lcg::write_targets(out, seed, count);
+    write_runner(out, &trial_runner(seed, count));
 }
 
-// Puts the output for a seed and a count that may be refused; a count over 10000 gives the line of refusal 31.
-fn put_counted(out: &mut [u8], seed: u32, count: Number) -> usize
-    ensures { Placed out.old 0 (load_with (value seed) (number_is count)) result out.new }
+// Writes the output for a seed and a count that may be refused; a count over 10000 gives the line of refusal 31.
+fn write_counted(out: &mut Writer<'_, u8>, seed: u32, count: Result<u32, Refusal>)
+    ensures { Puts out.old (load_with (value seed) (answer_of count)) out.new }
 {
     match count {
-        Number::Value(count) => {
-            if count > MOST_COUNT {
-                return replies::put_refused_line(out, 31);
-            }
-            put_trials(out, seed, count)
-        }
-        Number::Refused(number) => replies::put_refused_line(out, number),
+        Ok(count) if count > MOST_COUNT => replies::write_refused_line(out, Refusal::CountOver),
+        Ok(count) => write_trials(out, seed, count),
+        Err(why) => replies::write_refused_line(out, why),
     }
 }
 
-// Puts the output for an input and answers its length.
-fn put_load(input: &[u8], out: &mut [u8]) -> usize
+// Writes the output for an input.
+fn write_load(out: &mut Writer<'_, u8>, input: &[u8])
     requires { length input.now ≤ 22 }
-    ensures { Placed out.old 0 (load_of input.now) result out.new }
+    ensures { Puts out.old (load_of input.now) out.new }
 {
     let space = text::index_from(input, 0, b' ');
     match text::number_up_to(input, 0, b' ') {
-        Number::Value(seed) => {
-            put_counted(out, seed, text::number_up_to(input, space + 1, b'\n'))
-        }
-        Number::Refused(no_seed) => replies::put_refused_line(out, no_seed),
+        Ok(seed) => write_counted(out, seed, text::number_up_to(input, space + 1, b'\n')),
+        Err(no_seed) => replies::write_refused_line(out, no_seed),
     }
 }
 
@@ -112,5 +105,7 @@ fn put_load(input: &[u8], out: &mut [u8]) -> usize
 pub fn load(start: &[u8; 22], n: usize, out: &mut [u8; 80012]) -> usize
     ensures { Printed load_of start.now n out.old result out.new }
 {
-    put_load(base::first(start, n), out)
+    let mut writer = Writer::new(out);
+    write_load(&mut writer, base::first(start, n));
+    writer.at
 }

@@ -13,7 +13,7 @@ use Rattle.settings.specs.declared.Settings.{Settings}
 use Rattle.settings.specs.{Settings.settings_of, Typed.Typed}
 use Rattle.step.specs.Sheet.{encoded}
 use Rattle.sheet_steps.specs.Steps.{steps_of}
-use Rattle.refusals.specs.{declared.Examined.Examined, Refusals.Accepted, Refusals.examined_of}
+use Rattle.refusals.specs.Refusals.{Accepted}
 use Rattle.sheet.specs.Writer.{sheet_bytes, refusal_in}
 use Rattle.sheet.proofs.Demand3.{answered}
 use Rattle.settings.specs.LeastPlan.{plan_of}
@@ -37,28 +37,6 @@ only-as-ordered reading (order_refused n) e =
 only-as-ordered reading as_ordered e = refl
 only-as-ordered reading (differs mask p q) e =
     let first : ◌≡◌ {A = ℕ} 100 97 = ap (λ (l : List ℕ). get_or l 0 0) e in absurd (omega arith)
-
--- the three outcomes of a comparison, in the order in which the code tests for them
-module _ (reading : ℕ) (p q : ClockConfig) {t : Settings} {x : Examined} (asked : t ≡ settings_of q reading)
-    (found : x ≡ examined_of t reading) where
-  pub refused-order : (x.number ≡ 0 → ⊥) → verdict_text reading (compared reading p q) ≡ refused_lines (ascii "order: ") x.number
-  unfolding compared
-  refused-order some =
-      let same : x.number ≡ refusal_in q reading = rw (found, asked) in
-      rw (← same, ne_eqb x.number 0 some)
-
-  module _ (none : x.number ≡ 0) {s : Settings} {mask : ℕ} (was : s ≡ settings_of p reading) (bits : mask ≡ differences_of s t) where
-    accepted-mask : compared reading p q ≡ by_bits mask p q
-    unfolding compared
-    accepted-mask =
-        let same : refusal_in q reading ≡ x.number = rw (found, asked) in
-        rw (eq-eqb (refusal_in q reading) 0 (same ∙ none), bits, was, asked)
-
-    pub no_bits : mask ≡ 0 → verdict_text reading (compared reading p q) ≡ ascii "as ordered\n"
-    no_bits e = rw (accepted-mask, eq-eqb mask 0 e)
-
-    pub some_bits : (mask ≡ 0 → ⊥) → verdict_text reading (compared reading p q) ≡ differs_text mask reading p q
-    some_bits e = rw (accepted-mask, ne_eqb mask 0 e)
 
 -- no bit is set
 bits_none : (mask : ℕ) (p q : ClockConfig) → by_bits mask p q ≡ as_ordered → mask ≡ 0

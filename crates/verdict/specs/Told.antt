@@ -1,8 +1,9 @@
 -- A verdict is `as ordered` exactly where the bytes are the ordered plan's sheet, and otherwise names each setting that differs.
+use Rattle.std.specs.Prelude.{Result}
+use Rattle.base.specs.declared.refusal.Refusal.{Refusal}
 use mathlib.Core.{Path.◌≡◌, Bool.not, Logic.◌↔◌, List.List, List.[]}
 use Rattle.std.specs.Prelude.{ℕ, ◌<◌, take, get_or}
-use Rattle.base.specs.Answer.{value, length_is}
-use Rattle.base.specs.declared.Length.{Length}
+use Rattle.base.specs.Answer.{value, answer_of}
 use Rattle.text.specs.Ascii.{ascii}
 use Rattle.config.specs.declared.ClockConfig.{ClockConfig}
 use Rattle.settings.specs.Settings.{settings_of}
@@ -15,8 +16,8 @@ use Rattle.verdict.specs.Verdict.{differs, verdict_of, check_text}
 -- exactly where the bytes that it wrote are the sheet.
 abbrev pub AsOrdered : Type 0
 AsOrdered =
-    (sheet : List ℕ) (reading : ℕ) (plan : ClockConfig) (before after : List ℕ) (r : Length) (n : ℕ)
-    → InitCall plan reading before r after → length_is r ≡ value n
+    (sheet : List ℕ) (reading : ℕ) (plan : ClockConfig) (before after : List ℕ) (r : (Result ℕ Refusal)) (n : ℕ)
+    → InitCall plan reading before r after → answer_of r ≡ value n
     → (check_text reading sheet (value plan) ≡ ascii "as ordered\n") ↔ (take n after ≡ sheet)
 
 -- Where both are accepted and differ, the sheet was read back to the plan p, and the bit of a setting is set, so that its name

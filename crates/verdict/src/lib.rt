@@ -1,67 +1,98 @@
 // Delivered compared with ordered: whether a sheet is the ordered plan's, and where not, in which settings the two differ.
-
 #![tactic(auto)]
 
 ghost use Rattle.std.specs.Prelude.{◌≡◌, ◌<◌};
-ghost use Rattle.base.specs.Placed.{Placed};
-ghost use Rattle.config.specs.Presets.{planned_is};
+ghost use Rattle.base.specs.Writing.{Puts};
+ghost use Rattle.base.specs.Answer.{answer_of};
 ghost use Rattle.meanings.specs.Differences.{has_bit};
 ghost use Rattle.verdict.specs.Differs.{part_text, part_texts, hz_of, plan_hz, clock_text, clock_texts, differs_text};
-ghost use Rattle.verdict.specs.Verdict.{compared, ordered, verdict_text, check_text};
+ghost use Rattle.verdict.specs.Verdict.{by_bits, compared, verdict_text, check_text};
 
-use config::{ClockConfig, Planned};
+use base::{Refusal, Writer};
+use config::ClockConfig;
 use settings::Frequencies;
-use wording::put_refused;
+use wording::{write_refused, write_setting};
 
 // Whether bit k is set.
 fn has_bit(mask: u32, k: u8) -> bool
     requires { k < 32 }
     ensures { result ≡ has_bit mask k }
 {
-    (mask >> (k as u32)) % 2 == 1
+    (mask >> k) % 2 == 1
 }
 
-// The name of setting k and its two lines, where its bit is set.
-fn put_part(
-    out: &mut [u8],
-    at: usize,
-    mask: u32,
-    k: u8,
+// The plan of a sheet that was delivered and the plan that was ordered, at a reading.
+#[derive(Clone, Copy)]
+struct Plans {
     reading: u8,
     delivered: ClockConfig,
     ordered: ClockConfig,
-) -> usize
-    requires { k < 32 }
-    ensures { Placed out.old at (part_text mask k reading delivered ordered) result out.new }
-{
-    if has_bit(mask, k) {
-        let at = meanings::put_part_name(out, at, k);
-        let at = text::put_bytes(out, at, b"\n  delivered: ");
-        let at = wording::put_setting(out, at, k, delivered, reading);
-        let at = text::put_bytes(out, at, b"  ordered: ");
-        return wording::put_setting(out, at, k, ordered, reading);
-    }
-    base::least(at, out.len())
 }
 
-// The texts of the thirteen settings.
-fn put_parts(
-    out: &mut [u8],
-    at: usize,
-    mask: u32,
-    reading: u8,
-    delivered: ClockConfig,
-    ordered: ClockConfig,
-) -> usize
-    ensures { Placed out.old at (part_texts mask reading delivered ordered 13) result out.new }
-{
-    let mut end = base::least(at, out.len());
-    let mut k = 0u8;
-    while k < 13 {
-        end = put_part(out, end, mask, k, reading, delivered, ordered);
-        k += 1;
+impl Plans {
+    // The name of setting k and its two lines, where its bit is set.
+    #[tactic(auto, using(base::proofs::Writing::put_more, base::proofs::Writing::put_none), unfolding(crate::specs::Differs::part_text))]
+    fn write_part(&self, out: &mut Writer<'_, u8>, mask: u32, k: u8)
+        requires { k < 32 }
+        ensures { Puts out.old (part_text mask k self.now.reading self.now.delivered self.now.ordered) out.new }
+    {
+        if has_bit(mask, k) {
+            meanings::write_part_name(out, k);
+            out.put_all(b"\n  delivered: ");
+            write_setting(out, k, self.delivered, self.reading);
+            out.put_all(b"  ordered: ");
+            write_setting(out, k, self.ordered, self.reading);
+        }
     }
-    end
+
+    // The texts of the thirteen settings.
+    #[tactic(auto, using(base::proofs::Writing::put_more, base::proofs::Writing::put_none, crate::proofs::Texts::parts_none, crate::proofs::Texts::parts_more))]
+    fn write_parts(&self, out: &mut Writer<'_, u8>, mask: u32)
+        ensures { Puts out.old (part_texts mask self.now.reading self.now.delivered self.now.ordered 13) out.new }
+    {
+        for k in 0..13 {
+            self.write_part(out, mask, k);
+        }
+    }
+
+    // The settings that differ, delivered and ordered, and the clocks that run at another frequency.
+    #[tactic(auto, using(base::proofs::Writing::put_more), unfolding(crate::specs::Differs::differs_text))]
+    fn write_differs(&self, out: &mut Writer<'_, u8>, mask: u32)
+        ensures { Puts out.old (differs_text mask self.now.reading self.now.delivered self.now.ordered) out.new }
+    {
+        out.put_all(b"differs\n");
+        self.write_parts(out, mask);
+        let delivered = plan_hz(self.delivered, self.reading);
+        let ordered = plan_hz(self.ordered, self.reading);
+        write_clocks(out, &delivered, &ordered);
+    }
+
+    // The verdict on two plans that are accepted, by the settings that differ.
+    #[tactic(auto, using(std::proofs::lemmas::Bool::Decides::nat_tests))]
+    fn write_by_bits(&self, out: &mut Writer<'_, u8>, mask: u32)
+        ensures { Puts out.old (verdict_text self.now.reading (by_bits mask self.now.delivered self.now.ordered)) out.new }
+    {
+        if mask == 0 {
+            out.put_all(b"as ordered\n");
+        } else {
+            self.write_differs(out, mask);
+        }
+    }
+
+    // The verdict on the two plans: the order is refused, or they agree, or they differ.
+    #[tactic(auto, using(crate::proofs::Compared::refused_order, crate::proofs::Compared::accepted_order))]
+    fn write_compared(&self, out: &mut Writer<'_, u8>)
+        ensures { Puts out.old (verdict_text self.now.reading (compared self.now.reading self.now.delivered self.now.ordered)) out.new }
+    {
+        let asked = settings::settings_of(self.ordered, self.reading);
+        match refusals::examine(asked, self.reading) {
+            Err(why) => write_refused(out, b"order: ", u8::from(why)),
+            Ok(_) => {
+                let was = settings::settings_of(self.delivered, self.reading);
+                self.write_by_bits(out, meanings::differences(was, asked));
+            }
+        }
+    }
 }
 
 // The ten frequencies in the order of their clocks.
@@ -70,117 +101,67 @@ fn hz_of(f: Frequencies) -> [u64; 10]
 {
     let from = f.sources;
     [
-        from.rosc as u64,
-        from.xosc as u64,
-        from.pll_sys as u64,
-        from.pll_usb as u64,
-        f.reference as u64,
+        u64::from(from.rosc),
+        u64::from(from.xosc),
+        u64::from(from.pll_sys),
+        u64::from(from.pll_usb),
+        u64::from(f.reference),
         f.sys,
         f.peri,
-        f.usb as u64,
-        f.adc as u64,
+        u64::from(f.usb),
+        u64::from(f.adc),
         f.rtc,
     ]
 }
 
-// A clock's line, where the two frequencies are not the same.
-fn put_clock(out: &mut [u8], at: usize, clock: u64, delivered: u64, ordered: u64) -> usize
-    ensures { Placed out.old at (clock_text clock delivered ordered) result out.new }
-{
-    if delivered == ordered {
-        return base::least(at, out.len());
-    }
-    meanings::put_form(
-        out,
-        at,
-        b"clock @: delivered # Hz, ordered # Hz\n",
-        &[clock, delivered, ordered],
-    )
-}
-
-// The lines of the ten clocks.
-fn put_clocks(out: &mut [u8], at: usize, delivered: &[u64; 10], ordered: &[u64; 10]) -> usize
-    ensures { Placed out.old at (clock_texts delivered.now ordered.now 10) result out.new }
-{
-    let mut end = base::least(at, out.len());
-    let mut i = 0;
-    while i < 10 {
-        end = put_clock(out, end, i as u64, delivered[i], ordered[i]);
-        i += 1;
-    }
-    end
-}
-
 // The ten frequencies of a plan at a reading.
+#[tactic(auto, unfolding(crate::specs::Differs::plan_hz))]
 fn plan_hz(plan: ClockConfig, reading: u8) -> [u64; 10]
     ensures { result ≡ plan_hz plan reading }
 {
     hz_of(settings::frequencies_of(settings::settings_of(plan, reading)))
 }
 
-// The settings that differ, delivered and ordered, and the clocks that run at another frequency.
-fn put_differs(
-    out: &mut [u8],
-    at: usize,
-    mask: u32,
-    reading: u8,
-    delivered: ClockConfig,
-    ordered: ClockConfig,
-) -> usize
-    ensures { Placed out.old at (differs_text mask reading delivered ordered) result out.new }
+// A clock's line, where the two frequencies are not the same.
+#[tactic(auto, using(base::proofs::Writing::put_none, std::proofs::lemmas::Bool::Decides::nat_tests), unfolding(crate::specs::Differs::clock_text))]
+fn write_clock(out: &mut Writer<'_, u8>, clock: u64, delivered: u64, ordered: u64)
+    ensures { Puts out.old (clock_text clock delivered ordered) out.new }
 {
-    let at = text::put_bytes(out, at, b"differs\n");
-    let at = put_parts(out, at, mask, reading, delivered, ordered);
-    let was = plan_hz(delivered, reading);
-    let asked = plan_hz(ordered, reading);
-    put_clocks(out, at, &was, &asked)
-}
-
-// The plan of the sheet compared with the plan that is ordered.
-fn put_compared(
-    out: &mut [u8],
-    at: usize,
-    reading: u8,
-    delivered: ClockConfig,
-    ordered: ClockConfig,
-) -> usize
-    ensures { Placed out.old at (verdict_text reading (compared reading delivered ordered)) result out.new }
-{
-    let t = settings::settings_of(ordered, reading);
-    let found = refusals::examine(t, reading);
-    if found.number != 0 {
-        return put_refused(out, at, b"order: ", found.number);
-    }
-    let mask = meanings::differences(settings::settings_of(delivered, reading), t);
-    if mask == 0 {
-        return text::put_bytes(out, at, b"as ordered\n");
-    }
-    put_differs(out, at, mask, reading, delivered, ordered)
-}
-
-// The sheet's plan compared with the order, or the order's refusal.
-fn put_ordered(
-    out: &mut [u8],
-    at: usize,
-    reading: u8,
-    delivered: ClockConfig,
-    order: Planned,
-) -> usize
-    ensures { Placed out.old at (verdict_text reading (ordered reading delivered (planned_is order))) result out.new }
-{
-    match order {
-        Planned::Plan(plan) => put_compared(out, at, reading, delivered, plan),
-        Planned::Refused(number) => put_refused(out, at, b"order: ", number),
+    if delivered != ordered {
+        let form = b"clock @: delivered # Hz, ordered # Hz\n";
+        meanings::write_form(out, form, &[clock, delivered, ordered]);
     }
 }
 
-// Puts the verdict on a sheet that was written at a reading: `as ordered`, `differs` and the settings that differ, or the refusal
+// The lines of the ten clocks.
+#[tactic(auto, using(base::proofs::Writing::put_more, base::proofs::Writing::put_none, crate::proofs::Texts::clocks_none, crate::proofs::Texts::clocks_more, crate::proofs::Texts::left))]
+fn write_clocks(out: &mut Writer<'_, u8>, delivered: &[u64; 10], ordered: &[u64; 10])
+    ensures { Puts out.old (clock_texts delivered.now ordered.now 10) out.new }
+{
+    for (clock, (was, asked)) in delivered.iter().zip(ordered).enumerate() {
+        write_clock(out, clock as u64, *was, *asked);
+    }
+}
+
+// Writes the verdict on a sheet that was written at a reading: `as ordered`, `differs` and the settings that differ, or the refusal
 // of the sheet, 18 or 26, or of the order.
-pub fn check(out: &mut [u8], at: usize, reading: u8, sheet: &[u8], order: Planned) -> usize
-    ensures { Placed out.old at (check_text reading sheet.now (planned_is order)) result out.new }
+#[tactic(auto, unfolding(crate::specs::Verdict::verdict_of, crate::specs::Verdict::check_text))]
+pub fn write_verdict(
+    out: &mut Writer<'_, u8>,
+    reading: u8,
+    sheet: &[u8],
+    order: Result<ClockConfig, Refusal>,
+)
+    ensures { Puts out.old (check_text reading sheet.now (answer_of order)) out.new }
 {
-    match readback::read_sheet(sheet, reading) {
-        Planned::Plan(plan) => put_ordered(out, at, reading, plan, order),
-        Planned::Refused(number) => put_refused(out, at, b"sheet: ", number),
+    match (readback::read_sheet(sheet, reading), order) {
+        (Ok(delivered), Ok(ordered)) => Plans {
+            reading,
+            delivered,
+            ordered,
+        }
+        .write_compared(out),
+        (Err(why), _) => write_refused(out, b"sheet: ", u8::from(why)),
+        (_, Err(why)) => write_refused(out, b"order: ", u8::from(why)),
     }
 }

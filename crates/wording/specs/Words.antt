@@ -1,6 +1,6 @@
 -- A sheet in words: a line for each setting of the plan that it is read back to, what the last release leaves out, and the
 -- plan's numbers.
-use Rattle.std.specs.Prelude.{List, [], ◌∷◌, ◌++◌, ℕ, zero, suc, get_or}
+use Rattle.std.specs.Prelude.{List, [], ◌∷◌, ◌++◌, ℕ, zero, suc, get_or, is_none}
 use Rattle.base.specs.Answer.{Answer, value, refusal}
 use Rattle.text.specs.{Ascii.ascii, Decimal.decimal_of}
 use Rattle.chip.specs.Chips.{facts_of}
@@ -12,7 +12,7 @@ use Rattle.numbers.specs.Row.{sys_pll_in, usb_pll_in, plan_row}
 use Rattle.readback.specs.Read.{read_of}
 use Rattle.meanings.specs.Refusals.{refusal_text}
 use Rattle.phrases.specs.Lines.{chip_line, ring_line, crystal_line, pll_line, voltage_line, settling_line, ref_line, sys_line}
-use Rattle.phrases.specs.Lines.{peri_line, aux_line, rtc_line, is_rp2040, no_peri, no_aux, no_rtc, left_out_line}
+use Rattle.phrases.specs.Lines.{peri_line, aux_line, rtc_line, is_rp2040, left_out_line}
 
 -- the settings in the order of docs/FORMAT.md, Settings that count
 abbrev pub lines_of : ClockConfig → Settings → Frequencies → List (List ℕ)
@@ -47,7 +47,7 @@ setting_lines p reading (suc k) = setting_lines p reading k ++ setting_line k p 
 -- the blocks that the last release leaves out
 unfoldable pub left_out_text : Settings → List ℕ
 left_out_text s =
-    left_out_line (is_rp2040 s.board.chip) (no_peri s.peri) (no_aux s.usb) (no_aux s.adc) (no_rtc s.board.rtc)
+    left_out_line (is_rp2040 s.board.chip) (is_none s.peri) (is_none s.usb) (is_none s.adc) (is_none s.board.rtc)
 
 -- the plan's numbers as cases have them (docs/CASES.md)
 unfoldable pub plan_line : ClockConfig → List ℕ

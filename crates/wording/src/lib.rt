@@ -2,190 +2,138 @@
 
 #![tactic(auto)]
 
-ghost use Rattle.std.specs.Prelude.{◌≤◌, ◌<◌};
-ghost use Rattle.base.specs.Placed.{Placed};
+ghost use Rattle.base.specs.Writing.{Puts};
 ghost use Rattle.replies.specs.Reply.{spaced};
 ghost use Rattle.numbers.specs.Row.{plan_row};
 ghost use Rattle.wording.specs.Words.{line_of, setting_line, setting_lines, left_out_text, plan_line, words_of};
 ghost use Rattle.wording.specs.Words.{refused_lines, explain_text};
 
-use config::{ClockConfig, Planned};
+use base::Writer;
+use chip::Chip;
+use config::ClockConfig;
+use numbers::plan_row;
+use phrases::clocks::{self, Absent};
+use phrases::sources;
 use settings::{Frequencies, Settings};
 
-// Puts the line of setting k of a plan at a reading, in the order of docs/FORMAT.md, Settings that count; nothing from 13 on.
-pub fn put_setting(out: &mut [u8], at: usize, k: u8, plan: ClockConfig, reading: u8) -> usize
-    ensures { Placed out.old at (setting_line k plan reading) result out.new }
+// The line of setting k, in the order of docs/FORMAT.md, Settings that count; nothing from 13 on.
+#[tactic(auto, using(base::proofs::Writing::writing, crate::proofs::Lines::line_past), unfolding(crate::specs::Words::line_of))]
+fn write_line(out: &mut Writer<'_, u8>, k: u8, plan: ClockConfig, s: Settings, f: Frequencies)
+    ensures { Puts out.old (line_of k plan s f) out.new }
+{
+    let board = s.board;
+    match k {
+        0 => sources::write_chip(out, board.chip),
+        1 => sources::write_ring(out, s.rosc),
+        2 => sources::write_crystal(out, s.xosc),
+        3 => sources::write_pll(
+            out,
+            b"pll_sys",
+            f.sources.pll_sys,
+            plan_row::sys_pll(plan.xosc),
+        ),
+        4 => sources::write_pll(
+            out,
+            b"pll_usb",
+            f.sources.pll_usb,
+            plan_row::usb_pll(plan.xosc),
+        ),
+        5 => sources::write_voltage(out, board.chip, board.code),
+        6 => sources::write_settling(out, s.settling),
+        7 => clocks::write_ref(out, f.reference, s.reference),
+        8 => {
+            let scale = board.chip.facts().scale;
+            clocks::write_sys(out, f.sys, s.sys, board.whole, board.fraction, scale)
+        }
+        9 => clocks::write_peri(out, f.peri, s.peri),
+        10 => clocks::write_aux(out, b"usb", f.usb, s.usb),
+        11 => clocks::write_aux(out, b"adc", f.adc, s.adc),
+        12 => clocks::write_rtc(out, f.rtc, board.rtc),
+        _ => {}
+    }
+}
+
+// Writes the line of setting k of a plan at a reading; nothing from 13 on.
+#[tactic(auto, unfolding(crate::specs::Words::setting_line))]
+pub fn write_setting(out: &mut Writer<'_, u8>, k: u8, plan: ClockConfig, reading: u8)
+    ensures { Puts out.old (setting_line k plan reading) out.new }
 {
     let s = settings::settings_of(plan, reading);
-    let f = settings::frequencies_of(s);
-    if k < 7 {
-        return put_source(out, at, k, plan, s, f);
-    }
-    put_clock(out, at, k, plan, s, f)
-}
-
-// The lines 0 to 6: chip, ring, crystal, PLLs, voltage and settling step.
-fn put_source(
-    out: &mut [u8],
-    at: usize,
-    k: u8,
-    plan: ClockConfig,
-    s: Settings,
-    f: Frequencies,
-) -> usize
-    requires { k < 7 }
-    ensures { Placed out.old at (line_of k plan s f) result out.new }
-{
-    let board = s.board;
-    let chip = board.chip;
-    let ring = s.rosc;
-    let crystal = s.xosc;
-    let settling = s.settling;
-    let xosc = plan.xosc;
-    let hz = f.sources;
-    match k {
-        0 => phrases::sources::put_chip(out, at, chip),
-        1 => phrases::sources::put_ring(out, at, ring),
-        2 => phrases::sources::put_crystal(out, at, crystal),
-        3 => {
-            phrases::sources::put_pll(
-                out,
-                at,
-                b"pll_sys",
-                hz.pll_sys,
-                numbers::plan_row::sys_pll(xosc),
-            )
-        }
-        4 => {
-            phrases::sources::put_pll(
-                out,
-                at,
-                b"pll_usb",
-                hz.pll_usb,
-                numbers::plan_row::usb_pll(xosc),
-            )
-        }
-        5 => phrases::sources::put_voltage(out, at, chip, board.code),
-        _ => phrases::sources::put_settling(out, at, settling),
-    }
-}
-
-// The lines 7 to 12: reference, system, peripheral, USB, ADC and RTC clock.
-fn put_clock(
-    out: &mut [u8],
-    at: usize,
-    k: u8,
-    plan: ClockConfig,
-    s: Settings,
-    f: Frequencies,
-) -> usize
-    requires { 7 ≤ k }
-    ensures { Placed out.old at (line_of k plan s f) result out.new }
-{
-    let board = s.board;
-    let chip = board.chip;
-    let facts = chip.facts();
-    let rtc = board.rtc;
-    let reference = s.reference;
-    let src = s.sys;
-    let peri = s.peri;
-    let usb = s.usb;
-    let adc = s.adc;
-    match k {
-        7 => phrases::clocks::put_ref(out, at, f.reference, reference),
-        8 => phrases::clocks::put_sys(
-            out,
-            at,
-            f.sys,
-            src,
-            board.whole,
-            board.fraction,
-            facts.scale,
-        ),
-        9 => phrases::clocks::put_peri(out, at, f.peri, peri),
-        10 => phrases::clocks::put_aux(out, at, b"usb", f.usb, usb),
-        11 => phrases::clocks::put_aux(out, at, b"adc", f.adc, adc),
-        12 => phrases::clocks::put_rtc(out, at, f.rtc, rtc),
-        _ => base::least(at, out.len()),
-    }
+    write_line(out, k, plan, s, settings::frequencies_of(s));
 }
 
 // The lines of the thirteen settings.
-fn put_settings(out: &mut [u8], at: usize, plan: ClockConfig, reading: u8) -> usize
-    ensures { Placed out.old at (setting_lines plan reading 13) result out.new }
+fn write_settings(out: &mut Writer<'_, u8>, plan: ClockConfig, reading: u8)
+    ensures { Puts out.old (setting_lines plan reading 13) out.new }
 {
-    let mut end = base::least(at, out.len());
-    let mut k = 0u8;
-    while k < 13 {
-        end = put_setting(out, end, k, plan, reading);
-        k += 1;
+    for k in 0..13 {
+        write_setting(out, k, plan, reading);
     }
-    end
 }
 
 // The blocks that the last release leaves out.
-fn put_left_out(out: &mut [u8], at: usize, s: Settings) -> usize
-    ensures { Placed out.old at (left_out_text s) result out.new }
+fn write_left_out(out: &mut Writer<'_, u8>, s: Settings)
+    ensures { Puts out.old (left_out_text s) out.new }
 {
-    let board = s.board;
-    let chip = board.chip;
-    let rtc = board.rtc;
-    let peri = s.peri;
-    let usb = s.usb;
-    let adc = s.adc;
-    let old = phrases::clocks::is_rp2040(chip);
-    let no_peri = phrases::clocks::no_peri(peri);
-    let no_usb = phrases::clocks::no_aux(usb);
-    let no_adc = phrases::clocks::no_aux(adc);
-    let no_rtc = phrases::clocks::no_rtc(rtc);
-    phrases::clocks::put_left_out(out, at, old, no_peri, no_usb, no_adc, no_rtc)
+    let no = Absent {
+        old: s.board.chip == Chip::Rp2040,
+        peri: s.peri.is_none(),
+        usb: s.usb.is_none(),
+        adc: s.adc.is_none(),
+        rtc: s.board.rtc.is_none(),
+    };
+    clocks::write_left_out(out, no);
 }
 
 // The plan's numbers, each after a space.
-fn put_numbers(out: &mut [u8], at: usize, plan: ClockConfig) -> usize
-    ensures { Placed out.old at (spaced (plan_row plan)) result out.new }
+fn write_numbers(out: &mut Writer<'_, u8>, plan: ClockConfig)
+    ensures { Puts out.old (spaced (plan_row plan)) out.new }
 {
     let mut row = [0u32; 48];
-    let n = numbers::plan_row::put_plan(&mut row, plan);
-    replies::put_words(out, at, &row[..n])
+    let n = plan_row::put_plan(&mut row, plan);
+    replies::write_spaced(out, &row[..n]);
 }
 
 // The line `plan` with these numbers.
-fn put_plan(out: &mut [u8], at: usize, plan: ClockConfig) -> usize
-    ensures { Placed out.old at (plan_line plan) result out.new }
+#[tactic(auto, using(base::proofs::Writing::writing), unfolding(crate::specs::Words::plan_line))]
+fn write_plan(out: &mut Writer<'_, u8>, plan: ClockConfig)
+    ensures { Puts out.old (plan_line plan) out.new }
 {
-    let at = text::put_bytes(out, at, b"plan");
-    let at = put_numbers(out, at, plan);
-    text::put_byte(out, at, b'\n')
+    out.put_all(b"plan");
+    write_numbers(out, plan);
+    out.put(b'\n');
 }
 
 // A plan at a reading in words.
-fn put_words(out: &mut [u8], at: usize, plan: ClockConfig, reading: u8) -> usize
-    ensures { Placed out.old at (words_of plan reading) result out.new }
+#[tactic(auto, using(base::proofs::Writing::writing), unfolding(crate::specs::Words::words_of))]
+fn write_words(out: &mut Writer<'_, u8>, plan: ClockConfig, reading: u8)
+    ensures { Puts out.old (words_of plan reading) out.new }
 {
-    let at = put_settings(out, at, plan, reading);
-    let at = put_left_out(out, at, settings::settings_of(plan, reading));
-    put_plan(out, at, plan)
+    write_settings(out, plan, reading);
+    write_left_out(out, settings::settings_of(plan, reading));
+    write_plan(out, plan);
 }
 
-// Puts a refusal's number on a line, and on the next its meaning after the name of what is refused.
-pub fn put_refused(out: &mut [u8], at: usize, what: &[u8], number: u8) -> usize
-    ensures { Placed out.old at (refused_lines what.now number) result out.new }
+// Writes a refusal's number on a line, and on the next its meaning after the name of what is refused.
+#[tactic(auto, using(base::proofs::Writing::writing), unfolding(crate::specs::Words::refused_lines))]
+pub fn write_refused(out: &mut Writer<'_, u8>, what: &[u8], number: u8)
+    ensures { Puts out.old (refused_lines what.now number) out.new }
 {
-    let at = text::put_bytes(out, at, b"refused ");
-    let at = text::put_decimal(out, at, number as u64);
-    let at = text::put_byte(out, at, b'\n');
-    let at = text::put_bytes(out, at, what);
-    let at = meanings::put_refusal(out, at, number);
-    text::put_byte(out, at, b'\n')
+    out.put_all(b"refused ");
+    text::write_decimal(out, u64::from(number));
+    out.put(b'\n');
+    out.put_all(what);
+    meanings::write_refusal(out, number);
+    out.put(b'\n');
 }
 
-// Puts the sheet that was written at a reading in words, or its refusal, 18 or 26, with its meaning.
-pub fn explain(out: &mut [u8], at: usize, reading: u8, sheet: &[u8]) -> usize
-    ensures { Placed out.old at (explain_text reading sheet.now) result out.new }
+// Writes the sheet that was written at a reading in words, or its refusal, 18 or 26, with its meaning.
+#[tactic(auto, unfolding(crate::specs::Words::explain_text))]
+pub fn write_explanation(out: &mut Writer<'_, u8>, reading: u8, sheet: &[u8])
+    ensures { Puts out.old (explain_text reading sheet.now) out.new }
 {
     match readback::read_sheet(sheet, reading) {
-        Planned::Plan(plan) => put_words(out, at, plan, reading),
-        Planned::Refused(number) => put_refused(out, at, b"", number),
+        Ok(plan) => write_words(out, plan, reading),
+        Err(why) => write_refused(out, b"", u8::from(why)),
     }
 }

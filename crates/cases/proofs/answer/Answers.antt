@@ -1,11 +1,8 @@
--- `cases::answer` meets its contract: the table's text unfolds to the rows, and `answered` says that the row found for the line's
--- first word, with its letters, gives the answer that `put_line` writes.
-use mathlib.Core.Path.{refl}
-use Rattle.cases.specs.Cases.{rows}
-use Rattle.cases.proofs.{Rows.answered}
+-- `cases::answer` meets its contract: what a new writer was given stands at the start of the buffer, by `finished`.
+use Rattle.std.proofs.Common.{rules}
+use Rattle.base.proofs.Writing.{finished}
 use Rattle.cases.proofs.answer.Goals as goal
 
 pub returns : goal.returns
-unfolding rows
-returns c = rw (answered _ c.args.line.now refl c.index_from-at.ensures.equal c.find-row.ensures c.letters-letters.ensures) at
-    c.put_line.ensures
+returns c = let p = finished c.new-out.result c.write_answer.new.out _ c.new-out.ensures c.write_answer.ensures.puts in
+    record { placed = search rules; short = c.write_answer.ensures.short }

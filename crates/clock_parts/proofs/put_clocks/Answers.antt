@@ -7,8 +7,8 @@ use Rattle.clock_parts.proofs.put_clocks.Goals as goal
 pub returns : goal.returns
 unfolding clocks_part
 returns c = rw (
-  c.add1.ensures,
-  c.add1-at.ensures,
+  c.add.ensures,
+  c.add-at.ensures,
   c.put_rtc-at.ensures,
   c.put_aux-at-2.ensures,
   c.put_aux-at.ensures,
@@ -16,5 +16,7 @@ returns c = rw (
   c.put_sys-at.ensures,
   c.put_ref-at.ensures,
   c.put_sources-at.ensures,
+  c.from-usb.ensures,
+  c.from-adc.ensures,
   c.release_mask-mask.ensures,
 ) (simp pushes-append)

@@ -1,17 +1,10 @@
--- What is held and the buffer of answers, fed with the rest of the piece, are what the whole piece gives. Measure: what is left of
--- the piece.
+-- What is held and the buffer of answers, fed with the rest of the piece, are what the whole piece gives.
 use mathlib.Core.Path.{◌≡◌}
-use Prim.Native.Nat.{◌-◌, ◌≤◌}
 use lib.{ListN.length, ListN.drop}
-use Rattle.lines.specs.Lines.{held_of, feeds, feeds_out}
+use Rattle.lines.specs.Lines.{feeds, feeds_out}
 use Rattle.lines.proofs.take_piece.Given as goal
 
-abbrev pub invariant-loop-at : goal.invariant-loop-at
-invariant-loop-at g l =
-    (l.at ≤ length l.piece) × (length l.out ≡ length l.initial.out)
-    × (feeds (held_of l.held l.len) (drop l.at l.piece) ≡ feeds (held_of l.initial.held l.initial.len) l.piece)
-    × (feeds_out (held_of l.held l.len) l.out (drop l.at l.piece)
-    ≡ feeds_out (held_of l.initial.held l.initial.len) l.initial.out l.piece)
-
-abbrev pub decreases-loop-at : goal.decreases-loop-at
-decreases-loop-at g l = length l.piece - l.at
+abbrev pub invariant-loop-b : goal.invariant-loop-b
+invariant-loop-b g l =
+    (length l.out ≡ length l.initial.out) × (feeds l.held (drop l.b-index l.piece) ≡ feeds l.initial.held l.piece)
+    × (feeds_out l.held l.out (drop l.b-index l.piece) ≡ feeds_out l.initial.held l.initial.out l.piece)

@@ -1,29 +1,41 @@
 -- `lister::put_feedback` meets its contract: a target of 0, or one that does not divide the VCO frequency, has no
 -- setting (`none-put`); else the settings are those whose post product is the quotient (`product-meets`).
-use mathlib.Core.Path.{sym}
-use Prim.Native.Nat.{◌*◌}
-use native.Mathlib.{Omega.arith, Nat.mul-mod_right, Nat.div-le_self}
+use mathlib.Core.{Path.◌≡◌, Path.sym, Path.◌∙◌, Bool.true, Bool.false}
+use Prim.Native.Nat.{ℕ, zero, suc, ◌*◌, ◌%◌, ◌<◌}
+use native.Mathlib.{Omega.arith, Nat.mul-mod_right}
+use lib.Dec.{eqb}
+use borrow.Author.Tests.{eqb-true, eq-eqb}
+use Rattle.std.specs.Prelude.{Option, Some, None}
+use Rattle.std.specs.Option.{SomeIff, option_eq}
 use Rattle.lister.proofs.{Hits.none-put, Hits.product-meets}
 use Rattle.lister.proofs.put_feedback.Goals as goal
 
-pub returns-then-target_hz-eq0-clause-wrote : goal.returns-then-target_hz-eq0-clause-wrote
-returns-then-target_hz-eq0-clause-wrote c = let args = c.args in
+-- what the comparison of the remainder with 0 tells
+whole : (rest : Option ℕ) (target vco : ℕ) → SomeIff rest (0 < target) (vco % target)
+    → option_eq eqb rest (Some 0) ≡ true → (0 < target) × (vco % target ≡ 0)
+whole (Some r) target vco is e = (is.0, sym is.1 ∙ eqb-true r 0 e)
+whole None target vco is e = cc
+
+remains : (rest : Option ℕ) (target vco : ℕ) → SomeIff rest (0 < target) (vco % target)
+    → option_eq eqb rest (Some 0) ≡ false → 0 < target → vco % target ≡ 0 → ⊥
+remains (Some r) target vco is other some e = let z = eq-eqb r 0 (is.1 ∙ e) in cc
+remains None target vco is other some e = is some
+
+positive : (target p : ℕ) → 0 < target * p → 0 < target
+positive zero p h = omega arith
+positive (suc n) p h = omega arith
+
+pub returns-then-eq-clause-wrote : goal.returns-then-eq-clause-wrote
+returns-then-eq-clause-wrote c =
+    let args = c.args in
+    let w = whole _ args.target_hz (args.input_hz * args.fbdiv) c.checked_rem.ensures (sym c.eq.ensures ∙ c.if-eq.true) in
+    rw (product-meets args.input_hz args.target_hz args.fbdiv c.requires.1 c.requires.2 w.0 w.1)
+    c.put_posts.ensures.wrote
+
+pub returns-else-eq-clause-wrote : goal.returns-else-eq-clause-wrote
+returns-else-eq-clause-wrote c =
+    let args = c.args in
+    let other = remains _ args.target_hz (args.input_hz * args.fbdiv) c.checked_rem.ensures
+    (sym c.eq.ensures ∙ c.if-eq.false) in
     (none-put args.input_hz args.target_hz args.fbdiv args.buf.now args.at
-    (λ p some e. let z = rw c.if-target_hz-eq0.true at e in omega arith)).0
-
-pub returns-then-vco-target_hz-ne0-clause-wrote : goal.returns-then-vco-target_hz-ne0-clause-wrote
-returns-then-vco-target_hz-ne0-clause-wrote c = let args = c.args in
-    (none-put args.input_hz args.target_hz args.fbdiv args.buf.now args.at (λ p some e. c.if-vco-target_hz-ne0.true
-    (rw (sym e) (mul-mod_right args.target_hz p)))).0
-
-pub overflow_cast-vco : goal.overflow_cast-vco
-overflow_cast-vco c = let args = c.args in
-    omega (arith, div-le_self (args.input_hz * args.fbdiv) args.target_hz)
-
-pub returns : goal.returns
-returns c = let args = c.args in record {
-  wrote = rw (product-meets args.input_hz args.target_hz args.fbdiv c.requires.1 c.requires.2
-      (omega arith) (omega arith))
-      c.put_posts.ensures.wrote;
-  upper_bound = c.put_posts.ensures.upper_bound;
-}
+    (λ p some e. other (positive args.target_hz p (rw e some)) (rw (sym e) (mul-mod_right args.target_hz p)))).0

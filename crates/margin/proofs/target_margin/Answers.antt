@@ -1,29 +1,82 @@
--- `margin::target_margin` meets its contract: the numbers next to the lowest and the highest target with the setting
--- are the two sides.
-use mathlib.Core.Path.{sym, ap, ◌∙◌}
-use borrow.Author.Rules.{rules}
-use Rattle.pll.specs.Search.{found_is}
-use Rattle.margin.specs.Margin.{limit_is}
-use Rattle.margin.proofs.{Right.right-is-margin, Sides.lower-side, Sides.higher-side, Sides.refused-15}
+-- `margin::target_margin` meets its contract: the first target with the setting has the lower side below it, and the first
+-- without it above the target is the higher side.
+use mathlib.Core.{Path.◌≡◌, Path.sym, Path.subst, Path.◌∙◌, Logic.⊎_elim, Bool.true, Bool.false}
+use Prim.Native.Nat.{ℕ, zero, suc, ◌+◌, ◌-◌, ◌≤◌, ◌<◌}
+use native.Mathlib.{Omega.arith, Nat.eq-or-lt_of_le}
+use Rattle.std.proofs.lemmas.Result.{err_from_is_err_and}
+use Rattle.std.specs.Prelude.{Option, Some, None, Result, Ok, Err}
+use Rattle.std.specs.{Option.SomeIff, Result.OkIff, Result.result_ok}
+use Rattle.pll.specs.declared.PllConfig.{PllConfig}
+use Rattle.near.proofs.Near.{search-between}
+use Rattle.margin.specs.Law.{RightLower, RightHigher}
+use Rattle.margin.specs.Walk.{Has, First}
+use Rattle.margin.proofs.{Right.right-is-margin, Sides.refused-15}
 use Rattle.margin.proofs.target_margin.Goals as goal
 
-pub lowest_with-low-requires : goal.lowest_with-low-requires
-lowest_with-low-requires c = sym c.find_pll_params.ensures ∙ ap found_is c.in-Params.is
+module _ (input target : ℕ) (c : PllConfig) (has : Has input c target) where
+  -- from the first target with the setting on all up to the target have it
+  has-from : (first t : ℕ) → First input c false 0 target first → first ≤ t → t ≤ target → Has input c t
+  has-from first t f a b = ⊎_elim
+      (λ e. let same : t ≡ target = omega arith in rw same has)
+      (λ inside. search-between input first t target c a b (f.here inside) has)
+      (eq-or-lt_of_le f.to)
 
-pub highest_with-high-requires : goal.highest_with-high-requires
-highest_with-high-requires c = sym c.find_pll_params.ensures ∙ ap found_is
-    c.in-Params.is
+  lower-side : (lower : Option ℕ) (first : ℕ) → First input c false 0 target first → SomeIff lower (1 ≤ first) (first - 1)
+      → RightLower input target lower
+  lower-side (Some l) first f is =
+      let to = f.to in (
+        omega (arith, is.0, is.1),
+        λ d. f.before l (omega arith) (omega (arith, is.0, is.1)) (d ∙ has),
+        λ t a b. has-from first t f (omega (arith, is.1)) b ∙ sym has,
+      )
+  lower-side None first f none = λ t b. has-from first t f (zero-unless first t none) b ∙ sym has
+    where
+      zero-unless : (first t : ℕ) → (1 ≤ first → ⊥) → first ≤ t
+      zero-unless zero t n = omega arith
+      zero-unless (suc k) t n = absurd (n (omega arith))
 
-pub returns-in-Params : goal.returns-in-Params
-returns-in-Params c = let s = sym c.find_pll_params.ensures ∙ ap found_is c.in-Params.is in
-    right-is-margin _ _ (search rules) _ (
-      (_, s),
-      lower-side _ _ _ _ (limit_is c.next_below.result) s c.lowest_with-low.ensures
-          c.next_below.ensures,
-      higher-side _ _ _ _ (limit_is c.next_above.result) s c.highest_with-high.ensures
-          c.next_above.ensures,
+  has-to : (first t : ℕ) → First input c true (target + 1) 4294967296 first → target ≤ t → t < first → Has input c t
+  has-to first t f a b = ⊎_elim (λ e. subst (Has input c) e has) (λ above. f.before t (omega arith) b) (eq-or-lt_of_le a)
+
+  higher-side : (higher : Option ℕ) (first : ℕ) → First input c true (target + 1) 4294967296 first
+      → SomeIff higher (first < 4294967296) first → RightHigher input target higher
+  higher-side (Some h) first f is =
+      let above = f.from in (
+        omega (arith, is.1),
+        omega (arith, is.0, is.1),
+        λ d. f.here is.0 (rw (sym is.1) (d ∙ has)),
+        λ t a b. has-to first t f a (omega (arith, is.1)) ∙ sym has,
+      )
+  higher-side None first f none = λ t a b. has-to first t f a (past first t none b) ∙ sym has
+    where
+      past : (first t : ℕ) → (first < 4294967296 → ⊥) → t < 4294967296 → t < first
+      past first t n b = omega arith
+
+-- what `ok` leaves of a conversion
+converted : {E : Type 0} (r : Result ℕ E) (Fits : Type 0) (n : ℕ) → OkIff r Fits n → SomeIff (result_ok r) Fits n
+converted (Ok x) Fits n is = is
+converted (Err e) Fits n is = is
+
+pub returns-in_err-c : goal.returns-in_err-c
+returns-in_err-c c =
+    let p = err_from_is_err_and c.from_residual.result c.from_residual.ensures.1 in
+    rw (p.1, p.2) (right-is-margin _ _ (omega arith) _ (refused-15 _ _ _ (sym c.in_err-c.ensures)))
+
+pub first_other-lowest-requires-clause-turns : goal.first_other-lowest-requires-clause-turns
+first_other-lowest-requires-clause-turns c t u a b below none has =
+    none (search-between _ t u _ _ b (omega arith) has (sym c.in_ok-c.ensures))
+
+pub first_other-higher-requires-clause-turns : goal.first_other-higher-requires-clause-turns
+first_other-higher-requires-clause-turns c t u a b below has =
+    search-between _ c.args.target_hz t u _ (omega arith) b (sym c.in_ok-c.ensures) has
+
+pub returns : goal.returns
+returns c =
+    let has = sym c.in_ok-c.ensures in
+    let higher = converted c.try_from.result _ _ c.try_from.ensures in
+    right-is-margin _ _ (omega arith) _ (
+      (_, has),
+      lower-side _ _ _ has _ _ (rw c.from-target.ensures at c.first_other-lowest.ensures) c.checked_sub.ensures,
+      higher-side _ _ _ has _ _ (rw c.from-target.ensures at c.first_other-higher.ensures)
+          (rw (sym c.ok.ensures.value) at higher),
     )
-
-pub returns-in-Refused : goal.returns-in-Refused
-returns-in-Refused c = right-is-margin _ _ (search rules) _ (refused-15 _ _ _ (sym
-    c.find_pll_params.ensures ∙ ap found_is c.in-Refused.is))

@@ -8,18 +8,18 @@ use Rattle.readback.proofs.gives.Goals as goal
 
 pub slice_bounds-written-end : goal.slice_bounds-written-end
 unfolding gives
-slice_bounds-written-end c = let k = kept c.init.ensures _ c.in-Bytes.is in k.inside
+slice_bounds-written-end c = let k = kept c.init.ensures _ c.in-Ok.is in k.inside
 
-pub slice_bounds-is_sheet-end : goal.slice_bounds-is_sheet-end
+pub slice_bounds-eq-end : goal.slice_bounds-eq-end
 unfolding gives
-slice_bounds-is_sheet-end c = let k = kept c.init.ensures _ c.in-Bytes.is in
+slice_bounds-eq-end c = let k = kept c.init.ensures _ c.in-Ok.is in
     k.whole
 
-pub returns-in-Bytes : goal.returns-in-Bytes
+pub returns-in-Ok : goal.returns-in-Ok
 unfolding gives
-returns-in-Bytes c = let k = kept c.init.ensures _ c.in-Bytes.is in
-    rw (c.is_sheet.ensures, k.bytes, eq-eqb _ _ k.accepted)
+returns-in-Ok c = let k = kept c.init.ensures _ c.in-Ok.is in
+    rw (c.eq.ensures, k.bytes, eq-eqb _ _ k.accepted)
 
-pub returns-in-Refused : goal.returns-in-Refused
+pub returns-in-Err : goal.returns-in-Err
 unfolding gives
-returns-in-Refused c = rw (ne_eqb _ _ (turned-back c.init.ensures refl _ c.in-Refused.is))
+returns-in-Err c = rw (ne_eqb _ _ (turned-back c.init.ensures refl _ c.in-Err.is))

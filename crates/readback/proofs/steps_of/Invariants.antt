@@ -1,10 +1,7 @@
--- After each iteration the held steps are the first steps of the sheet, and the reader is at the position after them.
-use Rattle.std.proofs.Common.{◌≡◌, ◌-◌}
+-- The steps so far are the first steps of the sheet, and the reader is at the position after them.
+use Rattle.std.specs.Iterator.Adapters.{take_source, take_count}
 use Rattle.readback.proofs.Gathered.{Onward}
 use Rattle.readback.proofs.steps_of.Given as goal
 
-abbrev pub invariant-loop-s : goal.invariant-loop-s
-invariant-loop-s l = Onward l.sheet l.s × (l.r.at ≡ l.s.count) × (l.r.sheet.now ≡ l.sheet)
-
-abbrev pub decreases-loop-s : goal.decreases-loop-s
-decreases-loop-s l = l.count - l.s.count
+abbrev pub invariant-loop-step : goal.invariant-loop-step
+invariant-loop-step l = Onward l.sheet l.steps (take_source l.step-iterator) (take_count l.step-iterator)

@@ -10,8 +10,8 @@ pub returns-in-Some : goal.returns-in-Some
 unfolding sources_of sys_pll_invalid usb_pll_invalid
 returns-in-Some c = let known = c.in-Some.is in
     λ ring e. rw known (
-      c.pll_invalid-sys.ensures _ (ap (λ (f : Sources). f.pll_sys) (rw known at e)),
-      c.pll_invalid-usb.ensures _ (ap (λ (f : Sources). f.pll_usb) (rw known at e)),
+      c.pll_invalid.ensures _ (ap (λ (f : Sources). f.pll_sys) (rw known at e)),
+      c.pll_invalid-in-Some.ensures _ (ap (λ (f : Sources). f.pll_usb) (rw known at e)),
     )
 
 pub returns-in-None : goal.returns-in-None

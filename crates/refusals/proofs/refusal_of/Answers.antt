@@ -1,4 +1,4 @@
--- `refusals::refusal_of` meets its contract: each call of `number_when` is a row of the list of tests, the last first.
+-- `refusals::refusal_of` meets its contract: each call of `refused_if` is a row of the list of tests, the last first.
 use mathlib.Core.{Path.◌≡◌, Path.refl, Path.ap, Path.◌∙◌, Bool.Bool}
 use Prim.Native.Nat.{ℕ}
 use lib.Dec.{eqb, ltb}
@@ -22,14 +22,14 @@ returns c e = let facts = c.facts-on.ensures in
     let part = ap (λ (on : Facts). whole_bad on.top_whole args.s.board.whole) facts in
     let silent : eqb args.f.sys 0 ≡ eqb args.f.sys 0 = refl in
     let sources = ap (λ (f : Frequencies). f.sources) e in
-    row 18 c.number_when.ensures over (row 1 c.number_when-n-14.ensures c.strengths_over-strengths.ensures
-    (row 2 c.number_when-n-13.ensures (c.ring_divider_over-ring_divider.ensures ∙ divided) (row 3
-    c.number_when-n-12.ensures c.settling_over-settling.ensures (row 4 c.number_when-n-11.ensures
-    c.startup_over-startup.ensures (row 5 c.number_when-n-10.ensures (c.plls_invalid-plls.ensures _ sources).0
-    (row 6 c.number_when-n-9.ensures (c.plls_invalid-plls.ensures _ sources).1 (row 7
-    c.number_when-n-8.ensures c.divider_bad-divider.ensures (row 8 c.number_when-n-7.ensures
-    c.reference_bad-reference.ensures (row 9 c.number_when-n-6.ensures (c.whole_bad-whole.ensures ∙ part) (row
-    10 c.number_when-n-5.ensures silent (row 11 c.number_when-n-4.ensures c.peri_bad-peri.ensures (row 12
-    c.number_when-n-3.ensures c.aux_bad-usb.ensures (row 13 c.number_when-n-2.ensures
-    c.aux_bad-adc.ensures (row 14 c.number_when-n.ensures c.rtc_bad-rtc.ensures refl)))))))))))))) ∙ ap
+    row 18 c.refused_if.ensures over (row 1 c.refused_if-n-14.ensures c.strengths_over-strengths.ensures
+    (row 2 c.refused_if-n-13.ensures (c.ring_divider_over-ring_divider.ensures ∙ divided) (row 3
+    c.refused_if-n-12.ensures c.settling_over-settling.ensures (row 4 c.refused_if-n-11.ensures
+    c.startup_over-startup.ensures (row 5 c.refused_if-n-10.ensures (c.plls_invalid-sys_pll.ensures _ sources).0
+    (row 6 c.refused_if-n-9.ensures (c.plls_invalid-sys_pll.ensures _ sources).1 (row 7
+    c.refused_if-n-8.ensures c.divider_bad-divider.ensures (row 8 c.refused_if-n-7.ensures
+    c.reference_bad-reference.ensures (row 9 c.refused_if-n-6.ensures (c.whole_bad-whole.ensures ∙ part) (row
+    10 c.refused_if-n-5.ensures silent (row 11 c.refused_if-n-4.ensures c.peri_bad-peri.ensures (row 12
+    c.refused_if-n-3.ensures c.aux_bad-usb.ensures (row 13 c.refused_if-n-2.ensures
+    c.aux_bad-adc.ensures (row 14 c.refused_if-n.ensures c.rtc_bad-rtc.ensures refl)))))))))))))) ∙ ap
     (λ (f : Frequencies). first (tests_of args.s f args.reading)) e

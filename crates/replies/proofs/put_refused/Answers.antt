@@ -3,5 +3,4 @@ use Rattle.base.proofs.Placing.{placed-append}
 use Rattle.replies.proofs.put_refused.Goals as goal
 
 pub returns : goal.returns
-returns c = placed-append c.put_bytes-end.ensures
-    c.put_decimal.ensures
+returns c = rw (← c.from.ensures) (placed-append c.put_all-end.ensures c.put_decimal.ensures)

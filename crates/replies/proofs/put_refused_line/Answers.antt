@@ -3,4 +3,4 @@ use Rattle.base.proofs.Placing.{placed-append}
 use Rattle.replies.proofs.put_refused_line.Goals as goal
 
 pub returns : goal.returns
-returns c = placed-append c.put_refused-end.ensures c.put_byte.ensures
+returns c = rw (← c.from.ensures) (placed-append c.put_refused-end.ensures c.put.ensures)

@@ -1,19 +1,14 @@
--- `replies::put_spaced` meets its contract: the invariant `Parts` says that the first i numbers are placed, each after a space,
--- and `spaced-step` appends the one that `put_next` places. Measure: the numbers left.
-use mathlib.Core.Path.{refl}
+-- `replies::put_spaced` meets its contract: `spaced-step` appends a space and the number, whose value `into` keeps.
+use mathlib.Core.Path.{◌≡◌}
 use native.Mathlib.Omega.{arith}
-use borrow.Author.Rules.{rules}
-use Rattle.base.proofs.Parts.{parts_none, parts_next, parts-of}
-use Rattle.replies.specs.Reply.{spaced}
-use Rattle.replies.proofs.{Spaced.spaced-step}
+use Rattle.base.proofs.Placing.{placed-append}
+use Rattle.replies.proofs.Spaced.{spaced-step}
 use Rattle.replies.proofs.put_spaced.Goals as goal
 
-pub loop-i-init : goal.loop-i-init
-loop-i-init c = parts_none refl (search rules)
-
-pub loop-i-preserved : goal.loop-i-preserved
-loop-i-preserved c = parts_next c.loop-i.invariant c.put_next-end.ensures (omega arith)
-    (spaced-step _ _)
-
-pub returns : goal.returns
-returns c = parts-of spaced _ c.loop-i.invariant c.loop-i-test.false
+pub loop-n-preserved : goal.loop-n-preserved
+loop-n-preserved g c =
+    let n = c.n-item.result in
+    let number = g.T.Number.number in
+    let value : c.into.result ≡ number n = g.met.T.Number.widens n c.into.result c.into.ensures in
+    rw (spaced-step number c.args.ns.now c.loop-n.n-index n (omega arith), ← c.n-item.is, ← value)
+    (placed-append c.loop-n.invariant (placed-append c.put-end.ensures c.put_decimal-end.ensures))

@@ -1,13 +1,8 @@
--- `replies::put_spaced` meets its contract: the invariant `Parts` says that the first i numbers are placed, each after a space,
--- and `spaced-step` appends the one that `put_next` places. Measure: the numbers left.
-use Prim.Native.Nat.{◌-◌}
-use lib.ListN.{length, take}
-use Rattle.base.proofs.Parts.{Parts}
-use Rattle.replies.specs.Reply.{spaced}
+-- `replies::put_spaced` meets its contract: the numbers so far are placed.
+use lib.ListN.{take}
+use Rattle.base.specs.Placed.{Placed}
+use Rattle.replies.specs.Reply.{spaced_by}
 use Rattle.replies.proofs.put_spaced.Given as goal
 
-abbrev pub invariant-loop-i : goal.invariant-loop-i
-invariant-loop-i l = Parts (λ k. spaced (take k l.ns)) (length l.ns) l.initial.out l.at l.i l.end l.out
-
-abbrev pub decreases-loop-i : goal.decreases-loop-i
-decreases-loop-i l = length l.ns - l.i
+abbrev pub invariant-loop-n : goal.invariant-loop-n
+invariant-loop-n g l = Placed l.initial.out l.at (spaced_by g.T.Number.number (take l.n-index l.ns)) l.end l.out

@@ -12,5 +12,5 @@ returns c known = rw (
   c.put_voltage-at.ensures,
   c.put_ring-at.ensures,
   c.put_start-at.ensures,
-  c.facts-k.ensures,
+  c.facts.ensures,
 ) (simp pushes-append)

@@ -1,12 +1,14 @@
--- `speed_book::first_from` meets its contract: the loop keeps that the remaining halvings of `low` and `high` give
--- the result.
-use mathlib.Core.Path.{◌≡◌}
-use Prim.Native.Nat.{◌≤◌}
-use Rattle.speed_book.specs.Lookup.{halved, first_from}
+-- The loop keeps that halvings enough for what is left between `low` and `high` give the result.
+use Prim.Native.Nat.{ℕ, ◌-◌, ◌≤◌}
+use Rattle.speed_book.specs.Lookup.{first_from}
+use Rattle.speed_book.proofs.Halving.{Halves}
 use Rattle.speed_book.proofs.first_from.Given as goal
 
-abbrev pub invariant-loop-halvings : goal.invariant-loop-halvings
-invariant-loop-halvings l = (l.high ≤ 1988) × (first_from l.book l.bound ≡ halved l.book l.bound l.halvings l.low l.high)
+abbrev pub invariant-loop-low : goal.invariant-loop-low
+invariant-loop-low l = record {
+  within : l.high ≤ 1988;
+  left : (n : ℕ) × Halves l.book l.bound l.low l.high n (first_from l.book l.bound);
+}
 
-abbrev pub decreases-loop-halvings : goal.decreases-loop-halvings
-decreases-loop-halvings l = l.halvings
+abbrev pub decreases-loop-low : goal.decreases-loop-low
+decreases-loop-low l = l.high - l.low

@@ -12,6 +12,7 @@ returns c = rw (
   c.entry_at-lower.ensures,
   c.first_from-below.ensures,
   c.entry_at-before.ensures,
-  c.less.ensures,
+  c.saturating_sub.ensures,
   c.first_from-above.ensures,
+  c.from.ensures,
 )

@@ -1,29 +1,21 @@
--- `text::are_pairs` meets its contract: the invariant says that the bytes from i on are pairs just where all of s is, `pair_step`
--- unfolds two bytes more, and `pair-last` rejects a single byte at the end. Measure: what is left of s.
-use mathlib.Core.Path.{refl, sym, ap, ◌∙◌}
-use native.Mathlib.Omega.{arith}
-use lib.ListN.{drop_of_length-le}
-use Rattle.text.specs.Hex.{are_pairs}
-use Rattle.text.proofs.{Hexes.pair_step, Hexes.pair-last}
+-- `text::are_pairs` meets its contract: an even length with hex digits alone makes pairs, and an odd length none.
+use mathlib.Core.{Path.◌≡◌, Path.◌∙◌, Path.sym, Bool.false}
+use Prim.Native.Nat.{◌%◌}
+use lib.{Dec.eqb, ListN.length}
+use borrow.Author.{Rules.rules, Tests.tests}
+use Rattle.std.specs.Char.{is_ascii_hexdigit}
+use Rattle.std.proofs.lemmas.Iterator.{YieldsList-from_slice}
+use Rattle.std.proofs.lemmas.Iterator.Search.{all_from_yields_List}
+use Rattle.text.proofs.Hexes.{pairs-even, pairs-odd}
 use Rattle.text.proofs.are_pairs.Goals as goal
 
-pub loop-i-init : goal.loop-i-init
-loop-i-init c = (omega arith, refl)
+pub returns-then-s-eq0 : goal.returns-then-s-eq0
+returns-then-s-eq0 c =
+    let s = c.args.s.now in
+    all_from_yields_List is_ascii_hexdigit _ _ _ c.all.ensures.ran (YieldsList-from_slice s cc) (λ x t q k. search (rules, tests))
+    ∙ pairs-even s c.if-s-eq0.true
 
-pub returns-then-s-next : goal.returns-then-s-next
-returns-then-s-next c = let s = c.args.s.now in sym (sym
-    c.loop-i.invariant.1 ∙ pair-last s c.loop-i.i (omega arith) (omega arith))
-
-pub returns-then-not-is_pair : goal.returns-then-not-is_pair
-returns-then-not-is_pair c = let s = c.args.s.now in let no = sym c.is_pair.ensures ∙ c.if-not-is_pair.true in sym (sym c.loop-i.invariant.1 ∙ ap are_pairs (pair_step s c.loop-i.i
-    (omega arith)) ∙ rw no)
-
-pub loop-i-preserved : goal.loop-i-preserved
-loop-i-preserved c = let s = c.args.s.now in
-    let yes = sym c.is_pair.ensures ∙ c.if-not-is_pair.false in
-    let step = ap are_pairs (pair_step s c.loop-i.i (omega arith)) in
-    (omega arith, rw yes at (sym step) ∙ c.loop-i.invariant.1)
-
-pub returns : goal.returns
-returns c = rw (drop_of_length-le c.args.s.now
-    c.loop-i-test.false) at c.loop-i.invariant.1
+pub returns-else-s-eq0 : goal.returns-else-s-eq0
+returns-else-s-eq0 c =
+    let odd : eqb (length c.args.s.now % 2) 0 ≡ false = search rules in
+    odd ∙ sym (pairs-odd c.args.s.now c.if-s-eq0.false)

@@ -8,23 +8,22 @@ use Rattle.trial.proofs.Targets.{draw-next}
 use Rattle.trial.proofs.{Trials.begins, Trials.runner-next}
 use Rattle.trial.proofs.run.Goals as goal
 
-pub loop-i-init : goal.loop-i-init
+pub loop-init : goal.loop-init
 unfolding drawn runner_after
-loop-i-init c = let pre = c.requires in
-    (search rules, refl, begins _ _ c.restarted-opened.result pre c.restarted-opened.ensures)
+loop-init c = let pre = c.requires in
+    (refl, begins _ _ c.start-opened.result c.start-opened.new.self pre c.start-opened.ensures)
 
-pub loop-i-preserved : goal.loop-i-preserved
+pub loop-preserved : goal.loop-preserved
 unfolding drawn runner_after
-loop-i-preserved c = let args = c.args in
-    let drew = draw-next args.seed c.loop-i.i c.loop-i.invariant.1 c.draw-x.ensures in (
-      omega arith,
+loop-preserved c = let args = c.args in
+    let drew = draw-next args.seed c.loop.counter c.loop.invariant.0 c.draw-x.ensures in (
       drew,
-      runner-next args.seed c.loop-i.i args.sheet.now c.advance-stepped.result drew c.loop-i.invariant.2
-          c.top_bit.ensures c.advance-stepped.ensures,
+      runner-next args.seed c.loop.counter args.sheet.now c.poll-reply.result c.poll-reply.new.self drew c.loop.invariant.1
+          c.top_bit.ensures c.poll-reply.ensures,
     )
 
 pub returns : goal.returns
 unfolding drawn runner_after
 returns c = let args = c.args in
-    let all : c.loop-i.i ≡ args.count = omega arith in c.loop-i.invariant.2 ∙ ap
+    let all : c.loop.counter ≡ args.count = omega arith in c.loop.invariant.1 ∙ ap
     (runner_after args.sheet.now (flags args.seed)) all

@@ -1,9 +1,11 @@
--- `numbers::plan_row::put_plan` meets its contract: `placed-append` joins the rows of oscillators, clocks and RTC.
-use Rattle.base.proofs.Placing.{placed-append}
-use Rattle.numbers.specs.Row.{plan_row}
+-- `numbers::plan_row::put_plan` meets its contract: what the new writer puts stands at the start of the row.
+use mathlib.Core.Path.{sym}
+use Rattle.std.proofs.Common.{rules}
+use Rattle.base.proofs.Writing.{finished}
 use Rattle.numbers.proofs.plan_row.put_plan.Goals as goal
 
 pub returns : goal.returns
-unfolding plan_row
-returns c = placed-append c.put_oscillators-at.ensures (placed-append
-    c.put_clocks-at.ensures c.put_rtc.ensures)
+returns c =
+    let f = finished c.new-out.result c.put_parts.new.row _ c.new-out.ensures c.put_parts.ensures in
+    let same = sym f.name in
+    record { index = f.placed.index; bytes = search (rules, same, f.placed.bytes) }

@@ -1,29 +1,17 @@
--- `pll::feedback::lowest` meets its contract: the test decides whether any divider is permitted; where one is, the
--- lowest is 16 (`lowest-at-least`) or 750 MHz over the input, rounded up (`lowest-above`).
-use mathlib.Core.Path.{sym}
-use Prim.Native.Nat.{◌-◌}
-use native.Mathlib.{Omega.arith, Nat.div-le_self}
-use Rattle.pll.specs.Ranges.{vco_min}
-use Rattle.pll.proofs.Ends.{test-served, test-unserved, lowest-none, lowest-at-least, lowest-above}
+-- `pll::feedback::lowest` meets its contract: `served` decides whether any divider is permitted; where one is, the
+-- lowest is 750 MHz over the input, rounded up, but at least 16 (`lowest-value`).
+use mathlib.Core.Path.{refl, sym}
+use Rattle.std.proofs.lemmas.Result.{err_from_is_err_and}
+use Rattle.pll.proofs.Ends.{lowest-none, lowest-value}
 use Rattle.pll.proofs.feedback.lowest.Goals as goal
 
-pub nonzero_div-fbdiv : goal.nonzero_div-fbdiv
-nonzero_div-fbdiv c = omega (
-  arith,
-  test-served c.args.input_hz
-      c.served.result c.served.ensures c.if-served.true,
-)
+pub returns-in_err-served : goal.returns-in_err-served
+returns-in_err-served c =
+    let p = err_from_is_err_and c.from_residual.result c.from_residual.ensures.1 in
+    let why = c.in_err-served.ensures in
+    rw (p.1, p.2, why.err) (sym (lowest-none _ (λ s. let off = why.ok.1 s in cc)))
 
-pub overflow_add-fbdiv : goal.overflow_add-fbdiv
-overflow_add-fbdiv c = omega (arith, div-le_self (vco_min - 1) c.args.input_hz)
-
-pub returns-then-fbdiv : goal.returns-then-fbdiv
-returns-then-fbdiv c = sym (lowest-at-least _ (test-served _ _ c.served.ensures
-    c.if-served.true) (omega arith))
-
-pub returns-else-fbdiv : goal.returns-else-fbdiv
-returns-else-fbdiv c = sym (lowest-above _ (test-served _ _ c.served.ensures
-    c.if-served.true) (omega arith))
-
-pub returns-else-served : goal.returns-else-served
-returns-else-served c = sym (lowest-none _ (test-unserved _ _ c.served.ensures c.if-served.false))
+pub returns : goal.returns
+returns c =
+    rw (c.max.ensures, c.div_ceil.ensures, c.from.ensures)
+    (sym (lowest-value _ (c.in_ok-served.ensures.ok.0 refl)))

@@ -5,11 +5,11 @@ use native.Mathlib.Omega.{arith}
 use Rattle.pll.proofs.{UsbRight.usb-right, UsbSteps.usb-first, UsbSteps.usb-none, UsbUnique.usb-unique}
 use Rattle.pll.proofs.usb.find_usb_pll.Goals as goal
 
-pub returns-in-Params : goal.returns-in-Params
-returns-in-Params c =
-    usb-unique _ _ _ (usb-first _ c.loop-refdiv.refdiv _ c.loop-refdiv.invariant.2 c.in-Params.ensures) (usb-right _)
+pub returns-in-Some : goal.returns-in-Some
+returns-in-Some c =
+    usb-unique _ _ _ (usb-first _ c.loop-refdiv.refdiv _ c.loop-refdiv.invariant c.in-Some.ensures) (usb-right _)
 
 pub returns : goal.returns
 returns c =
     let l = c.loop-refdiv in let last : l.refdiv ≡ 64 = omega arith in usb-unique _ _ _ (usb-none _
-    (rw last at l.invariant.2)) (usb-right _)
+    (rw last at l.invariant)) (usb-right _)

@@ -1,8 +1,0 @@
--- `cases::say::put_plan` meets its contract: `begins` says that the row of 48 begins with the plan's numbers, which are the slice
--- that `put` writes.
-use mathlib.Core.Path.{refl}
-use Rattle.numbers.proofs.Whole.{begins}
-use Rattle.cases.proofs.say.put_plan.Goals as goal
-
-pub returns : goal.returns
-returns c = rw ((begins refl c.put_plan-n.ensures).numbers, c.plan_chip-chip.ensures) at c.put.ensures

@@ -1,5 +1,0 @@
--- The measure of the walk is the feedback divider.
-use Rattle.pll.proofs.+walk.Given as goal
-
-abbrev pub decreases-walk : goal.decreases-walk
-decreases-walk l = l.fbdiv
