@@ -1,5 +1,4 @@
 pub mod Writing
 pub mod Bools
 pub mod Placing
-pub mod Parts
 pub mod Products

@@ -1,6 +1,6 @@
 -- Laws of writers.
 use mathlib.Core.{Path.◌≡◌, Path.refl, Path.sym, Path.ap, Path.◌∙◌, List.List, List.[], List.◌∷◌, List.◌++◌, List.append-nil, List.append_assoc}
-use Rattle.std.specs.Prelude.{ℕ, ◌+◌, ◌≤◌, min, max}
+use Rattle.std.specs.Prelude.{ℕ, ◌+◌, min, max}
 use lib.ListN.{length, length-append}
 use native.Mathlib.{Omega.arith}
 use lib.Seq.{sets, length-sets}
@@ -8,7 +8,7 @@ use Rattle.base.specs.Placed.{Placed, past}
 use Rattle.base.proofs.Placing.{sets-clamped, sets-run}
 use Rattle.base.specs.declared.writer.Writer.{Writer}
 use Rattle.std.specs.Borrow.{MutBor}
-use Rattle.base.specs.Writing.{Written, puts, written, Puts, IsNew}
+use Rattle.base.specs.Writing.{Written, puts, Puts, IsNew}
 
 -- two indices that the buffer's end cuts alike have the same effect
 sets-alike : {A : Type 0} (xs : List A) (i j : ℕ) (vs : List A) → min i (length xs) ≡ min j (length xs) → sets xs i vs ≡ sets xs j vs

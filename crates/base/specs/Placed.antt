@@ -1,4 +1,5 @@
--- Values placed into a lent buffer one after another, as every function that writes text or numbers promises.
+-- Values placed into a lent buffer one after another, as a function promises that answers the index after them; what a writer
+-- puts is stated by `Puts`.
 use mathlib.Core.{Path.◌≡◌, List.List}
 use Rattle.std.specs.Prelude.{ℕ, ◌+◌, min}
 use lib.{ListN.length, Seq.sets}

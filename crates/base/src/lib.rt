@@ -1,12 +1,14 @@
 // What the crates share: why a call is refused, and values written one after another into a lent buffer.
 #![tactic(auto)]
 
+mod list;
 mod refusal;
 mod writer;
 
 ghost use Rattle.std.specs.Prelude.{[], ◌∷◌, ◌≡◌, take};
 ghost use Rattle.base.specs.Placed.{Placed};
 
+pub use list::BoundedList;
 pub use refusal::Refusal;
 pub use writer::Writer;
 
@@ -17,8 +19,8 @@ pub fn first(s: &[u8], n: usize) -> &[u8]
     &s[..n.min(s.len())]
 }
 
-// Writes x at index `at` if the buffer has that index, and answers the index after it, at most the buffer's length. The put_
-// functions of every crate do so, so that a sequence of calls places the values of all calls one after another.
+// Writes x at index `at` if the buffer has that index, and answers the index after it, at most the buffer's length, so that a
+// sequence of calls places the values of all calls one after another. A `Writer` keeps the index between its calls.
 pub fn put<T: Copy>(buf: &mut [T], at: usize, x: T) -> usize
     ensures { Placed buf.old at (x ∷ []) result buf.new }
 {

@@ -22,10 +22,8 @@ impl<'a, T: Copy> Writer<'a, T> {
     pub fn put(&mut self, x: T)
         ensures { Puts self.old (x ∷ []) self.new }
     {
-        if self.at < self.buf.len() {
-            self.buf[self.at] = x;
-            self.at += 1;
-        }
+        let buf = &mut *self.buf;
+        self.at = self.at.max(crate::put(buf, self.at, x));
     }
 
     // Puts values.

@@ -7,10 +7,11 @@ ghost use Rattle.runner.specs.Run.{outcome};
 ghost use Rattle.boards.specs.Bench.{fresh_bench, bench_of, start_all_of, board_hz};
 
 use base::Refusal;
-use runner::{Reply, Runner, Stepper};
+use runner::{Kept, Reply, Runner, Stepper};
 use step::MAX_BYTES;
 
-// Eight boards, and the sheet that all were started with: `len` bytes, followed by zeros.
+// Eight boards, and the sheet that all were started with: `len` bytes, followed by zeros. The two are fields of their own, as C
+// lends a bench as numbers and may write any length.
 #[derive(Clone, Copy)]
 pub struct Bench {
     pub boards: [Stepper; 8],
@@ -38,10 +39,15 @@ impl Bench {
         if board > 7 {
             return Err(Refusal::NoBoard);
         }
-        self.boards[board as usize].poll(self.len, &self.kept, sheet, ready)
+        let kept = Kept {
+            bytes: &self.kept,
+            len: self.len,
+        };
+        self.boards[board as usize].poll(kept, sheet, ready)
     }
 
-    // One call for a board by value: its answer, and the bench after it.
+    // One call for a board by value: its answer, and the bench after it. The calls by value stay beside those in place, as
+    // programs and theorems name them.
     pub fn advance(self, board: u8, sheet: &[u8], ready: bool) -> (Result<Reply, Refusal>, Self)
         ensures { outcome (answer_of result.0) result.1 ≡ bench_of self board sheet.now ready }
     {
@@ -73,14 +79,12 @@ impl Bench {
     }
 
     // The frequency in Hz that a board holds for a clock, by the number of the clock; a clock over 9 has 0 Hz. Refuses
-    // with 28 a board over 7.
+    // with 28 a board over 7. The clock is a number of the C interface, so it is no `Clock`, which would admit ten alone.
     #[tactic(auto, using(std::proofs::lemmas::Bool::Decides::nat_tests), unfolding(crate::specs::Bench::board_hz))]
     pub fn clock_freq(&self, board: u8, clock: u8) -> Result<u32, Refusal>
         ensures { answer_of result ≡ board_hz self.now board clock }
     {
-        let Some(stepper) = self.boards.get(board as usize) else {
-            return Err(Refusal::NoBoard);
-        };
+        let stepper = self.boards.get(board as usize).ok_or(Refusal::NoBoard)?;
         Ok(stepper.freqs.get(clock as usize).copied().unwrap_or(0))
     }
 }

@@ -1,10 +1,11 @@
 -- The frequencies after the steps of a sheet are its stored values, since only its stores set them.
 use mathlib.Core.{Bool.Bool, Bool.true, Bool.false, List.List, List.[], List.◌∷◌, Path.◌≡◌, Path.refl, Path.ap, Path.◌∙◌}
 use Prim.Native.Nat.{ℕ}
-use lib.{Dec.eqb, ListN.replicate}
+use lib.ListN.{replicate}
 use Rattle.base.specs.Choice.{pick}
 use Rattle.step.specs.declared.Step.{Step}
-use Rattle.step.specs.Kinds as kind
+use Rattle.step.specs.Kinds.{is}
+use Rattle.step.specs.declared.kind.Kind.TheVariants as kind
 use Rattle.config.specs.declared.ChipConfig.{ChipConfig}
 use Rattle.config.specs.declared.ChipConfig.TheVariants.{Rp2040 as on2040, Rp235x as on235x}
 use Rattle.config.specs.declared.ClockConfig.{ClockConfig}
@@ -17,15 +18,15 @@ use Rattle.sheet.specs.Stores.{stores_in, stores_from}
 use Rattle.sheet.proofs.Stores.{sheet-stores}
 use Rattle.runner.specs.{Run.stored_by, Calls.stores_of}
 
-no_store : (x : Step) (freqs : List ℕ) → eqb x.kind kind.store ≡ false → stored_by x freqs ≡ freqs
+no_store : (x : Step) (freqs : List ℕ) → is x.kind kind.Store ≡ false → stored_by x freqs ≡ freqs
 unfolding stored_by
 no_store x freqs k = simp k
 
 stores-alone : (xs : List Step) (freqs : List ℕ) → stores_of xs freqs ≡ stores_of (stores_in xs) freqs
 stores-alone [] freqs = refl
-stores-alone (x ∷ xs) freqs = go (eqb x.kind kind.store) refl (stores-alone xs (stored_by x freqs))
+stores-alone (x ∷ xs) freqs = go (is x.kind kind.Store) refl (stores-alone xs (stored_by x freqs))
   where
-    go : (b : Bool) → eqb x.kind kind.store ≡ b
+    go : (b : Bool) → is x.kind kind.Store ≡ b
         → stores_of xs (stored_by x freqs) ≡ stores_of (stores_in xs) (stored_by x freqs)
         → stores_of xs (stored_by x freqs) ≡ stores_of (pick b (x ∷ stores_in xs) (stores_in xs)) freqs
     go true k rest = rest

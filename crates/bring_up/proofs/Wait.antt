@@ -8,6 +8,7 @@ use mathlib.Core.Path.{◌≡◌, refl, sym, ap, ◌∙◌}
 use lib.ListN.{length, get_or, replicate}
 use Rattle.base.specs.Answer.{value}
 use Rattle.step.specs.declared.Step.{Step}
+use Rattle.step.specs.declared.kind.Kind.TheVariants as kind
 use Rattle.step.specs.{Access.read_at, Sheet.max_steps, Sheet.encoded, Sheet.AllFormed}
 use Rattle.step.proofs.Sheets.{length-encoded, read-encoded}
 use Rattle.runner.specs.declared.Runner.{Runner}
@@ -206,7 +207,7 @@ comes : (xs : List Step) → AllFormed xs → length xs ≤ max_steps → (k : �
     → (ready : ℕ → Bool) → HearsAtMost k (encoded xs) ready → Comes k xs ready
 unfolding runner_after heard
 comes xs f few k small ready hears =
-    let none : Step = record { kind = 0; f0 = 0; f1 = 0; f2 = 0; f3 = 0; f4 = 0 } in
+    let none : Step = record { kind = kind.Unknown 0; f0 = 0; f1 = 0; f2 = 0; f3 = 0; f4 = 0 } in
     let g = through (encoded xs) (length xs) few (length-encoded xs) ready k small hears none xs 0
     (omega arith) (λ i h. simp zero-add (read-encoded xs none i f h)) (replicate 10 0) 0 0
     (record { is = refl; here = refl; ahead = λ q h. refl }) in

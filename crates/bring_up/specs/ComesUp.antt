@@ -50,7 +50,7 @@ pub record WrittenUp (p : ClockConfig) (reading n : ℕ) (sheet : List ℕ) : Ty
 -- for every plan, reading and buffer: a runner reaches done with the bytes up to the length that `init` answered
 abbrev pub InitComesUp : Type 0
 InitComesUp =
-    (p : ClockConfig) (reading : ℕ) (before after : List ℕ) (r : (Result ℕ Refusal)) (n : ℕ)
+    (p : ClockConfig) (reading : ℕ) (before after : List ℕ) (r : Result ℕ Refusal) (n : ℕ)
     → InitCall p reading before r after → answer_of r ≡ value n → WrittenUp p reading n (take n after)
 
 -- `longest_wait`, for both chips: from 1000000 unready polls on a lock can time out, and the answer is the 32-bit maximum

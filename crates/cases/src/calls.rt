@@ -138,7 +138,8 @@ pub(crate) fn write_bench_run(out: &mut Writer<'_, u8>, words: &Words)
     write(out, r, &bench, b"");
 }
 
-// The row of words, slots and steps that a sleep or a wake leaves.
+// The row of words, slots and steps that a sleep or a wake leaves. The index goes on by hand: three calls of a writer would be no
+// plainer.
 fn changed_row(words: &[u32; 11], slots: &[u32; 48], steps: &[u32; 28]) -> [u32; 87]
     ensures { result ≡ changed_row words.now slots.now steps.now }
 {

@@ -5,9 +5,9 @@ mod calls;
 mod say;
 mod table;
 
+ghost use Rattle.std.specs.Prelude.{◌≡◌};
 ghost use Rattle.cases.specs.Say.{Says, Answered};
-ghost use Rattle.cases.specs.Cases.{case_text, answer_to};
-ghost use Rattle.cases.specs.Numbers.{number_of};
+ghost use Rattle.cases.specs.Cases.{case_text, is_case, answer_to};
 
 use base::Writer;
 use calls::chip_at;
@@ -21,7 +21,7 @@ use words::Words;
 
 // Answers a case from its words; a case's first word of hex is SHEET.
 fn write_case(out: &mut Writer<'_, u8>, case: Case, words: &Words)
-    ensures { Says out.old (case_text (number_of case) words.now) out.new }
+    ensures { Says out.old (case_text case words.now) out.new }
 {
     let n = &words.row;
     match case {
@@ -59,16 +59,23 @@ fn write_case(out: &mut Writer<'_, u8>, case: Case, words: &Words)
     }
 }
 
+// Whether a word is the name of a case.
+pub fn is_case(word: &[u8]) -> bool
+    ensures { result ≡ is_case word.now }
+{
+    Case::named(word).is_some()
+}
+
 // Writes the answer to a line; of a line that is no case it is malformed.
-#[tactic(auto, using(crate::proofs::Rows::no_case))]
-fn write_answer(out: &mut Writer<'_, u8>, line: &[u8])
+#[tactic(auto, unfolding(crate::specs::Cases::answer_to))]
+pub fn write_answer(out: &mut Writer<'_, u8>, line: &[u8])
     ensures { Says out.old (answer_to line.now) out.new }
 {
-    let at = text::index_from(line, 0, b' ');
-    let Some(case) = Case::named(&line[..at]) else {
+    let (name, rest) = words::first_word(line);
+    let Some(case) = Case::named(name) else {
         return write_one(out, answers::MALFORMED);
     };
-    match Words::read(case.letters(), line, at) {
+    match Words::read(case.letters(), rest) {
         Some(words) => write_case(out, case, &words),
         None => write_one(out, answers::MALFORMED),
     }

@@ -1,9 +1,10 @@
-// Runs the sheet of the `crystal` preset of 12000000 at reading 11 on a runner and on two boards of a bench, which
+// Runs the sheet of the `crystal` preset of 12000000 at 1.10 V on a runner and on two boards of a bench, which
 // each call changes in place; the first poll of each wait is not ready. It prints the steps, the unready polls and
 // the ten frequencies of each, and the answer for a board over 7 (docs/FORMAT.md, Runner).
 use base::Refusal;
 use boards::Bench;
 use chip::Chip;
+use chip::voltage::CoreVoltage;
 use config::ClockConfig;
 use runner::{Clock, Reply, Runner, Stepper};
 use std::io;
@@ -30,8 +31,7 @@ fn run(sheet: &[u8]) -> Runner {
 }
 
 // Makes `calls` calls for a board; a call is ready after the answer waiting.
-fn run_board(b: Bench, board: u8, sheet: &[u8], calls: usize) -> Bench {
-    let mut bench = b;
+fn run_board(mut bench: Bench, board: u8, sheet: &[u8], calls: usize) -> Bench {
     let mut ready = false;
     for _ in 0..calls {
         ready = matches!(bench.poll(board, sheet, ready), Ok(Reply::Waiting));
@@ -47,16 +47,10 @@ fn show_stepper(rt: &impl Print, s: Stepper) -> io::Result<()> {
 fn show_runner(rt: &impl Print, r: Runner) -> io::Result<()> {
     let s = r.stepper;
     show_stepper(rt, s)?;
-    show(rt, "rosc", u64::from(r.freq(Clock::Rosc)))?;
-    show(rt, "xosc", u64::from(r.freq(Clock::Xosc)))?;
-    show(rt, "pll_sys", u64::from(r.freq(Clock::PllSys)))?;
-    show(rt, "pll_usb", u64::from(r.freq(Clock::PllUsb)))?;
-    show(rt, "ref", u64::from(r.freq(Clock::Ref)))?;
-    show(rt, "sys", u64::from(r.freq(Clock::Sys)))?;
-    show(rt, "peri", u64::from(r.freq(Clock::Peri)))?;
-    show(rt, "usb", u64::from(r.freq(Clock::Usb)))?;
-    show(rt, "adc", u64::from(r.freq(Clock::Adc)))?;
-    show(rt, "rtc", u64::from(r.freq(Clock::Rtc)))
+    for clock in Clock::ALL {
+        show(rt, clock.name(), u64::from(r.freq(clock)))?;
+    }
+    Ok(())
 }
 
 fn show_freq(rt: &impl Print, b: Bench, board: u8, clock: u8) -> io::Result<()> {
@@ -88,11 +82,8 @@ fn show_bench(rt: &impl Print, sheet: &[u8]) -> io::Result<()> {
     let _opened = fresh.start(sheet);
     let one = run_board(fresh, 2, sheet, 72);
     let mut bench = run_board(one, 5, sheet, 44);
-    let boards = bench.boards;
-    let second = boards[2];
-    let fifth = boards[5];
-    show_board(rt, bench, 2, second)?;
-    show_board(rt, bench, 5, fifth)?;
+    show_board(rt, bench, 2, bench.boards[2])?;
+    show_board(rt, bench, 5, bench.boards[5])?;
     show_freq(rt, bench, 5, 10)?;
     show_freq(rt, bench, 8, 0)?;
     show_refusal(rt, bench.poll(8, sheet, true))
@@ -106,7 +97,8 @@ fn show_sheet(rt: &impl Print, sheet: &[u8]) -> io::Result<()> {
 // Prints the results of the runner and of the bench.
 pub(crate) fn show_all(rt: &impl Print) -> io::Result<()> {
     let mut bytes = [0u8; MAX_BYTES];
-    match sheet::init(ClockConfig::crystal(Chip::Rp2040, 12000000), 11, &mut bytes) {
+    let plan = ClockConfig::crystal(Chip::Rp2040, 12000000);
+    match sheet::init(plan, CoreVoltage::V1_10 as u8, &mut bytes) {
         Ok(n) => show_sheet(rt, &bytes[..n]),
         Err(why) => show(rt, "refused", u64::from(u8::from(why))),
     }

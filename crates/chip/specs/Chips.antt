@@ -1,16 +1,16 @@
 -- The numbers in which the RP2040 and the RP235x differ (docs/RP235X.md). `gpout` lists the clock of each Gpout source code from
 -- 0 on: 0 ring, 1 crystal, 2 PLL sys, 3 PLL USB, 4 reference, 5 system, 7 USB, 8 ADC; 10 means no clock.
 use Rattle.std.specs.Prelude.{[], ◌∷◌, ◌+◌, ◌-◌, ◌^◌}
-use Rattle.step.specs.Kinds as kind
+use Rattle.step.specs.declared.kind.Kind.TheVariants as kind
 use Rattle.chip.specs.declared.{Chip.Chip, Chip.TheVariants.Rp2040, Chip.TheVariants.Rp235x, Facts.Facts}
 
 abbrev pub facts_of : Chip → Facts
 facts_of Rp2040 =
     record {
       top_reading = 15;
-      voltage = kind.voltage;
-      brownout = kind.brownout;
-      divider = kind.sys_divider;
+      voltage = kind.Voltage;
+      brownout = kind.Brownout;
+      divider = kind.SysDivider;
       scale = 256;
       top_whole = 16777215;
       pass = 0xAA0;
@@ -28,9 +28,9 @@ facts_of Rp2040 =
 facts_of Rp235x =
     record {
       top_reading = 31;
-      voltage = kind.voltage_235;
-      brownout = kind.brownout_235;
-      divider = kind.sys_divider_235;
+      voltage = kind.Voltage235;
+      brownout = kind.Brownout235;
+      divider = kind.SysDivider235;
       scale = 65536;
       top_whole = 65535;
       pass = 0xAA00;

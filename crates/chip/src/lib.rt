@@ -6,7 +6,7 @@ pub mod voltage;
 ghost use Rattle.std.specs.Prelude.{◌≡◌};
 ghost use Rattle.chip.specs.Chips.{facts_of};
 
-use step::kind;
+use step::Kind;
 
 #[derive(Clone, Copy, PartialEq, Eq)]
 pub enum Chip {
@@ -18,9 +18,9 @@ pub enum Chip {
 #[derive(Clone, Copy, PartialEq, Eq)]
 pub struct Facts {
     pub top_reading: u8, // the greatest reading of the regulator
-    pub voltage: u8, // the kind of the voltage step
-    pub brownout: u8, // the kind of the brownout step
-    pub divider: u8, // the kind of the system divider step
+    pub voltage: Kind, // the kind of the voltage step
+    pub brownout: Kind, // the kind of the brownout step
+    pub divider: Kind, // the kind of the system divider step
     pub scale: u32, // a divider's fraction counts in 1 / scale
     pub top_whole: u32, // the greatest whole part of a divider
     pub pass: u16, // added to the ring divider in ROSC_DIV
@@ -44,9 +44,9 @@ impl Chip {
         match self {
             Chip::Rp2040 => Facts {
                 top_reading: 15,
-                voltage: kind::VOLTAGE,
-                brownout: kind::BROWNOUT,
-                divider: kind::SYS_DIVIDER,
+                voltage: Kind::Voltage,
+                brownout: Kind::Brownout,
+                divider: Kind::SysDivider,
                 scale: 256,
                 top_whole: 16777215,
                 pass: 0xAA0,
@@ -63,9 +63,9 @@ impl Chip {
             },
             Chip::Rp235x => Facts {
                 top_reading: 31,
-                voltage: kind::VOLTAGE_235,
-                brownout: kind::BROWNOUT_235,
-                divider: kind::SYS_DIVIDER_235,
+                voltage: Kind::Voltage235,
+                brownout: Kind::Brownout235,
+                divider: Kind::SysDivider235,
                 scale: 65536,
                 top_whole: 65535,
                 pass: 0xAA00,

@@ -7,9 +7,6 @@ ghost use Rattle.chip.specs.Voltage.{volts_of, core_voltage_of};
 
 use base::Refusal;
 
-// The refusal of a reading that is no voltage's code.
-const NO_VOLTAGE: Refusal = Refusal::VoltageReading;
-
 // A voltage's register code, brownout level and default settling time in µs.
 #[derive(Clone, Copy, PartialEq, Eq)]
 pub struct Volts {
@@ -89,7 +86,8 @@ impl Voltage for CoreVoltage {
     }
 }
 
-// The RP2040 voltage whose code was read; 18 where the code is unknown.
+// The RP2040 voltage whose code was read; 18 where the code is unknown. The match is the table: a search among all voltages is
+// no shorter and compares up to sixteen.
 impl TryFrom<u8> for CoreVoltage {
     type Error = Refusal;
 
@@ -108,7 +106,7 @@ impl TryFrom<u8> for CoreVoltage {
             13 => Ok(CoreVoltage::V1_20),
             14 => Ok(CoreVoltage::V1_25),
             15 => Ok(CoreVoltage::V1_30),
-            _ => Err(NO_VOLTAGE),
+            _ => Err(Refusal::VoltageReading),
         }
     }
 }
@@ -164,7 +162,7 @@ impl Voltage for CoreVoltage235 {
     }
 }
 
-// The RP235x voltage whose code was read; 18 where the code is unknown.
+// The RP235x voltage whose code was read; 18 where the code is unknown. The match is the table, as for the RP2040.
 impl TryFrom<u8> for CoreVoltage235 {
     type Error = Refusal;
 
@@ -188,7 +186,7 @@ impl TryFrom<u8> for CoreVoltage235 {
             13 => Ok(CoreVoltage235::V1_20),
             14 => Ok(CoreVoltage235::V1_25),
             15 => Ok(CoreVoltage235::V1_30),
-            _ => Err(NO_VOLTAGE),
+            _ => Err(Refusal::VoltageReading),
         }
     }
 }

@@ -1,10 +1,10 @@
 // The parts of a sheet from the stores of the sources on: one part for each clock, then the last release. Each function appends
-// the steps of its part to the words and answers the new number of words in use.
+// the steps of its part to the words and answers the new number of words in use; sheet_steps says why the two are no struct.
 #![tactic(auto)]
 
 ghost use Rattle.std.specs.Prelude.{◌≡◌};
-ghost use Rattle.chip.specs.declared.Chip.TheVariants.{Rp2040};
 ghost use Rattle.chip.specs.Chips.{facts_of};
+ghost use Rattle.step.specs.Clocks.{clock_number};
 ghost use Rattle.sheet_steps.specs.Steps.{step2, source_part, tick_steps, ref_part, switch_steps, sys_part, peri_part, aux_part, rtc_part};
 ghost use Rattle.sheet_steps.specs.Steps.{bits_without, release_mask, clocks_part};
 ghost use Rattle.sheet_steps.specs.Gather.{held, pushed, pushes};
@@ -12,27 +12,27 @@ ghost use Rattle.sheet_steps.specs.Gather.{held, pushed, pushes};
 use chip::Chip;
 use config::{AuxClkConfig, Board, PeriClkSrc, RefClkConfig, RtcClkConfig, SysClkSrc};
 use settings::{Frequencies, Settings, Sources};
-use sheet_steps::{Words, add};
-use step::kind;
+use sheet_steps::{Words, add, store};
+use step::{Clock, Kind};
 
 fn put_sources(words: &mut Words, at: usize, f: Sources) -> usize
     ensures { held words.new result ≡ pushes (held words.old at) (source_part f) }
 {
-    let at = add(words, at, kind::STORE, [1, u64::from(f.xosc)]);
-    let at = add(words, at, kind::STORE, [2, u64::from(f.pll_sys)]);
-    add(words, at, kind::STORE, [3, u64::from(f.pll_usb)])
+    let at = store(words, at, Clock::Xosc, u64::from(f.xosc));
+    let at = store(words, at, Clock::PllSys, u64::from(f.pll_sys));
+    store(words, at, Clock::PllUsb, u64::from(f.pll_usb))
 }
 
 fn put_tick(words: &mut Words, at: usize, chip: Chip, mhz: u64) -> usize
     ensures { held words.new result ≡ pushes (held words.old at) (tick_steps chip mhz) }
 {
     match chip {
-        Chip::Rp2040 => add(words, at, kind::TICK, [mhz]),
+        Chip::Rp2040 => add(words, at, Kind::Tick, [mhz]),
         Chip::Rp235x => {
-            let at = add(words, at, kind::TIMER_CYCLES, [mhz]);
-            let at = add(words, at, kind::TIMER_ON, []);
-            let at = add(words, at, kind::WATCHDOG_CYCLES, [mhz]);
-            add(words, at, kind::WATCHDOG_ON, [])
+            let at = add(words, at, Kind::TimerCycles, [mhz]);
+            let at = add(words, at, Kind::TimerOn, []);
+            let at = add(words, at, Kind::WatchdogCycles, [mhz]);
+            add(words, at, Kind::WatchdogOn, [])
         }
     }
 }
@@ -41,11 +41,11 @@ fn put_tick(words: &mut Words, at: usize, chip: Chip, mhz: u64) -> usize
 fn put_ref(words: &mut Words, at: usize, chip: Chip, hz: u32, clock: RefClkConfig) -> usize
     ensures { held words.new result ≡ pushes (held words.old at) (ref_part chip hz clock) }
 {
-    let code = u64::from(settings::ref_code(clock.src));
-    let at = add(words, at, kind::STORE, [4, u64::from(hz)]);
-    let at = add(words, at, kind::REF_CONTROL, [code]);
-    let at = add(words, at, kind::WAIT_REF, [code]);
-    let at = add(words, at, kind::REF_DIVIDER, [u64::from(clock.div % 4)]);
+    let code = u64::from(u8::from(clock.src));
+    let at = store(words, at, Clock::Ref, u64::from(hz));
+    let at = add(words, at, Kind::RefControl, [code]);
+    let at = add(words, at, Kind::WaitRef, [code]);
+    let at = add(words, at, Kind::RefDivider, [u64::from(clock.div % 4)]);
     put_tick(words, at, chip, u64::from(hz / 1000000))
 }
 
@@ -57,16 +57,16 @@ fn put_switch(words: &mut Words, at: usize, select: u64) -> usize
     if select == 0 {
         return at;
     }
-    let at = add(words, at, kind::SYS_CONTROL, [0, 0]);
-    add(words, at, kind::WAIT_SYS, [0])
+    let at = add(words, at, Kind::SysControl, [0, 0]);
+    add(words, at, Kind::WaitSys, [0])
 }
 
 fn put_divider(words: &mut Words, at: usize, chip: Chip, whole: u64, fraction: u64) -> usize
     ensures { held words.new result ≡ pushed (held words.old at) (step2 (facts_of chip).divider whole fraction) }
 {
     match chip {
-        Chip::Rp2040 => add(words, at, kind::SYS_DIVIDER, [whole, fraction]),
-        Chip::Rp235x => add(words, at, kind::SYS_DIVIDER_235, [whole, fraction]),
+        Chip::Rp2040 => add(words, at, Kind::SysDivider, [whole, fraction]),
+        Chip::Rp235x => add(words, at, Kind::SysDivider235, [whole, fraction]),
     }
 }
 
@@ -74,12 +74,12 @@ fn put_divider(words: &mut Words, at: usize, chip: Chip, whole: u64, fraction: u
 fn put_sys(words: &mut Words, at: usize, b: Board, hz: u64, src: SysClkSrc) -> usize
     ensures { held words.new result ≡ pushes (held words.old at) (sys_part b hz src) }
 {
-    let aux = u64::from(settings::sys_aux(src));
-    let select = u64::from(settings::sys_select(src));
-    let at = add(words, at, kind::STORE, [5, hz]);
+    let aux = u64::from(src.aux());
+    let select = u64::from(src.select());
+    let at = store(words, at, Clock::Sys, hz);
     let at = put_switch(words, at, select);
-    let at = add(words, at, kind::SYS_CONTROL, [aux, select]);
-    let at = add(words, at, kind::WAIT_SYS, [select]);
+    let at = add(words, at, Kind::SysControl, [aux, select]);
+    let at = add(words, at, Kind::WaitSys, [select]);
     put_divider(words, at, b.chip, u64::from(b.whole), u64::from(b.fraction))
 }
 
@@ -87,14 +87,14 @@ fn put_sys(words: &mut Words, at: usize, b: Board, hz: u64, src: SysClkSrc) -> u
 fn put_peri(words: &mut Words, at: usize, hz: u64, peri: Option<PeriClkSrc>) -> usize
     ensures { held words.new result ≡ pushes (held words.old at) (peri_part hz peri) }
 {
-    match peri {
+    let at = match peri {
         Some(src) => {
-            let aux = u64::from(settings::peri_aux(src));
-            let at = add(words, at, kind::PERI_CONTROL, [aux]);
-            add(words, at, kind::STORE, [6, hz])
+            let aux = u64::from(u8::from(src));
+            add(words, at, Kind::PeriControl, [aux])
         }
-        None => add(words, at, kind::STORE, [6, hz]),
-    }
+        None => at,
+    };
+    store(words, at, Clock::Peri, hz)
 }
 
 // Appends the part of the USB or the ADC clock with its kinds of steps. The divider field has two bits and holds 4 as 0.
@@ -102,55 +102,43 @@ fn put_peri(words: &mut Words, at: usize, hz: u64, peri: Option<PeriClkSrc>) -> 
 fn put_aux(
     words: &mut Words,
     at: usize,
-    divider: u8,
-    control: u8,
-    clock: u64,
+    divider: Kind,
+    control: Kind,
+    clock: Clock,
     hz: u64,
     aux: Option<AuxClkConfig>,
 ) -> usize
-    ensures { held words.new result ≡ pushes (held words.old at) (aux_part divider control clock hz aux) }
+    ensures { held words.new result ≡ pushes (held words.old at) (aux_part divider control (clock_number clock) hz aux) }
 {
-    match aux {
+    let at = match aux {
         Some(on) => {
-            let code = u64::from(settings::aux_code(on.src));
+            let code = u64::from(u8::from(on.src));
             let at = add(words, at, divider, [u64::from(on.div % 4)]);
-            let at = add(words, at, control, [u64::from(on.phase), code]);
-            add(words, at, kind::STORE, [clock, hz])
+            add(words, at, control, [u64::from(on.phase), code])
         }
-        None => add(words, at, kind::STORE, [clock, hz]),
-    }
+        None => at,
+    };
+    store(words, at, clock, hz)
 }
 
-// Appends the RTC part of the RP2040.
-#[tactic(auto, unfolding(sheet_steps::specs::Steps::rtc_part))]
-fn put_rtc_2040(words: &mut Words, at: usize, hz: u64, rtc: Option<RtcClkConfig>) -> usize
-    ensures { held words.new result ≡ pushes (held words.old at) (rtc_part Rp2040 hz rtc) }
-{
-    match rtc {
-        Some(on) => {
-            let aux = u64::from(settings::aux_code(on.src));
-            let whole = u64::from(on.div_int);
-            let at = add(
-                words,
-                at,
-                kind::RTC_DIVIDER,
-                [whole, u64::from(on.div_frac)],
-            );
-            let at = add(words, at, kind::RTC_CONTROL, [u64::from(on.phase), aux]);
-            add(words, at, kind::STORE, [9, hz])
-        }
-        None => add(words, at, kind::STORE, [9, hz]),
-    }
-}
-
+// Appends the RTC part of the RP2040; the RP235x has none.
 #[tactic(auto, unfolding(sheet_steps::specs::Steps::rtc_part))]
 fn put_rtc(words: &mut Words, at: usize, chip: Chip, hz: u64, rtc: Option<RtcClkConfig>) -> usize
     ensures { held words.new result ≡ pushes (held words.old at) (rtc_part chip hz rtc) }
 {
-    match chip {
-        Chip::Rp2040 => put_rtc_2040(words, at, hz, rtc),
-        Chip::Rp235x => at,
+    if chip == Chip::Rp235x {
+        return at;
     }
+    let at = match rtc {
+        Some(on) => {
+            let aux = u64::from(u8::from(on.src));
+            let whole = u64::from(on.div_int);
+            let at = add(words, at, Kind::RtcDivider, [whole, u64::from(on.div_frac)]);
+            add(words, at, Kind::RtcControl, [u64::from(on.phase), aux])
+        }
+        None => at,
+    };
+    store(words, at, Clock::Rtc, hz)
 }
 
 // The reset bits that the last release leaves out where a clock is absent (docs/FORMAT.md, Masks).
@@ -194,22 +182,22 @@ pub fn put_clocks(words: &mut Words, at: usize, s: Settings, f: Frequencies) -> 
     let at = put_aux(
         words,
         at,
-        kind::USB_DIVIDER,
-        kind::USB_CONTROL,
-        7,
+        Kind::UsbDivider,
+        Kind::UsbControl,
+        Clock::Usb,
         usb,
         s.usb,
     );
     let at = put_aux(
         words,
         at,
-        kind::ADC_DIVIDER,
-        kind::ADC_CONTROL,
-        8,
+        Kind::AdcDivider,
+        Kind::AdcControl,
+        Clock::Adc,
         adc,
         s.adc,
     );
     let at = put_rtc(words, at, chip, f.rtc, rtc);
-    let at = add(words, at, kind::RELEASE, [mask]);
-    add(words, at, kind::WAIT_RELEASED, [mask])
+    let at = add(words, at, Kind::Release, [mask]);
+    add(words, at, Kind::WaitReleased, [mask])
 }

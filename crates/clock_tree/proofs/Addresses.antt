@@ -6,7 +6,7 @@ use native.Mathlib.Omega.{arith}
 use lib.Dec.{eqb}
 use borrow.Author.Tests.{ne_eqb}
 use Rattle.base.specs.{Choice.pick, Answer.Answer, Answer.value, Answer.refusal}
-use Rattle.base.proofs.Bools.{both_true, both_false}
+use Rattle.std.proofs.lemmas.Bool.{and_parts, or_parts}
 use Rattle.chip.specs.declared.Chip.{Chip}
 use Rattle.step.specs.declared.Step.{Step}
 use Rattle.registers.specs.declared.Access.{Access}
@@ -25,7 +25,7 @@ within (x ∷ xs) ys = member x ys && within xs ys
 pub member-append : (x : ℕ) (xs ys : List ℕ) → member x (xs ++ ys) ≡ false → (member x xs ≡ false) × (member x ys ≡ false)
 member-append x [] ys h = (refl, h)
 member-append x (z ∷ xs) ys h =
-    let both = both_false (eqb z x) (member x (xs ++ ys)) h in
+    let both = or_parts (eqb z x) (member x (xs ++ ys)) h in
     let rest = member-append x xs ys both.1 in
     (rw (both.0, rest.0), rest.1)
 
@@ -40,7 +40,7 @@ differ z x ys h k =
 pub outside : (x : ℕ) (xs ys : List ℕ) → within xs ys ≡ true → member x ys ≡ false → member x xs ≡ false
 outside x [] ys h k = refl
 outside x (z ∷ xs) ys h k =
-    let both = both_true (member z ys) (within xs ys) h in
+    let both = and_parts (member z ys) (within xs ys) h in
     rw (differ z x ys both.0 k, outside x xs ys both.1 k)
 
 -- the addresses that an access may change: its register, and at RESET also PWR of the PLLs
@@ -59,11 +59,11 @@ keeps : (changes resets : Bool) (a x p q : ℕ) (h k : Bool) (v w old : ℕ)
     → member x (pick changes (a ∷ pick resets (p ∷ q ∷ []) []) []) ≡ false
     → pick ((changes && resets) && ((eqb p x && h) || (eqb q x && k))) v (pick (changes && eqb a x) w old) ≡ old
 keeps false resets a x p q h k v w old e = refl
-keeps true false a x p q h k v w old e = rw (both_false (eqb a x) false e).0
+keeps true false a x p q h k v w old e = rw (or_parts (eqb a x) false e).0
 keeps true true a x p q h k v w old e =
-    let e0 = both_false (eqb a x) (eqb p x || (eqb q x || false)) e in
-    let e1 = both_false (eqb p x) (eqb q x || false) e0.1 in
-    let e2 = both_false (eqb q x) false e1.1 in
+    let e0 = or_parts (eqb a x) (eqb p x || (eqb q x || false)) e in
+    let e1 = or_parts (eqb p x) (eqb q x || false) e0.1 in
+    let e2 = or_parts (eqb q x) false e1.1 in
     rw (e0.0, e1.0, e2.0)
 
 done-keeps : (c : Chip) (access : Answer Access) (file : ℕ → ℕ) (x : ℕ)

@@ -1,7 +1,7 @@
 -- Every step of a sheet is one that its chip carries out, since this holds of each part.
 use mathlib.Core.{Bool.true, Path.◌≡◌, Path.refl, List.List, List.[], List.◌∷◌, List.◌++◌}
 use Prim.Native.Nat.{ℕ}
-use Rattle.base.proofs.Bools.{both_true}
+use Rattle.std.proofs.lemmas.Bool.{and_parts}
 use Rattle.chip.specs.declared.Chip.{Chip}
 use Rattle.step.specs.declared.Step.{Step}
 use Rattle.registers.specs.Access.{access_of}
@@ -13,7 +13,7 @@ use Rattle.clock_tree.proofs.Sheet.{joined, All, parts_of, all-parts}
 append : (c : Chip) (xs ys : List Step) → carries c xs ≡ true → carries c ys ≡ true → carries c (xs ++ ys) ≡ true
 append c [] ys h k = k
 append c (x ∷ xs) ys h k =
-    let both = both_true (is_value (access_of c x)) (carries c xs) h in
+    let both = and_parts (is_value (access_of c x)) (carries c xs) h in
     simp (both.0, append c xs ys both.1 k)
 
 each : (c : Chip) (os : List (List ℕ)) (ps : List (List Step)) → All c os ps → carries c (joined ps) ≡ true

@@ -17,7 +17,8 @@ use Rattle.pll.proofs.Valid.{Valid, valid}
 use Rattle.config.specs.declared.{RefClkSrc.RefClkSrc, RefClkConfig.RefClkConfig}
 use Rattle.config.specs.declared.{SysClkSrc.SysClkSrc, PeriClkSrc.PeriClkSrc, AuxClkSrc.AuxClkSrc, AuxClkConfig.AuxClkConfig}
 use Rattle.settings.specs.declared.{Crystal.Crystal, Sources.Sources}
-use Rattle.settings.specs.{Settings.ring_hz, Codes.ref_code, Codes.sys_select, Codes.sys_aux, Codes.peri_aux, Codes.aux_code}
+use Rattle.config.specs.Codes.{ref_code, sys_select, sys_aux, peri_aux, aux_code}
+use Rattle.settings.specs.Settings.{ring_hz}
 use Rattle.settings.specs.Frequencies.{pll_hz, sources_of, ref_source, ref_hz, sys_source, peri_source, aux_source}
 use Rattle.settings.proofs.Decoded.{Small}
 use Rattle.refusals.specs.Rules.{pll_invalid, sys_pll_invalid, usb_pll_invalid}

@@ -9,15 +9,15 @@ use Rattle.base.specs.Choice.{pick}
 use Rattle.chip.specs.declared.{Chip.Chip, Chip.TheVariants.Rp2040, Chip.TheVariants.Rp235x}
 use Rattle.chip.specs.Chips.{facts_of}
 use Rattle.step.specs.declared.Step.{Step}
-use Rattle.step.specs.Kinds as kind
+use Rattle.step.specs.declared.kind.Kind.TheVariants as kind
 use Rattle.config.specs.declared.{RefClkConfig.RefClkConfig}
 use Rattle.pll.specs.declared.PllConfig.{PllConfig}
 use Rattle.config.specs.declared.{SysClkSrc.SysClkSrc, Board.Board, PeriClkSrc.PeriClkSrc, AuxClkConfig.AuxClkConfig}
 use Rattle.config.specs.declared.RtcClkConfig.{RtcClkConfig}
 use Rattle.settings.specs.declared.{Crystal.Crystal, Sources.Sources}
-use Rattle.settings.specs.Codes.{sys_select, sys_aux}
+use Rattle.config.specs.Codes.{sys_select, sys_aux}
 use Rattle.registers.specs.declared.Access.{Access}
-use Rattle.registers.specs.Access.{has, rows, access_of}
+use Rattle.registers.specs.Access.{has, access_of}
 use Rattle.registers.specs.Map.{on, RESET, CLK_SYS_RESUS_CTRL, CLK_REF_CTRL, CLK_REF_DIV, CLK_SYS_CTRL, CLK_SYS_DIV, CLK_PERI_CTRL}
 use Rattle.registers.specs.Map.{CLK_USB_CTRL, CLK_USB_DIV, CLK_ADC_CTRL, CLK_ADC_DIV, CLK_RTC_CTRL, CLK_RTC_DIV, XOSC_CTRL, XOSC_STARTUP}
 use Rattle.registers.specs.Map.{ROSC_CTRL, ROSC_FREQA, ROSC_FREQB, ROSC_DIV, PLL_CS, PLL_PWR, PLL_FBDIV_INT, PLL_PRIM, VREG, BOD}
@@ -80,17 +80,17 @@ owns c =
     ∷ []
 
 pub mark : (c : Chip) → Calm c [] (mark_steps c)
-unfolding access_of has rows
+unfolding access_of has
 mark Rp2040 = record { on = record { all = refl; inside = refl }; calm = λ test file. refl }
 mark Rp235x = record { on = record { all = refl; inside = refl }; calm = λ test file. refl }
 
 pub head : (c : Chip) → On c (head_own c) (head_part c)
-unfolding access_of has rows head_part
+unfolding access_of has head_part
 head Rp2040 = record { all = refl; inside = refl }
 head Rp235x = record { all = refl; inside = refl }
 
 pub ring : (c : Chip) (pass : ℕ) (r : Option RoscConfig) → Calm c (ring_own c) (ring_part pass r)
-unfolding access_of has rows ring_part
+unfolding access_of has ring_part
 ring Rp2040 pass (Some r) = record { on = record { all = refl; inside = refl }; calm = λ test file. refl }
 ring Rp2040 pass None = record { on = record { all = refl; inside = refl }; calm = λ test file. refl }
 ring Rp235x pass (Some r) = record { on = record { all = refl; inside = refl }; calm = λ test file. refl }
@@ -99,11 +99,11 @@ ring Rp235x pass None = record { on = record { all = refl; inside = refl }; calm
 -- a voltage that changes
 abbrev pub changed : Chip → Board → Option ℕ → List Step
 changed c b settling =
-    step1 (facts_of c).voltage b.code ∷ (settling_steps settling ++ (step1 (facts_of c).brownout b.brownout ∷ []))
+    step1 (facts_of c).voltage b.volts.code ∷ (settling_steps settling ++ (step1 (facts_of c).brownout b.volts.brownout ∷ []))
 
 voltage-of : (c : Chip) (b : Board) (same : Bool) (settling : Option ℕ)
     → Calm c (voltage_own c) (pick same [] (changed c b settling))
-unfolding access_of has rows
+unfolding access_of has
 voltage-of Rp2040 b true settling = record { on = record { all = refl; inside = refl }; calm = λ test file. refl }
 voltage-of Rp235x b true settling = record { on = record { all = refl; inside = refl }; calm = λ test file. refl }
 voltage-of Rp2040 b false (Some n) = record { on = record { all = refl; inside = refl }; calm = λ test file. refl }
@@ -114,15 +114,15 @@ voltage-of Rp235x b false None = record { on = record { all = refl; inside = ref
 pub voltage : (reading : ℕ) (b : Board) (settling : Option ℕ)
     → Calm b.chip (voltage_own b.chip) (voltage_part reading b settling)
 unfolding voltage_part
-voltage reading b settling = voltage-of b.chip b (eqb b.code reading) settling
+voltage reading b settling = voltage-of b.chip b (eqb b.volts.code reading) settling
 
 -- a crystal's part, by its PLLs
 abbrev pub crystal_steps : ℕ → Option PllConfig → Option PllConfig → List Step
 crystal_steps delay a b =
-    step1 kind.startup delay ∷ step0 kind.crystal_on ∷ step0 kind.wait_stable ∷ (pll_steps 0 a ++ pll_steps 1 b)
+    step1 kind.Startup delay ∷ step0 kind.CrystalOn ∷ step0 kind.WaitStable ∷ (pll_steps 0 a ++ pll_steps 1 b)
 
 crystal-of : (c : Chip) (delay : ℕ) (a b : Option PllConfig) → On c (crystal_own c) (crystal_steps delay a b)
-unfolding access_of has rows
+unfolding access_of has
 crystal-of Rp2040 delay (Some p) (Some q) = record { all = refl; inside = refl }
 crystal-of Rp2040 delay (Some p) None = record { all = refl; inside = refl }
 crystal-of Rp2040 delay None (Some q) = record { all = refl; inside = refl }
@@ -138,12 +138,12 @@ crystal c (Some x) = crystal-of c x.delay x.sys x.usb
 crystal c None = record { all = refl; inside = refl }
 
 pub source : (c : Chip) (f : Sources) → Calm c [] (source_part f)
-unfolding access_of has rows
+unfolding access_of has
 source Rp2040 f = record { on = record { all = refl; inside = refl }; calm = λ test file. refl }
 source Rp235x f = record { on = record { all = refl; inside = refl }; calm = λ test file. refl }
 
 pub reference : (c : Chip) (hz : ℕ) (r : RefClkConfig) → On c (ref_own c) (ref_part c hz r)
-unfolding access_of has rows
+unfolding access_of has
 reference Rp2040 hz r = record { all = refl; inside = refl }
 reference Rp235x hz r = record { all = refl; inside = refl }
 
@@ -151,12 +151,12 @@ reference Rp235x hz r = record { all = refl; inside = refl }
 abbrev pub system_steps : Chip → Bool → ℕ → ℕ → ℕ → ℕ → ℕ → List Step
 system_steps c same hz aux select whole fraction =
     store_step 5 hz
-    ∷ (pick same [] (step2 kind.sys_control 0 0 ∷ step1 kind.wait_sys 0 ∷ [])
-    ++ (step2 kind.sys_control aux select ∷ step1 kind.wait_sys select ∷ step2 (facts_of c).divider whole fraction ∷ []))
+    ∷ (pick same [] (step2 kind.SysControl 0 0 ∷ step1 kind.WaitSys 0 ∷ [])
+    ++ (step2 kind.SysControl aux select ∷ step1 kind.WaitSys select ∷ step2 (facts_of c).divider whole fraction ∷ []))
 
 system-of : (c : Chip) (same : Bool) (hz aux select whole fraction : ℕ)
     → On c (sys_own c) (system_steps c same hz aux select whole fraction)
-unfolding access_of has rows
+unfolding access_of has
 system-of Rp2040 true hz aux select whole fraction = record { all = refl; inside = refl }
 system-of Rp2040 false hz aux select whole fraction = record { all = refl; inside = refl }
 system-of Rp235x true hz aux select whole fraction = record { all = refl; inside = refl }
@@ -167,35 +167,35 @@ unfolding sys_part switch_steps
 system b hz src = system-of b.chip (eqb (sys_select src) 0) hz (sys_aux src) (sys_select src) b.whole b.fraction
 
 pub peri : (c : Chip) (hz : ℕ) (o : Option PeriClkSrc) → Calm c (CLK_PERI_CTRL c ∷ []) (peri_part hz o)
-unfolding access_of has rows peri_part
+unfolding access_of has peri_part
 peri Rp2040 hz (Some src) = record { on = record { all = refl; inside = refl }; calm = λ test file. refl }
 peri Rp2040 hz None = record { on = record { all = refl; inside = refl }; calm = λ test file. refl }
 peri Rp235x hz (Some src) = record { on = record { all = refl; inside = refl }; calm = λ test file. refl }
 peri Rp235x hz None = record { on = record { all = refl; inside = refl }; calm = λ test file. refl }
 
 pub usb : (c : Chip) (hz : ℕ) (o : Option AuxClkConfig)
-    → Calm c (CLK_USB_CTRL c ∷ CLK_USB_DIV c ∷ []) (aux_part kind.usb_divider kind.usb_control 7 hz o)
-unfolding access_of has rows aux_part
+    → Calm c (CLK_USB_CTRL c ∷ CLK_USB_DIV c ∷ []) (aux_part kind.UsbDivider kind.UsbControl 7 hz o)
+unfolding access_of has aux_part
 usb Rp2040 hz (Some a) = record { on = record { all = refl; inside = refl }; calm = λ test file. refl }
 usb Rp2040 hz None = record { on = record { all = refl; inside = refl }; calm = λ test file. refl }
 usb Rp235x hz (Some a) = record { on = record { all = refl; inside = refl }; calm = λ test file. refl }
 usb Rp235x hz None = record { on = record { all = refl; inside = refl }; calm = λ test file. refl }
 
 pub adc : (c : Chip) (hz : ℕ) (o : Option AuxClkConfig)
-    → Calm c (CLK_ADC_CTRL c ∷ CLK_ADC_DIV c ∷ []) (aux_part kind.adc_divider kind.adc_control 8 hz o)
-unfolding access_of has rows aux_part
+    → Calm c (CLK_ADC_CTRL c ∷ CLK_ADC_DIV c ∷ []) (aux_part kind.AdcDivider kind.AdcControl 8 hz o)
+unfolding access_of has aux_part
 adc Rp2040 hz (Some a) = record { on = record { all = refl; inside = refl }; calm = λ test file. refl }
 adc Rp2040 hz None = record { on = record { all = refl; inside = refl }; calm = λ test file. refl }
 adc Rp235x hz (Some a) = record { on = record { all = refl; inside = refl }; calm = λ test file. refl }
 adc Rp235x hz None = record { on = record { all = refl; inside = refl }; calm = λ test file. refl }
 
 pub rtc : (c : Chip) (hz : ℕ) (o : Option RtcClkConfig) → Calm c (CLK_RTC_CTRL ∷ CLK_RTC_DIV ∷ []) (rtc_part c hz o)
-unfolding access_of has rows rtc_part
+unfolding access_of has rtc_part
 rtc Rp2040 hz (Some r) = record { on = record { all = refl; inside = refl }; calm = λ test file. refl }
 rtc Rp2040 hz None = record { on = record { all = refl; inside = refl }; calm = λ test file. refl }
 rtc Rp235x hz o = record { on = record { all = refl; inside = refl }; calm = λ test file. refl }
 
 pub last : (c : Chip) (mask : ℕ) → On c (last_own c) (last_part mask)
-unfolding access_of has rows
+unfolding access_of has
 last Rp2040 mask = record { all = refl; inside = refl }
 last Rp235x mask = record { all = refl; inside = refl }

@@ -8,7 +8,7 @@ use Rattle.divider.specs.{Delay.startup_sum, Delay.cycles_per_us, Delay.settling
 use Rattle.config.specs.Presets.{crystal_plan}
 use Rattle.settings.specs.Settings.{settling_step, settings_of}
 use Rattle.settings.specs.Frequencies.{pll_hz, sources_of, ref_hz, sys_hz}
-use Rattle.registers.specs.Access.{has, rows, access_of}
+use Rattle.registers.specs.Access.{has, access_of}
 use Rattle.sheet_steps.specs.Steps.{head_part, ring_part, voltage_part, crystal_part, switch_steps, sys_part}
 use Rattle.sheet_steps.specs.Steps.{peri_part, aux_part, rtc_part, release_mask, clocks_part, steps_of}
 use Rattle.clock_tree.specs.Machine.{carried_out}
@@ -43,7 +43,7 @@ pub crystal-2040 : (before : ℕ → ℕ)
     ∷ before 0x40064000 ∷ before 0x40064004  -- VREG, BOD: as they were
     ∷ []
 unfolding startup_sum cycles_per_us settling_cycles divided_hz settling_step pll_hz sources_of ref_hz sys_hz head_part ring_part voltage_part
-    crystal_part switch_steps sys_part peri_part aux_part rtc_part clocks_part steps_of has rows access_of release_mask
+    crystal_part switch_steps sys_part peri_part aux_part rtc_part clocks_part steps_of has access_of release_mask
 crystal-2040 before = refl
 
 -- the RP235x: 150 MHz from 12 MHz
@@ -70,5 +70,5 @@ pub crystal-235x : (before : ℕ → ℕ)
     ∷ before 0x4010000C ∷ before 0x4010001C  -- POWMAN VREG, BOD: as they were
     ∷ []
 unfolding startup_sum cycles_per_us settling_cycles divided_hz settling_step pll_hz sources_of ref_hz sys_hz head_part ring_part voltage_part
-    crystal_part switch_steps sys_part peri_part aux_part rtc_part clocks_part steps_of has rows access_of release_mask
+    crystal_part switch_steps sys_part peri_part aux_part rtc_part clocks_part steps_of has access_of release_mask
 crystal-235x before = refl

@@ -6,13 +6,13 @@ use mathlib.Core.{Bool.Bool, Bool.true, Bool.false, Bool.◌&&◌, Bool.not, Pat
 use mathlib.Core.List.{[], ◌∷◌}
 use Prim.Native.Nat.{ℕ, zero, suc}
 use lib.{Dec.eqb, ListN.get_or}
-use Rattle.base.proofs.Bools.{both_true}
+use Rattle.std.proofs.lemmas.Bool.{and_parts}
 use Rattle.chip.specs.declared.{Chip.Chip, Chip.TheVariants.Rp2040, Chip.TheVariants.Rp235x}
 use Rattle.pll.specs.declared.PllConfig.{PllConfig}
 use Rattle.config.specs.declared.{Board.Board}
 use Rattle.settings.specs.declared.{Crystal.Crystal, Sources.Sources}
 use Rattle.settings.specs.Frequencies.{pll_hz, sources_of}
-use Rattle.registers.specs.Access.{has, rows, access_of}
+use Rattle.registers.specs.Access.{has, access_of}
 use Rattle.registers.specs.Map.{RESET, XOSC_CTRL, ROSC_CTRL, CLK_REF_CTRL, CLK_SYS_CTRL, PLL_PWR}
 use Rattle.sheet_steps.specs.Steps.{mark_steps, head_part, ring_part, voltage_part, crystal_part}
 use Rattle.clock_tree.specs.Machine.{bits_at, held, carried_out}
@@ -54,7 +54,7 @@ pub record Referred (c : Chip) (f : Sources) (file : ℕ → ℕ) : Type 0 where
 -- ---- the parts
 
 pub mark : (c : Chip) → Walk c (source_runs c) (Awake c) (Awake c) (mark_steps c)
-unfolding access_of has rows
+unfolding access_of has
 mark Rp2040 = record { walk = λ file p. (refl, p) }
 mark Rp235x = record { walk = λ file p. (refl, record { ring = p.ring; reference = p.reference }) }
 
@@ -64,10 +64,10 @@ runs_on : (m n : ℕ) (ring xosc p q u v h : Bool)
     → get_or (ring ∷ get_or ((p && ((q && (u && true)) && v)) ∷ []) n false ∷ xosc ∷ []) m false ≡ true
 runs_on zero n ring xosc p q u v h e = e
 runs_on (suc zero) zero ring xosc p q u v h e =
-    let e0 = both_true p ((q && (u && not h)) && v) e in
-    let e1 = both_true (q && (u && not h)) v e0.1 in
-    let e2 = both_true q (u && not h) e1.0 in
-    let e3 = both_true u (not h) e2.1 in
+    let e0 = and_parts p ((q && (u && not h)) && v) e in
+    let e1 = and_parts (q && (u && not h)) v e0.1 in
+    let e2 = and_parts q (u && not h) e1.0 in
+    let e3 = and_parts u (not h) e2.1 in
     rw (e0.0, e2.0, e3.0, e1.1)
 runs_on (suc zero) (suc n) ring xosc p q u v h e = e
 runs_on (suc (suc zero)) n ring xosc p q u v h e = e
@@ -87,7 +87,7 @@ on-released c file e =
     (held c 1 (file (RESET c))) e
 
 pub head : (c : Chip) → Walk c (source_runs c) (Awake c) (Headed c) (head_part c)
-unfolding access_of has rows head_part
+unfolding access_of has head_part
 head Rp2040 =
     record {
       walk = λ file p. (
@@ -114,7 +114,7 @@ head Rp235x =
     }
 
 pub ring : (c : Chip) (pass : ℕ) (r : Option RoscConfig) → Walk c (source_runs c) (Headed c) (Headed c) (ring_part pass r)
-unfolding access_of has rows ring_part
+unfolding access_of has ring_part
 ring Rp2040 pass (Some r) =
     record { walk = λ file p. (refl, record { ring = range-on r.range; reset = p.reset; sys = p.sys; usb = p.usb }) }
 ring Rp2040 pass None =
@@ -149,7 +149,7 @@ voltage reading b settling =
 
 -- the crystal's part waits for no source
 crystal-quiet : (c : Chip) (delay : ℕ) (a b : Option PllConfig) (file : ℕ → ℕ) → all_waits c (source_runs c) (crystal_steps delay a b) file ≡ true
-unfolding access_of has rows
+unfolding access_of has
 crystal-quiet Rp2040 delay (Some p) (Some q) file = refl
 crystal-quiet Rp2040 delay (Some p) None file = refl
 crystal-quiet Rp2040 delay None (Some q) file = refl

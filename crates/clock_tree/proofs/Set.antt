@@ -7,14 +7,16 @@ use native.Mathlib.Omega.{arith}
 use lib.{Dec.eqb, Bits.bit_and}
 use Rattle.base.specs.Choice.{pick}
 use Rattle.chip.specs.declared.{Chip.Chip, Chip.TheVariants.Rp2040, Chip.TheVariants.Rp235x}
-use Rattle.step.specs.Kinds as kind
+use Rattle.step.specs.declared.kind.Kind.{Kind}
+use Rattle.step.specs.declared.kind.Kind.TheVariants as kind
 use Rattle.config.specs.declared.{RoscRange.RoscRange, RefClkConfig.RefClkConfig}
 use Rattle.pll.specs.declared.PllConfig.{PllConfig}
 use Rattle.config.specs.declared.{SysClkSrc.SysClkSrc, Board.Board, PeriClkSrc.PeriClkSrc}
 use Rattle.config.specs.declared.{AuxClkConfig.AuxClkConfig, RtcClkConfig.RtcClkConfig}
 use Rattle.settings.specs.declared.Crystal.{Crystal}
-use Rattle.settings.specs.{Settings.ring_hz, Codes.range_code, Codes.ref_code, Codes.sys_select, Codes.sys_aux, Codes.peri_aux, Codes.aux_code}
-use Rattle.registers.specs.Access.{has, rows, access_of}
+use Rattle.config.specs.Codes.{range_code, ref_code, sys_select, sys_aux, peri_aux, aux_code}
+use Rattle.settings.specs.Settings.{ring_hz}
+use Rattle.registers.specs.Access.{has, access_of}
 use Rattle.registers.specs.Map.{on, field, RESET, CLK_REF_CTRL, CLK_REF_DIV, CLK_SYS_CTRL, CLK_SYS_DIV, CLK_PERI_CTRL}
 use Rattle.registers.specs.Map.{CLK_USB_CTRL, CLK_USB_DIV, CLK_ADC_CTRL, CLK_ADC_DIV, CLK_RTC_CTRL, CLK_RTC_DIV, XOSC_CTRL, ROSC_CTRL}
 use Rattle.registers.specs.Map.{PLL_CS, PLL_PWR, PLL_FBDIV_INT, PLL_PRIM, BLOCKS, REF_SRC, SYS_SRC, AUXSRC, ENABLE, PHASE, INT}
@@ -27,7 +29,7 @@ use Rattle.clock_tree.proofs.Parts.{crystal_steps, system_steps}
 -- the head leaves no block in reset, and both PLLs without power
 pub head-sets : (c : Chip) (file : ℕ → ℕ) → let after = carried_out c (head_part c) file in
     (after (RESET c) ≡ 0) × (after (PLL_PWR c 0) ≡ 0x2D) × (after (PLL_PWR c 1) ≡ 0x2D)
-unfolding access_of has rows head_part
+unfolding access_of has head_part
 head-sets Rp2040 file = (refl, refl, refl)
 head-sets Rp235x file = (refl, refl, refl)
 
@@ -44,7 +46,7 @@ zero-hz false = refl
 -- the ring oscillates
 pub ring-sets : (c : Chip) (pass : ℕ) (r : Option RoscConfig) (file : ℕ → ℕ)
     → pick (oscillates (carried_out c (ring_part pass r) file (ROSC_CTRL c))) (ring_hz r) 0 ≡ ring_hz r
-unfolding access_of has rows ring_part
+unfolding access_of has ring_part
 ring-sets Rp2040 pass (Some r) file = ap (λ (on : Bool). pick on r.hz 0) (range-on r.range)
 ring-sets Rp235x pass (Some r) file = ap (λ (on : Bool). pick on r.hz 0) (range-on r.range)
 ring-sets c pass None file = zero-hz (oscillates (carried_out c (ring_part pass None) file (ROSC_CTRL c)))
@@ -72,7 +74,7 @@ pub record Plls (c : Chip) (a b : Option PllConfig) (file : ℕ → ℕ) : Type 
 
 crystal-of : (c : Chip) (delay : ℕ) (a b : Option PllConfig) (file : ℕ → ℕ)
     → file (PLL_PWR c 0) ≡ 0x2D → file (PLL_PWR c 1) ≡ 0x2D → Plls c a b (carried_out c (crystal_steps delay a b) file)
-unfolding access_of has rows
+unfolding access_of has
 crystal-of Rp2040 delay (Some p) (Some q) file h k =
     record { on = refl; sys = (refl, refl, refl, refl); usb = (refl, refl, refl, refl) }
 crystal-of Rp2040 delay (Some p) None file h k =
@@ -100,7 +102,7 @@ crystal-sets c None file h k = (h, k)
 
 pub ref-sets : (c : Chip) (hz : ℕ) (r : RefClkConfig) (file : ℕ → ℕ) → let after = carried_out c (ref_part c hz r) file in
     (after (CLK_REF_CTRL c) ≡ REF_SRC (ref_code r.src)) × (after (CLK_REF_DIV c) ≡ INT c (r.div % 4))
-unfolding access_of has rows
+unfolding access_of has
 ref-sets Rp2040 hz r file = (refl, refl)
 ref-sets Rp235x hz r file = (refl, refl)
 
@@ -111,7 +113,7 @@ packed c whole fraction = on c (field 8 24 whole + field 0 8 fraction) (field 16
 system-of : (c : Chip) (same : Bool) (hz aux select whole fraction : ℕ) (file : ℕ → ℕ)
     → let after = carried_out c (system_steps c same hz aux select whole fraction) file in
     (after (CLK_SYS_CTRL c) ≡ AUXSRC aux + SYS_SRC select) × (after (CLK_SYS_DIV c) ≡ packed c whole fraction)
-unfolding access_of has rows
+unfolding access_of has
 system-of Rp2040 true hz aux select whole fraction file = (refl, refl)
 system-of Rp2040 false hz aux select whole fraction file = (refl, refl)
 system-of Rp235x true hz aux select whole fraction file = (refl, refl)
@@ -126,7 +128,7 @@ sys-sets b hz src file =
 
 pub peri-sets : (c : Chip) (hz : ℕ) (src : PeriClkSrc) (file : ℕ → ℕ)
     → carried_out c (peri_part hz (Some src)) file (CLK_PERI_CTRL c) ≡ AUXSRC (peri_aux src) + ENABLE
-unfolding access_of has rows peri_part
+unfolding access_of has peri_part
 peri-sets Rp2040 hz src file = refl
 peri-sets Rp235x hz src file = refl
 
@@ -135,16 +137,16 @@ abbrev pub control : ℕ → ℕ → ℕ
 control phase aux = PHASE phase + AUXSRC aux + ENABLE
 
 pub usb-sets : (c : Chip) (hz : ℕ) (a : AuxClkConfig) (file : ℕ → ℕ)
-    → let after = carried_out c (aux_part kind.usb_divider kind.usb_control 7 hz (Some a)) file in
+    → let after = carried_out c (aux_part kind.UsbDivider kind.UsbControl 7 hz (Some a)) file in
     (after (CLK_USB_CTRL c) ≡ control a.phase (aux_code a.src)) × (after (CLK_USB_DIV c) ≡ INT c (a.div % 4))
-unfolding access_of has rows aux_part
+unfolding access_of has aux_part
 usb-sets Rp2040 hz a file = (refl, refl)
 usb-sets Rp235x hz a file = (refl, refl)
 
 pub adc-sets : (c : Chip) (hz : ℕ) (a : AuxClkConfig) (file : ℕ → ℕ)
-    → let after = carried_out c (aux_part kind.adc_divider kind.adc_control 8 hz (Some a)) file in
+    → let after = carried_out c (aux_part kind.AdcDivider kind.AdcControl 8 hz (Some a)) file in
     (after (CLK_ADC_CTRL c) ≡ control a.phase (aux_code a.src)) × (after (CLK_ADC_DIV c) ≡ INT c (a.div % 4))
-unfolding access_of has rows aux_part
+unfolding access_of has aux_part
 adc-sets Rp2040 hz a file = (refl, refl)
 adc-sets Rp235x hz a file = (refl, refl)
 
@@ -152,23 +154,23 @@ pub rtc-sets : (hz : ℕ) (r : RtcClkConfig) (file : ℕ → ℕ)
     → let after = carried_out Rp2040 (rtc_part Rp2040 hz (Some r)) file in
     (after CLK_RTC_CTRL ≡ control r.phase (aux_code r.src))
     × (after CLK_RTC_DIV ≡ packed Rp2040 r.div_int r.div_frac)
-unfolding access_of has rows rtc_part
+unfolding access_of has rtc_part
 rtc-sets hz r file = (refl, refl)
 
 -- the part of a clock that the plan lacks sets nothing
 pub peri-absent : (c : Chip) (hz : ℕ) (file : ℕ → ℕ) (x : ℕ) → carried_out c (peri_part hz None) file x ≡ file x
-unfolding access_of has rows peri_part
+unfolding access_of has peri_part
 peri-absent Rp2040 hz file x = refl
 peri-absent Rp235x hz file x = refl
 
-pub aux-absent : (c : Chip) (divider set clock hz : ℕ) (file : ℕ → ℕ) (x : ℕ)
+pub aux-absent : (c : Chip) (divider set : Kind) (clock hz : ℕ) (file : ℕ → ℕ) (x : ℕ)
     → carried_out c (aux_part divider set clock hz None) file x ≡ file x
-unfolding access_of has rows aux_part
+unfolding access_of has aux_part
 aux-absent Rp2040 divider set clock hz file x = refl
 aux-absent Rp235x divider set clock hz file x = refl
 
 pub rtc-absent : (c : Chip) (hz : ℕ) (file : ℕ → ℕ) (x : ℕ) → carried_out c (rtc_part c hz None) file x ≡ file x
-unfolding access_of has rows rtc_part
+unfolding access_of has rtc_part
 rtc-absent Rp2040 hz file x = refl
 rtc-absent Rp235x hz file x = refl
 
@@ -179,7 +181,7 @@ released mask v e = ap (λ (n : ℕ). n - bit_and n (BLOCKS mask) + 0) e ∙ ome
 pub last-sets : (c : Chip) (mask : ℕ) (file : ℕ → ℕ) → file (RESET c) ≡ 0
     → let after = carried_out c (last_part mask) file in
     (after (RESET c) ≡ 0) × (after (PLL_PWR c 0) ≡ file (PLL_PWR c 0)) × (after (PLL_PWR c 1) ≡ file (PLL_PWR c 1))
-unfolding access_of has rows
+unfolding access_of has
 last-sets Rp2040 mask file e =
     let z = released mask (file (RESET Rp2040)) e in (
       z,

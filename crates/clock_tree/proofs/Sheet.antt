@@ -6,7 +6,7 @@ use lib.ListN.{get_or, take, drop}
 use Rattle.chip.specs.declared.Chip.{Chip}
 use Rattle.chip.specs.Chips.{facts_of}
 use Rattle.step.specs.declared.Step.{Step}
-use Rattle.step.specs.Kinds as kind
+use Rattle.step.specs.declared.kind.Kind.TheVariants as kind
 use Rattle.settings.specs.declared.{Settings.Settings, Frequencies.Frequencies}
 use Rattle.settings.specs.Frequencies.{frequencies_of}
 use Rattle.sheet_steps.specs.Steps.{mark_steps, head_part, ring_part, voltage_part, crystal_part, source_part, ref_part, sys_part, peri_part}
@@ -74,8 +74,8 @@ parts_of reading s =
     ∷ ref_part c f.reference s.reference
     ∷ sys_part s.board f.sys s.sys
     ∷ peri_part f.peri s.peri
-    ∷ aux_part kind.usb_divider kind.usb_control 7 f.usb s.usb
-    ∷ aux_part kind.adc_divider kind.adc_control 8 f.adc s.adc
+    ∷ aux_part kind.UsbDivider kind.UsbControl 7 f.usb s.usb
+    ∷ aux_part kind.AdcDivider kind.AdcControl 8 f.adc s.adc
     ∷ rtc_part c f.rtc s.board.rtc
     ∷ last_part (release_mask c s.peri s.usb s.adc s.board.rtc)
     ∷ []

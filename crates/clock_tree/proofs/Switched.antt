@@ -5,18 +5,19 @@ use Prim.Native.Nat.{ℕ, ◌+◌, ◌*◌, ◌/◌}
 use native.Mathlib.{Nat.div-le_self, Omega.arith}
 use lib.{Dec.eqb}
 use borrow.Author.Tests.{eqb-false}
-use Rattle.base.proofs.Bools.{both_false}
+use Rattle.std.proofs.lemmas.Bool.{or_parts}
 use Rattle.chip.specs.declared.{Chip.Chip, Chip.TheVariants.Rp2040, Chip.TheVariants.Rp235x}
 use Rattle.chip.specs.Chips.{facts_of}
 use Rattle.divider.specs.Clock.{divided_hz}
 use Rattle.config.specs.declared.{RefClkSrc.RefClkSrc}
 use Rattle.config.specs.declared.{RefClkConfig.RefClkConfig, SysClkSrc.SysClkSrc, Board.Board}
 use Rattle.settings.specs.declared.{Sources.Sources, Frequencies.Frequencies}
-use Rattle.settings.specs.{Settings.settings_of, Codes.sys_select, Codes.sys_aux}
+use Rattle.config.specs.Codes.{sys_select, sys_aux}
+use Rattle.settings.specs.Settings.{settings_of}
 use Rattle.settings.specs.Frequencies.{ref_source, ref_hz, sys_source, sys_hz, sources_in, ref_in, frequencies_of}
 use Rattle.refusals.specs.Rules.{reference_bad}
 use Rattle.refusals.proofs.Accepted.{accepted-by}
-use Rattle.registers.specs.Access.{has, rows, access_of}
+use Rattle.registers.specs.Access.{has, access_of}
 use Rattle.registers.specs.Map.{XOSC_CTRL, ROSC_CTRL}
 use Rattle.sheet_steps.specs.Steps.{source_part, ref_part, switch_steps}
 use Rattle.sheet_steps.specs.Steps.{sys_part, release_mask, last_part, clocks_part, steps_of}
@@ -28,7 +29,7 @@ use Rattle.clock_tree.proofs.Walk.{Walk, ◌then◌, Any, calmly}
 use Rattle.clock_tree.proofs.Running.{NonZero, Running, Referred, mark, head, ring, voltage, crystal}
 
 source : (c : Chip) (f : Sources) → Walk c (source_runs c) (Running c f) (Running c f) (source_part f)
-unfolding access_of has rows
+unfolding access_of has
 source Rp2040 f =
     record { walk = λ file p. (refl, record { ring = p.ring; xosc = p.xosc; sys = p.sys; usb = p.usb }) }
 source Rp235x f =
@@ -37,14 +38,14 @@ source Rp235x f =
 -- the reference part keeps the sources
 moved : (c : Chip) (f : Sources) (stored : ℕ) (r : RefClkConfig) (file : ℕ → ℕ) → Running c f file
     → Running c f (carried_out c (ref_part c stored r) file)
-unfolding access_of has rows
+unfolding access_of has
 moved Rp2040 f stored r file p = record { ring = p.ring; xosc = p.xosc; sys = p.sys; usb = p.usb }
 moved Rp235x f stored r file p = record { ring = p.ring; xosc = p.xosc; sys = p.sys; usb = p.usb }
 
 -- the source of the reference clock runs
 ref-runs : (c : Chip) (f : Sources) (stored div : ℕ) (src : RefClkSrc) → NonZero (ref_source f src)
     → Walk c (source_runs c) (Running c f) (Referred c f) (ref_part c stored (record { src = src; div = div }))
-unfolding access_of has rows
+unfolding access_of has
 ref-runs Rp2040 f stored div RefClkSrc.Rosc nonzero =
     record {
       walk = λ file p. (
@@ -94,7 +95,7 @@ both a b h k = rw (h, k)
 
 sys-runs : (c : Chip) (f : Sources) (reference stored whole fraction : ℕ) (src : SysClkSrc) → NonZero (sys_source f reference src)
     → Walk c (source_runs c) (Referred c f) Any (system_steps c (eqb (sys_select src) 0) stored (sys_aux src) (sys_select src) whole fraction)
-unfolding access_of has rows
+unfolding access_of has
 sys-runs Rp2040 f reference stored whole fraction SysClkSrc.Ref nonzero =
     record { walk = λ file p. (ap (λ (b : Bool). b && true) p.reference, tt) }
 sys-runs Rp2040 f reference stored whole fraction SysClkSrc.PllSys nonzero =
@@ -129,7 +130,7 @@ system b f reference stored src nonzero = sys-runs b.chip f reference stored b.w
 
 -- the last part waits for no source
 last : (c : Chip) (mask : ℕ) → Walk c (source_runs c) Any Any (last_part mask)
-unfolding access_of has rows
+unfolding access_of has
 last Rp2040 mask = record { walk = λ file p. (refl, tt) }
 last Rp235x mask = record { walk = λ file p. (refl, tt) }
 
@@ -140,7 +141,8 @@ zero-over n d e = omega (arith, e, div-le_self n d)
 
 ref-source : (f : Sources) (r : RefClkConfig) → reference_bad (ref_hz f r) ≡ false → NonZero (ref_source f r.src)
 unfolding reference_bad ref_hz
-ref-source f r e still = eqb-false (ref_hz f r) 0 (both_false (eqb (ref_hz f r) 0) _ e).0 (zero-over (ref_source f r.src) r.div still)
+ref-source f r e still =
+    eqb-false (ref_hz f r) 0 (or_parts (eqb (ref_hz f r) 0) _ e).0 (zero-over (ref_source f r.src) r.div still)
 
 sys-source : (b : Board) (f : Sources) (reference : ℕ) (src : SysClkSrc) → eqb (sys_hz b f reference src) 0 ≡ false
     → NonZero (sys_source f reference src)

@@ -7,10 +7,10 @@ use mathlib.Core.List.{List, [], ◌∷◌}
 use Prim.Native.Nat.{ℕ, suc, ◌≤◌}
 use lib.{Dec.eqb, Dec.ltb, ListN.take, ListN.drop}
 use Rattle.base.specs.Choice.{pick}
-use Rattle.base.proofs.Bools.{both_false}
+use Rattle.std.proofs.lemmas.Bool.{or_parts}
 use Rattle.chip.specs.declared.{Chip.Chip, Chip.TheVariants.Rp2040, Chip.TheVariants.Rp235x}
 use Rattle.chip.specs.Chips.{facts_of}
-use Rattle.step.specs.Kinds as kind
+use Rattle.step.specs.declared.kind.Kind.TheVariants as kind
 use Rattle.config.specs.declared.{ChipConfig.ChipConfig}
 use Rattle.pll.specs.declared.PllConfig.{PllConfig}
 use Rattle.config.specs.Board.{board_of}
@@ -156,7 +156,7 @@ crystal-ends reading s before =
     (holds 13 4 reading s before (PLL_PRIM c 1) free.1.1.1.1.1.1.0))
     (crystal-sets c s.xosc start off0 off1)
 
-sources-are : (reading : ℕ) (s : Settings) (before : ℕ → ℕ) → refusal_of s reading ≡ 0
+sources-are : (reading : ℕ) (s : Settings) (before : ℕ → ℕ) → refusal_of s reading ≡ None
     → sources_at s.board.chip (sources_in s).rosc (sources_in s).xosc (up_to 13 reading s before) ≡ sources_in s
 sources-are reading s before ok =
     let c : Chip = s.board.chip in
@@ -186,7 +186,7 @@ peri-runs c hz None f now system divider file before after e0 e1 e2 e3 =
     e0 ∙ peri-absent c hz file (CLK_PERI_CTRL c) ∙ e1
 
 usb-runs : (c : Chip) (hz : ℕ) (o : Option AuxClkConfig) (f : Sources) (file before after : ℕ → ℕ) → AuxSmall o
-    → let set = carried_out c (aux_part kind.usb_divider kind.usb_control 7 hz o) file in
+    → let set = carried_out c (aux_part kind.UsbDivider kind.UsbControl 7 hz o) file in
     after (CLK_USB_CTRL c) ≡ set (CLK_USB_CTRL c) → after (CLK_USB_DIV c) ≡ set (CLK_USB_DIV c)
     → file (CLK_USB_CTRL c) ≡ before (CLK_USB_CTRL c)
     → Runs (has_aux o) (usb_at c f after) (aux_hz f o) (CLK_USB_CTRL c) before after
@@ -194,10 +194,10 @@ usb-runs c hz (Some a) f file before after small e0 e1 e2 =
     let set = usb-sets c hz a file in
     aux-true c f a (after (CLK_USB_CTRL c)) (after (CLK_USB_DIV c)) small (e0 ∙ set.0) (e1 ∙ set.1)
 usb-runs c hz None f file before after small e0 e1 e2 =
-    e0 ∙ aux-absent c kind.usb_divider kind.usb_control 7 hz file (CLK_USB_CTRL c) ∙ e2
+    e0 ∙ aux-absent c kind.UsbDivider kind.UsbControl 7 hz file (CLK_USB_CTRL c) ∙ e2
 
 adc-runs : (c : Chip) (hz : ℕ) (o : Option AuxClkConfig) (f : Sources) (file before after : ℕ → ℕ) → AuxSmall o
-    → let set = carried_out c (aux_part kind.adc_divider kind.adc_control 8 hz o) file in
+    → let set = carried_out c (aux_part kind.AdcDivider kind.AdcControl 8 hz o) file in
     after (CLK_ADC_CTRL c) ≡ set (CLK_ADC_CTRL c) → after (CLK_ADC_DIV c) ≡ set (CLK_ADC_DIV c)
     → file (CLK_ADC_CTRL c) ≡ before (CLK_ADC_CTRL c)
     → Runs (has_aux o) (adc_at c f after) (aux_hz f o) (CLK_ADC_CTRL c) before after
@@ -205,7 +205,7 @@ adc-runs c hz (Some a) f file before after small e0 e1 e2 =
     let set = adc-sets c hz a file in
     aux-true c f a (after (CLK_ADC_CTRL c)) (after (CLK_ADC_DIV c)) small (e0 ∙ set.0) (e1 ∙ set.1)
 adc-runs c hz None f file before after small e0 e1 e2 =
-    e0 ∙ aux-absent c kind.adc_divider kind.adc_control 8 hz file (CLK_ADC_CTRL c) ∙ e2
+    e0 ∙ aux-absent c kind.AdcDivider kind.AdcControl 8 hz file (CLK_ADC_CTRL c) ∙ e2
 
 -- only a plan for the RP2040 has an RTC
 abbrev RtcOf : Chip → Option RtcClkConfig → Type 0
@@ -224,7 +224,7 @@ rtc-whole source hz r e =
     let still : Bool = eqb source 0 in
     let h3 = none_more (still || whole_bad 16777215 r.div_int || ltb 3 r.phase) 65535 hz e in
     let h2 = none_more (still || whole_bad 16777215 r.div_int) 3 r.phase h3.0 in
-    whole-good 16777215 r.div_int (both_false still (whole_bad 16777215 r.div_int) h2.0).1
+    whole-good 16777215 r.div_int (or_parts still (whole_bad 16777215 r.div_int) h2.0).1
 
 rtc-runs : (c : Chip) (source hz : ℕ) (o : Option RtcClkConfig) (f : Sources) (file before after : ℕ → ℕ)
     → RtcOf c o → RtcTyped o → rtc_bad source hz o ≡ false
@@ -242,7 +242,7 @@ rtc-runs c source hz None f file before after one typed good e0 e1 e2 =
 
 -- ---- all clocks, over the sources that the sheet stores
 
-true_of : (reading : ℕ) (s : Settings) (before : ℕ → ℕ) → refusal_of s reading ≡ 0 → Typed s → RtcOf s.board.chip s.board.rtc
+true_of : (reading : ℕ) (s : Settings) (before : ℕ → ℕ) → refusal_of s reading ≡ None → Typed s → RtcOf s.board.chip s.board.rtc
     → (now : Sources) → now ≡ sources_in s
     → AllTrue s (frequencies_of s) s.board.chip now before (up_to 13 reading s before)
 unfolding sys_hz

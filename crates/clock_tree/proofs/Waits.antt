@@ -14,7 +14,7 @@ use Rattle.chip.specs.declared.{Chip.Chip, Chip.TheVariants.Rp2040, Chip.TheVari
 use Rattle.chip.specs.Chips.{facts_of}
 use Rattle.step.specs.declared.Step.{Step}
 use Rattle.step.specs.Steps.{step_of}
-use Rattle.step.specs.Kinds as kind
+use Rattle.step.specs.declared.kind.Kind.TheVariants as kind
 use Rattle.pll.specs.declared.PllConfig.{PllConfig}
 use Rattle.pll.specs.{Ranges.reference_min, Ranges.reference_max, Ranges.vco_min, Ranges.vco_max}
 use Rattle.pll.specs.Setting.{reference_of, vco_of, valid_of}
@@ -22,11 +22,12 @@ use Rattle.pll.proofs.Valid.{Valid, valid}
 use Rattle.config.specs.declared.{RefClkConfig.RefClkConfig}
 use Rattle.config.specs.declared.{SysClkSrc.SysClkSrc, Board.Board}
 use Rattle.settings.specs.declared.{Crystal.Crystal, Frequencies.Frequencies}
-use Rattle.settings.specs.{Settings.settings_of, Codes.ref_code, Codes.sys_select, Codes.sys_aux}
+use Rattle.config.specs.Codes.{ref_code, sys_select, sys_aux}
+use Rattle.settings.specs.Settings.{settings_of}
 use Rattle.settings.specs.Frequencies.{sources_of, sources_in, frequencies_of}
 use Rattle.refusals.specs.Rules.{pll_invalid, sys_pll_invalid, usb_pll_invalid}
 use Rattle.refusals.proofs.Accepted.{accepted-by}
-use Rattle.registers.specs.Access.{has, rows, access_of}
+use Rattle.registers.specs.Access.{has, access_of}
 use Rattle.registers.specs.Map.{RESET, XOSC_CTRL, CLK_REF_CTRL, CLK_SYS_CTRL, PLL_CS, PLL_FBDIV_INT, BLOCKS, REF_SRC}
 use Rattle.registers.specs.Map.{SYS_SRC, AUXSRC, REFDIV, FBDIV, CLK_PERI_CTRL, CLK_USB_CTRL, CLK_USB_DIV}
 use Rattle.registers.specs.Map.{CLK_ADC_CTRL, CLK_ADC_DIV, CLK_RTC_CTRL, CLK_RTC_DIV}
@@ -73,7 +74,7 @@ both-selected : (m n : ℕ) → m ≡ 0 → n ≡ 0 → (eqb 1 (2 ^ m) && (eqb 1
 both-selected m n e0 e1 = rw (e0, e1)
 
 head : (c : Chip) (hz : ℕ) → Walk c (can_come c hz) Any (Released c) (head_part c)
-unfolding access_of has rows head_part
+unfolding access_of has head_part
 head Rp2040 hz =
     record {
       walk = λ file p.
@@ -110,11 +111,11 @@ pll-locks c w hz p file v on power e0 e1 =
 -- the steps before the wait for lock
 abbrev powered : ℕ → PllConfig → List Step
 powered w p =
-    step_of kind.pll_power w 1 1 1 1
-    ∷ step1 kind.delay 10
-    ∷ step2 kind.pll_reference w p.refdiv
-    ∷ step2 kind.pll_feedback w p.fbdiv
-    ∷ step_of kind.pll_power w 0 0 1 1
+    step_of kind.PllPower w 1 1 1 1
+    ∷ step1 kind.Delay 10
+    ∷ step2 kind.PllReference w p.refdiv
+    ∷ step2 kind.PllFeedback w p.fbdiv
+    ∷ step_of kind.PllPower w 0 0 1 1
     ∷ []
 
 -- nothing is in reset, and the crystal oscillates
@@ -125,7 +126,7 @@ record Lit (c : Chip) (file : ℕ → ℕ) : Type 0 where
 -- a PLL's steps, by whether it is the USB PLL
 pll : (c : Chip) (usb : Bool) (hz : ℕ) (o : Option PllConfig) → pll_invalid hz o ≡ false
     → Walk c (can_come c hz) (Lit c) (Lit c) (pll_steps (bit usb) o)
-unfolding access_of has rows
+unfolding access_of has
 pll Rp2040 false hz (Some p) e = record {
   walk = λ file lit. (
     ap (λ (b : Bool). b && true)
@@ -166,11 +167,11 @@ plls c hz a b e u = pll c false hz a e then pll c true hz b u
 
 -- the steps before the PLLs
 abbrev started : ℕ → List Step
-started delay = step1 kind.startup delay ∷ step0 kind.crystal_on ∷ step0 kind.wait_stable ∷ []
+started delay = step1 kind.Startup delay ∷ step0 kind.CrystalOn ∷ step0 kind.WaitStable ∷ []
 
 crystal-of : (c : Chip) (hz delay : ℕ) (a b : Option PllConfig) → pll_invalid hz a ≡ false → pll_invalid hz b ≡ false
     → Comes c hz (crystal_steps delay a b)
-unfolding access_of has rows
+unfolding access_of has
 crystal-of Rp2040 hz delay a b e u =
     record {
       walk = λ file p.
@@ -205,13 +206,13 @@ sys-selected aux k =
     (eq-eqb (2 ^ (k % 2)) (2 ^ bits_at 0 1 (AUXSRC aux + SYS_SRC k)) (ap (λ (n : ℕ). 2 ^ n) same))
 
 reference : (c : Chip) (hz stored : ℕ) (r : RefClkConfig) → Comes c hz (ref_part c stored r)
-unfolding access_of has rows
+unfolding access_of has
 reference Rp2040 hz stored r = record { walk = λ file p. (ref-selected (ref_code r.src), record { reset = p.reset }) }
 reference Rp235x hz stored r = record { walk = λ file p. (ref-selected (ref_code r.src), record { reset = p.reset }) }
 
 system-of : (c : Chip) (hz : ℕ) (same : Bool) (stored aux select whole fraction : ℕ)
     → Comes c hz (system_steps c same stored aux select whole fraction)
-unfolding access_of has rows
+unfolding access_of has
 system-of Rp2040 hz true stored aux select whole fraction =
     record { walk = λ file p. (sys-selected aux select, record { reset = p.reset }) }
 system-of Rp2040 hz false stored aux select whole fraction =
@@ -231,7 +232,7 @@ none-held : (mask v : ℕ) → v ≡ 0 → (eqb (bit_and (v - bit_and v (BLOCKS 
 none-held mask v e = rw e
 
 last : (c : Chip) (hz mask : ℕ) → Comes c hz (last_part mask)
-unfolding access_of has rows
+unfolding access_of has
 last Rp2040 hz mask =
     record {
       walk = λ file p. (

@@ -1,7 +1,7 @@
 -- A walk over steps: from a file with property P, the test holds at each wait, and the file after the steps has property Q.
 use mathlib.Core.{Bool.Bool, Bool.true, Bool.false, Path.◌≡◌, Path.sym, Path.subst, List.List, List.[], List.◌∷◌, List.◌++◌}
 use Prim.Native.Nat.{ℕ}
-use Rattle.base.proofs.Bools.{both_true}
+use Rattle.std.proofs.lemmas.Bool.{and_parts}
 use Rattle.chip.specs.declared.Chip.{Chip}
 use Rattle.step.specs.declared.Step.{Step}
 use Rattle.registers.specs.declared.Access.{Access}
@@ -19,7 +19,7 @@ pub waits-append : (c : Chip) (test : Access → (ℕ → ℕ) → Bool) (xs ys 
 waits-append c test [] ys file h k = k
 waits-append c test (x ∷ xs) ys file h k =
     let next : ℕ → ℕ = done c (access_of c x) file in
-    let both = both_true (at_wait test (access_of c x) file) (all_waits c test xs next) h in
+    let both = and_parts (at_wait test (access_of c x) file) (all_waits c test xs next) h in
     simp (both.0, waits-append c test xs ys next both.1 k)
 
 infixr 20 ◌then◌

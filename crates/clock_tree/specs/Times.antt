@@ -1,8 +1,7 @@
 -- The stored frequencies are true: after the steps of a sheet, from any register values, each clock of the plan runs
 -- at the frequency that the sheet stores for it, and the control of an absent clock is unchanged.
-use Rattle.std.specs.Prelude.{Option, Some, None}
+use Rattle.std.specs.Prelude.{Option, Some, None, ℕ}
 use mathlib.Core.{Bool.Bool, Bool.true, Bool.false, Path.◌≡◌}
-use Rattle.std.specs.Prelude.{ℕ}
 use Rattle.chip.specs.declared.Chip.{Chip}
 use Rattle.config.specs.declared.{ClockConfig.ClockConfig, PeriClkSrc.PeriClkSrc, AuxClkConfig.AuxClkConfig, RtcClkConfig.RtcClkConfig}
 use Rattle.settings.specs.declared.{Settings.Settings, Frequencies.Frequencies, Sources.Sources}

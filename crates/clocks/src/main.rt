@@ -9,13 +9,9 @@ fn main(rt: HostRuntime) -> io::Result<()> {
     let mut out = [0u8; 256];
     match input::read_line(&mut rt.stdin(), &mut line) {
         Ok(n) => {
-            let size = report::report(&line, n, &mut out);
+            let size = report::report(&line[..n], &mut out);
             rt.write_all(&out[..size])
         }
-        Err(_) => {
-            let mut refused = [0u8; 11];
-            let size = replies::put_unread(&mut refused);
-            rt.write_all(&refused[..size])
-        }
+        Err(_) => rt.write_all(replies::unread()),
     }
 }

@@ -1,36 +1,22 @@
 -- A case of docs/CASES.md gives its answer and a newline; where the answer is a refusal, its meaning is on a line of its own.
-use mathlib.Core.{Bool.Bool, Bool.◌||◌, List.List, List.[], List.◌++◌}
+use mathlib.Core.{Bool.◌||◌, List.List, List.[], List.◌++◌}
 use Rattle.std.specs.Prelude.{ℕ, min}
 use lib.{ListN.take, ListN.replicate, Seq.sets}
 use Rattle.base.specs.{Answer.Answer, Answer.value, Answer.refusal, Choice.pick, Placed.past}
 use Rattle.text.specs.{Ascii.ascii, Ascii.same, Words.up_to, Decimal.number_of}
-use Rattle.cases.specs.Cases.{answer_to}
+use Rattle.words.specs.Line.{rest_of, word_after}
+use Rattle.cases.specs.Cases.{is_case, answer_to}
 use Rattle.meanings.specs.Refusals.{refusal_text}
-use Rattle.orders.specs.{Line.word_after, Orders.is_order}
+use Rattle.orders.specs.Orders.{is_order}
+use Rattle.commands.specs.declared.texts.Usage.{Usage}
 use Rattle.commands.specs.Texts.{usage_text}
-
--- the names of the cases that take numbers only
-unfoldable pub is_plain : List ℕ → Bool
-is_plain w =
-    ((((((((((same w (ascii "valid") || same w (ascii "output")) || same w (ascii "search")) || same w (ascii "usb_pll"))
-    || same w (ascii "book")) || same w (ascii "margin")) || same w (ascii "voltage")) || same w (ascii "pio"))
-    || same w (ascii "gpout")) || same w (ascii "wait")) || same w (ascii "list"))
-
--- the names of the cases of sheets, runners, benches and slots
-unfoldable pub is_state : List ℕ → Bool
-is_state w =
-    (((((((same w (ascii "sheet") || same w (ascii "read")) || same w (ascii "start")) || same w (ascii "run"))
-    || same w (ascii "bench_start")) || same w (ascii "bench_run")) || same w (ascii "sleep")) || same w (ascii "wake"))
-
--- a case has one of these names or, for a preset, the name of an order
-unfoldable pub is_case : List ℕ → Bool
-is_case w = (is_plain w || is_state w) || is_order w
 
 unfoldable pub unknown_text : List ℕ → List ℕ
 unknown_text word = ascii "no such command: " ++ (word ++ ascii "\nsee dizbaral help\n")
 
+-- `plan` is the name of an order that is no case
 unfoldable pub no_case : List ℕ → List ℕ
-no_case word = pick (is_case word) (usage_text 0) (unknown_text word)
+no_case word = pick (is_case word || is_order word) (usage_text Usage.Case) (unknown_text word)
 
 abbrev pub number_meaning : Answer ℕ → List ℕ
 number_meaning (value n) = refusal_text (min n 255) ++ ascii "\n"
@@ -38,7 +24,7 @@ number_meaning (refusal m) = []
 
 -- the meaning of `refused N`, whatever follows it; any other answer has none
 unfoldable pub meaning_of : List ℕ → List ℕ
-meaning_of said = pick (same (up_to 32 said) (ascii "refused")) (number_meaning (number_of (word_after said 7))) []
+meaning_of said = pick (same (up_to 32 said) (ascii "refused")) (number_meaning (number_of (word_after (rest_of said)))) []
 
 unfoldable pub said_text : List ℕ → List ℕ → List ℕ
 said_text line said = pick (same said (ascii "bad case")) (no_case (up_to 32 line)) (said ++ (ascii "\n" ++ meaning_of said))

@@ -4,7 +4,8 @@ use Rattle.base.specs.declared.refusal.Refusal.{Refusal}
 use mathlib.Core.{Path.◌≡◌, List.List}
 use Rattle.std.specs.Prelude.{ℕ, ltb}
 use Rattle.base.specs.{Answer.Answer, Answer.value, Answer.refusal, Choice.pick}
-use Rattle.text.specs.{Words.up_to, Words.index_from, Decimal.number_of}
+use Rattle.text.specs.{Words.up_to, Decimal.number_of}
+use Rattle.words.specs.Line.{rest_of}
 use Rattle.config.specs.declared.ClockConfig.{ClockConfig}
 use Rattle.settings.specs.{Settings.settings_of, Typed.Typed}
 use Rattle.sheet.specs.Writer.{init_answer, init_buffer}
@@ -30,16 +31,17 @@ TypedOrder (Some (refusal n)) reading = Unit {0}
 TypedOrder None reading = Unit {0}
 
 -- what a call promises: its answer, and the whole buffer after it
-pub record MadeCall (order : Option (Answer ClockConfig)) (reading : ℕ) (before : List ℕ) (r : Option (Result ℕ Refusal)) (after : List ℕ) : Type 0
+pub record MadeCall (order : Option (Answer ClockConfig)) (reading : ℕ) (before : List ℕ) (r : Option (Result ℕ Refusal))
+    (after : List ℕ) : Type 0
   where
     pub answer : answer_in r ≡ made_answer order reading before
     pub bytes : after ≡ made_buffer order reading before
     pub typed : TypedOrder order reading
 
 -- the order at a reading of up to 255; none for any other reading
-abbrev pub order_in : Answer ℕ → List ℕ → ℕ → Option (Answer ClockConfig)
-order_in (value n) line at = pick (ltb 255 n) None (order_of line at n)
-order_in (refusal m) line at = None
+abbrev pub order_in : Answer ℕ → List ℕ → Option (Answer ClockConfig)
+order_in (value n) rest = pick (ltb 255 n) None (order_of rest n)
+order_in (refusal m) rest = None
 
 abbrev pub reading_in : Answer ℕ → ℕ
 reading_in (value n) = n
@@ -47,7 +49,7 @@ reading_in (refusal m) = 0
 
 -- the line's first word is the reading, and the order follows it
 unfoldable pub order_made : List ℕ → Option (Answer ClockConfig)
-order_made line = order_in (number_of (up_to 32 line)) line (index_from line 0 32)
+order_made line = order_in (number_of (up_to 32 line)) (rest_of line)
 
 unfoldable pub reading_made : List ℕ → ℕ
 reading_made line = reading_in (number_of (up_to 32 line))

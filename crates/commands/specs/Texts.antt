@@ -4,6 +4,7 @@ use Prim.Native.{Nat.ℕ, String.String}
 use Rattle.base.specs.Choice.{pick}
 use Rattle.text.specs.Ascii.{ascii}
 use Rattle.meanings.specs.Rows.{lines_of}
+use Rattle.commands.specs.declared.texts.Usage.{Usage}
 
 -- the commands and the forms of an order, on one screen
 abbrev pub help_lines : List String
@@ -37,12 +38,16 @@ help_lines =
 unfoldable pub help_text : List ℕ
 help_text = lines_of help_lines
 
--- the answer to words that a command does not take, with those that it takes: 1 explain, 2 steps, 3 check, 4 make, any other a
--- case
-unfoldable pub usage_text : ℕ → List ℕ
-usage_text k =
-    pick (eqb k 1) (ascii "bad case\nexplain takes READING SHEET: see dizbaral help\n")
-    (pick (eqb k 2) (ascii "bad case\nsteps takes SHEET: see dizbaral help\n")
-    (pick (eqb k 3) (ascii "bad case\ncheck takes READING SHEET ORDER: see dizbaral help\n")
-    (pick (eqb k 4) (ascii "bad case\nmake takes FILE READING ORDER: see dizbaral help\n")
-    (ascii "bad case\ndocs/CASES.md has the words that each case takes\n"))))
+-- the answer to words that a command or a case does not take, with those that it takes
+abbrev pub usage_text : Usage → List ℕ
+usage_text Usage.Case = ascii "bad case\ndocs/CASES.md has the words that each case takes\n"
+usage_text Usage.Explain = ascii "bad case\nexplain takes READING SHEET: see dizbaral help\n"
+usage_text Usage.Steps = ascii "bad case\nsteps takes SHEET: see dizbaral help\n"
+usage_text Usage.Check = ascii "bad case\ncheck takes READING SHEET ORDER: see dizbaral help\n"
+usage_text Usage.Make = ascii "bad case\nmake takes FILE READING ORDER: see dizbaral help\n"
+
+-- the usage of a number: 0 to 4, and any other is that of a case
+abbrev pub usage_numbered : ℕ → Usage
+usage_numbered n =
+    pick (eqb n 1) Usage.Explain
+    (pick (eqb n 2) Usage.Steps (pick (eqb n 3) Usage.Check (pick (eqb n 4) Usage.Make Usage.Case)))

@@ -9,15 +9,15 @@ ghost use Rattle.std.specs.Prelude.{◌≡◌};
 ghost use Rattle.base.specs.Answer.{answer_in};
 ghost use Rattle.base.specs.Placed.{Placed};
 ghost use Rattle.base.specs.Writing.{Puts};
-ghost use Rattle.commands.specs.Commands.{command_named, command_number, explain_of, steps_of};
+ghost use Rattle.commands.specs.Commands.{command_name, command_named, explain_of, steps_of};
 ghost use Rattle.commands.specs.Commands.{checked, compared_of, check_of, answer_of};
 
 use base::Writer;
 use fields::byte_at;
 pub use made::{Made, make};
 use orders::Planned;
-pub use texts::write_usage;
-use words::Words;
+pub use texts::{Usage, write_usage};
+use words::{Words, first_word, next_word};
 
 // A command; any other first word is the name of a case.
 #[derive(Clone, Copy, Debug, PartialEq, Eq)]
@@ -29,51 +29,56 @@ enum Command {
 }
 
 impl Command {
-    // The command with this name; the empty word asks for help.
-    #[tactic(auto, using(std::proofs::lemmas::Bool::Decides::nat_tests), unfolding(crate::specs::Commands::command_named))]
-    fn named(word: &[u8]) -> Option<Command>
-        ensures { command_number result ≡ command_named word.now }
+    const ALL: [Command; 4] = [
+        Command::Help,
+        Command::Explain,
+        Command::Steps,
+        Command::Check,
+    ];
+
+    fn name(self) -> &'static [u8]
+        ensures { result.now ≡ command_name self }
     {
-        if word.len() == 0 {
-            return Some(Command::Help);
+        match self {
+            Command::Help => b"help",
+            Command::Explain => b"explain",
+            Command::Steps => b"steps",
+            Command::Check => b"check",
         }
-        if text::same_bytes(word, b"help") {
-            return Some(Command::Help);
-        }
-        if text::same_bytes(word, b"explain") {
-            return Some(Command::Explain);
-        }
-        if text::same_bytes(word, b"steps") {
-            return Some(Command::Steps);
-        }
-        if text::same_bytes(word, b"check") {
-            return Some(Command::Check);
-        }
-        None
+    }
+
+    // The command with this name.
+    fn named(word: &[u8]) -> Option<Command>
+        ensures { result ≡ command_named word.now }
+    {
+        Command::ALL
+            .iter()
+            .copied()
+            .find(|command| word == command.name())
     }
 }
 
 // `explain` takes READING SHEET.
 #[tactic(auto, unfolding(crate::specs::Commands::explain_of))]
-fn write_explain(out: &mut Writer<'_, u8>, line: &[u8], at: usize)
-    ensures { Puts out.old (explain_of line.now at) out.new }
+fn write_explain(out: &mut Writer<'_, u8>, rest: &[u8])
+    ensures { Puts out.old (explain_of rest.now) out.new }
 {
-    match Words::read(b"bx", line, at) {
+    match Words::read(b"bx", rest) {
         Some(words) => {
             wording::write_explanation(out, byte_at(&words.row, 0), words.sheet_at(1));
         }
-        None => write_usage(out, 1),
+        None => write_usage(out, Usage::Explain),
     }
 }
 
 // `steps` takes SHEET.
 #[tactic(auto, unfolding(crate::specs::Commands::steps_of))]
-fn write_steps(out: &mut Writer<'_, u8>, line: &[u8], at: usize)
-    ensures { Puts out.old (steps_of line.now at) out.new }
+fn write_steps(out: &mut Writer<'_, u8>, rest: &[u8])
+    ensures { Puts out.old (steps_of rest.now) out.new }
 {
-    match Words::read(b"x", line, at) {
+    match Words::read(b"x", rest) {
         Some(words) => step_words::write_steps(out, words.sheet_at(0)),
-        None => write_usage(out, 2),
+        None => write_usage(out, Usage::Steps),
     }
 }
 
@@ -83,47 +88,51 @@ fn write_checked(out: &mut Writer<'_, u8>, reading: u8, sheet: &[u8], order: Opt
 {
     match order {
         Some(planned) => verdict::write_verdict(out, reading, sheet, planned),
-        None => write_usage(out, 3),
+        None => write_usage(out, Usage::Check),
     }
 }
 
-// The same for the words that were read, with the order after the word that ends at `at`.
+// The same for the words that were read, and the order in the rest of the line.
 #[tactic(auto, unfolding(crate::specs::Commands::compared_of))]
-fn write_compared(out: &mut Writer<'_, u8>, words: &Words, line: &[u8], at: usize)
-    ensures { Puts out.old (compared_of words.now.row words.now.sheet line.now at) out.new }
+fn write_compared(out: &mut Writer<'_, u8>, words: &Words, order: &[u8])
+    ensures { Puts out.old (compared_of words.now.row words.now.sheet order.now) out.new }
 {
     let reading = byte_at(&words.row, 0);
     write_checked(
         out,
         reading,
         words.sheet_at(1),
-        orders::read_order(line, at, reading),
+        orders::read_order(order, reading),
     );
 }
 
 // `check` takes READING SHEET ORDER.
-#[tactic(auto, unfolding(crate::specs::Commands::check_of))]
-fn write_check(out: &mut Writer<'_, u8>, line: &[u8], at: usize)
-    ensures { Puts out.old (check_of line.now at) out.new }
+#[tactic(auto, using(words::proofs::Cuts::rest_short), unfolding(crate::specs::Commands::check_of))]
+fn write_check(out: &mut Writer<'_, u8>, rest: &[u8])
+    ensures { Puts out.old (check_of rest.now) out.new }
 {
-    let end = orders::end_after(line, orders::end_after(line, at));
-    match Words::read(b"bx", &line[..end], at) {
-        Some(words) => write_compared(out, &words, line, end),
-        None => write_usage(out, 3),
+    let (_, after) = next_word(rest);
+    let (_, order) = next_word(after);
+    match Words::read(b"bx", &rest[..rest.len() - order.len()]) {
+        Some(words) => write_compared(out, &words, order),
+        None => write_usage(out, Usage::Check),
     }
 }
 
-// Writes the answer to a line. Refusals are part of the text.
+// Writes the answer to a line; an empty first word asks for help. Refusals are part of the text.
 #[tactic(auto, unfolding(crate::specs::Commands::answer_of))]
 fn write_answer(out: &mut Writer<'_, u8>, line: &[u8])
     ensures { Puts out.old (answer_of line.now) out.new }
 {
-    let at = text::index_from(line, 0, b' ');
-    match Command::named(orders::first_word(line)) {
+    let (name, rest) = first_word(line);
+    if name.is_empty() {
+        return texts::write_help(out);
+    }
+    match Command::named(name) {
         Some(Command::Help) => texts::write_help(out),
-        Some(Command::Explain) => write_explain(out, line, at),
-        Some(Command::Steps) => write_steps(out, line, at),
-        Some(Command::Check) => write_check(out, line, at),
+        Some(Command::Explain) => write_explain(out, rest),
+        Some(Command::Steps) => write_steps(out, rest),
+        Some(Command::Check) => write_check(out, rest),
         None => case::write_case(out, line),
     }
 }

@@ -19,23 +19,24 @@ fn write(order: Option<Planned>, reading: u8, sheet: &mut [u8]) -> Made
     }
 }
 
-// Writes the sheet of the order after index `at`; None for a reading that is no number or over 255.
-fn write_at(reading: Result<u32, Refusal>, line: &[u8], at: usize, sheet: &mut [u8]) -> Made
-    ensures { MadeCall (order_in (answer_of reading) line.now at) (reading_in (answer_of reading)) sheet.old result sheet.new }
+// Writes the sheet of the order in the rest of a line; None for a reading that is no number or over 255.
+fn write_at(reading: Result<u32, Refusal>, rest: &[u8], sheet: &mut [u8]) -> Made
+    ensures { MadeCall (order_in (answer_of reading) rest.now) (reading_in (answer_of reading)) sheet.old result sheet.new }
 {
     let n = reading.ok()?;
     if 255 < n {
         return None;
     }
     let reading = n as u8;
-    write(orders::read_order(line, at, reading), reading, sheet)
+    write(orders::read_order(rest, reading), reading, sheet)
 }
 
 // Writes the sheet of an order at a reading to the start of the caller's bytes: the words are READING ORDER, and None where they
 // are not. Refusals are the order's, then those of `init`: 18, 1 to 14, 19; a refusal changes nothing.
+#[tactic(auto, unfolding(crate::specs::Made::order_made, crate::specs::Made::reading_made))]
 pub fn make(line: &[u8], sheet: &mut [u8]) -> Made
     ensures { MakeCall line.now sheet.old result sheet.new }
 {
-    let at = text::index_from(line, 0, b' ');
-    write_at(text::number(orders::first_word(line)), line, at, sheet)
+    let (reading, rest) = words::first_word(line);
+    write_at(text::number(reading), rest, sheet)
 }

@@ -1,10 +1,12 @@
 // The fixed texts: help, and the usage of each command.
+ghost use Rattle.std.specs.Prelude.{◌≡◌};
 ghost use Rattle.base.specs.Writing.{Puts};
-ghost use Rattle.commands.specs.Texts.{help_text, usage_text};
+ghost use Rattle.commands.specs.Texts.{help_text, usage_text, usage_numbered};
 
 use base::Writer;
 
 // Writes the commands and the forms of an order, on one screen.
+#[tactic(auto, unfolding(crate::specs::Texts::help_text))]
 pub(crate) fn write_help(out: &mut Writer<'_, u8>)
     ensures { Puts out.old help_text out.new }
 {
@@ -36,17 +38,48 @@ pub(crate) fn write_help(out: &mut Writer<'_, u8>)
     );
 }
 
-// Writes the answer to words that a command does not take, with those that it takes: 1 explain, 2 steps, 3 check, 4 make, any
-// other a case.
-#[tactic(auto, unfolding(crate::specs::Texts::usage_text))]
-pub fn write_usage(out: &mut Writer<'_, u8>, command: u8)
-    ensures { Puts out.old (usage_text command) out.new }
-{
-    match command {
-        1 => out.put_all(b"bad case\nexplain takes READING SHEET: see dizbaral help\n"),
-        2 => out.put_all(b"bad case\nsteps takes SHEET: see dizbaral help\n"),
-        3 => out.put_all(b"bad case\ncheck takes READING SHEET ORDER: see dizbaral help\n"),
-        4 => out.put_all(b"bad case\nmake takes FILE READING ORDER: see dizbaral help\n"),
-        _ => out.put_all(b"bad case\ndocs/CASES.md has the words that each case takes\n"),
+// Whose words a usage names: those of a case, of a command, or of `make`.
+#[derive(Clone, Copy, Debug, PartialEq, Eq)]
+pub enum Usage {
+    Case,
+    Explain,
+    Steps,
+    Check,
+    Make,
+}
+
+impl Usage {
+    fn text(self) -> &'static [u8]
+        ensures { result.now ≡ usage_text self }
+    {
+        match self {
+            Usage::Case => b"bad case\ndocs/CASES.md has the words that each case takes\n",
+            Usage::Explain => b"bad case\nexplain takes READING SHEET: see dizbaral help\n",
+            Usage::Steps => b"bad case\nsteps takes SHEET: see dizbaral help\n",
+            Usage::Check => b"bad case\ncheck takes READING SHEET ORDER: see dizbaral help\n",
+            Usage::Make => b"bad case\nmake takes FILE READING ORDER: see dizbaral help\n",
+        }
     }
+}
+
+// The usage of a number: 0 to 4 in the order above, and any other is that of a case.
+impl From<u8> for Usage {
+    ghost from_gives = { λ number usage. usage ≡ usage_numbered number };
+
+    fn from(number: u8) -> Usage {
+        match number {
+            1 => Usage::Explain,
+            2 => Usage::Steps,
+            3 => Usage::Check,
+            4 => Usage::Make,
+            _ => Usage::Case,
+        }
+    }
+}
+
+// Writes the answer to words that a command or a case does not take, with those that it takes.
+pub fn write_usage(out: &mut Writer<'_, u8>, usage: Usage)
+    ensures { Puts out.old (usage_text usage) out.new }
+{
+    out.put_all(usage.text());
 }

@@ -1,7 +1,6 @@
 -- The presets, each with the values that the Rust has (docs/FORMAT.md, Presets).
-use Rattle.std.specs.Prelude.{Option, Some, None}
+use Rattle.std.specs.Prelude.{Option, Some, None, ℕ, eqb, ltb}
 use Rattle.config.specs.declared.RoscConfig.{RoscConfig}
-use Rattle.std.specs.Prelude.{ℕ, eqb, ltb}
 use Rattle.base.specs.{Choice.pick, Answer.Answer, Answer.value, Answer.refusal}
 use Rattle.chip.specs.declared.{Chip.Chip, Chip.TheVariants.Rp2040, Chip.TheVariants.Rp235x}
 use Rattle.chip.specs.Chips.{facts_of}

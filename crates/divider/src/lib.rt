@@ -11,9 +11,6 @@ ghost use Rattle.divider.specs.Pio.{pio_of};
 use base::Refusal;
 use chip::Chip;
 
-// The refusal of an unknown Gpout source or of a whole part that is too large.
-const NO_GPOUT: Refusal = Refusal::GpoutSource;
-
 // Cycles per microsecond where the ring has no frequency: from reset it runs at 12 MHz at most.
 const NO_RING: u64 = 12;
 
@@ -52,7 +49,7 @@ fn cycles_per_us(ring_hz: u32) -> u64
     if ring_hz == 0 {
         NO_RING
     } else {
-        (u64::from(ring_hz) + 999999) / 1000000
+        u64::from(ring_hz.div_ceil(1000000))
     }
 }
 
@@ -64,7 +61,8 @@ pub fn settling_cycles(time_us: u32, ring_hz: u32) -> u64
     u64::from(time_us) * cycles_per_us(ring_hz)
 }
 
-// The clock number of a Gpout source code; 10, which no stored frequency has, where the code is unknown.
+// The clock number of a Gpout source code; 10, which no stored frequency has, where the code is unknown. It is no Option, as the
+// table of the chip is none (chip/src/lib.rt says why).
 #[tactic(auto, unfolding(crate::specs::Gpout::gpout_clock))]
 fn gpout_clock(chip: Chip, source: u8) -> u8
     ensures { result ≡ gpout_clock chip source }
@@ -104,10 +102,10 @@ fn gpout_freq(
 {
     let facts = chip.facts();
     if facts.top_whole < div_int {
-        return Err(NO_GPOUT);
+        return Err(Refusal::GpoutSource);
     }
     let clock = gpout_clock(chip, source);
-    let hz = *freqs.get(usize::from(clock)).ok_or(NO_GPOUT)?;
+    let hz = *freqs.get(usize::from(clock)).ok_or(Refusal::GpoutSource)?;
     Ok(gpout_hz(facts.scale, hz, div_int, div_frac))
 }
 

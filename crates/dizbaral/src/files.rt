@@ -22,6 +22,15 @@ pub(crate) struct Stopped {
     pub(crate) printed: io::Result<()>,
 }
 
+// An answer that cannot be printed stops the program too.
+impl From<io::Error> for Stopped {
+    fn from(error: io::Error) -> Stopped {
+        Stopped {
+            printed: Err(error),
+        }
+    }
+}
+
 // The reason why a file is not read or written, from the system's error number.
 fn reason(error: &io::Error) -> Reason {
     match error.raw_os_error() {
@@ -55,7 +64,8 @@ fn path_of<'a>(rt: &impl Print, name: &'a [u8]) -> Result<&'a str, Stopped> {
     str::from_utf8(name).map_err(|_| complain(rt, name, Reason::Other))
 }
 
-// Reads until the buffer is full or the file ends, and answers the number of bytes.
+// Reads until the buffer is full or the file ends, and answers the number of bytes. It is no `for`: each turn goes on by as many
+// bytes as were read.
 fn fill<F: Read>(file: &mut F, bytes: &mut [u8]) -> io::Result<usize> {
     let mut n = 0;
     while n < bytes.len() {

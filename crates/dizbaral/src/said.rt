@@ -1,11 +1,11 @@
 // The messages about a sheet that was made, and about a file that is not read or written.
-ghost use Rattle.std.specs.Prelude.{◌≡◌, take};
+ghost use Rattle.std.specs.Prelude.{◌≡◌};
 ghost use Rattle.base.specs.Writing.{Puts};
 ghost use Rattle.text.specs.Ascii.{ascii, same};
-ghost use Rattle.dizbaral.specs.Said.{made_text, reason_number, reason_text, trouble_line, new_name};
+ghost use Rattle.dizbaral.specs.Said.{made_text, reason_text, trouble_line, new_name};
 
 use base::Writer;
-use commands::Made;
+use commands::{Made, Usage};
 
 // Why a file is not read or written.
 #[derive(Clone, Copy, Debug, PartialEq, Eq)]
@@ -19,10 +19,10 @@ pub(crate) enum Reason {
 }
 
 // Whether a word is `make`.
-pub(crate) fn is_make(word: &[u8; 8], n: usize) -> bool
-    ensures { result ≡ same (take n word.now) (ascii "make") }
+pub(crate) fn is_make(word: &[u8]) -> bool
+    ensures { result ≡ same word.now (ascii "make") }
 {
-    text::same_bytes(base::first(word, n), b"make")
+    word == b"make".as_slice()
 }
 
 // Writes the length of a sheet, its refusal, or the usage of `make`.
@@ -37,14 +37,14 @@ pub(crate) fn write_made(out: &mut Writer<'_, u8>, made: Made)
             out.put_all(b" bytes\n");
         }
         Some(Err(why)) => wording::write_refused(out, b"order: ", u8::from(why)),
-        None => commands::write_usage(out, 4),
+        None => commands::write_usage(out, Usage::Make),
     }
 }
 
 // Writes the reason why a file is not read or written.
 #[tactic(auto, unfolding(crate::specs::Said::reason_text))]
 fn write_reason(out: &mut Writer<'_, u8>, why: Reason)
-    ensures { Puts out.old (reason_text (reason_number why)) out.new }
+    ensures { Puts out.old (reason_text why) out.new }
 {
     match why {
         Reason::NoFile => out.put_all(b"there is no such file\n"),
@@ -59,7 +59,7 @@ fn write_reason(out: &mut Writer<'_, u8>, why: Reason)
 // Writes a line with the name of a file and the reason.
 #[tactic(auto, using(base::proofs::Writing::writing), unfolding(crate::specs::Said::trouble_line))]
 pub(crate) fn write_trouble(out: &mut Writer<'_, u8>, name: &[u8], why: Reason)
-    ensures { Puts out.old (trouble_line name.now (reason_number why)) out.new }
+    ensures { Puts out.old (trouble_line name.now why) out.new }
 {
     out.put_all(name);
     out.put_all(b": ");

@@ -24,7 +24,8 @@ use Rattle.numbers.specs.Bench.{runner_at, bench_in, bench_number, fresh_numbers
 use Rattle.numbers.proofs.Boards.{board-at, over-leaves}
 use Rattle.export.specs.Calls.{Held, held_of, held_after, run_numbers, IsBench, bench_call_leaves, bench_held_after, bench_numbers}
 use Rattle.export.specs.Calls.{ExportedSingle, ExportedSame}
-use Rattle.export.proofs.Calls.{mark-same, taken, answered, after-start}
+use Rattle.export.proofs.{Rows.mark-same, Calls.taken, Calls.answered, Calls.after-start}
+use Rattle.sleep.proofs.Replay.{either_way}
 use Rattle.export.proofs.Benches.{bench-decoded, bench-held}
 
 started_by : Held → Begun Bench → Held
@@ -62,29 +63,20 @@ started-bench h sheet e =
 one-event : (h : Held) (e : BenchEvent) → IsBench h.numbers
     → (bench_held (bench_call_leaves h e) ≡ bench_after (bench_held h) (e ∷ [])) × IsBench (bench_call_leaves h e).numbers
 unfolding started_by
-one-event h (start sheet) is = by (bad_size (length sheet)) refl
-  where
-    by : (t : Bool) → bad_size (length sheet) ≡ t
-        → (bench_held (bench_call_leaves h (start sheet)) ≡ (start_all_of (bench_held h) sheet).next)
-        × IsBench (bench_call_leaves h (start sheet)).numbers
-    by true e =
-        let o = sym (all-refused (bench_held h) sheet e) in (
-          ap (λ (x : Begun Bench). bench_held (started_by h x)) o ∙ sym (ap (λ (x : Begun Bench). x.next) o),
-          rw (ap (λ (x : Begun Bench). (started_by h x).numbers) o) is,
-        )
-    by false e = started-bench h sheet e
-one-event h (poll n sheet ready) is = by (ltb 7 n) refl
-  where
-    by : (t : Bool) → ltb 7 n ≡ t
-        → (bench_held (bench_call_leaves h (poll n sheet ready)) ≡ (bench_of (bench_held h) n sheet ready).next)
-        × IsBench (bench_call_leaves h (poll n sheet ready)).numbers
-    by true e =
-        let over = ltb-true 7 n e in
-        let same = over-leaves h.numbers h.bytes n sheet ready over in
-        (rw (← same) (ap (λ (x : Outcome Bench). x.next) (over-seven (bench_held h) n sheet ready over)), rw (← same) is)
-    by false e =
-        let few = ltb-false 7 n e in
-        (bench-decoded h.numbers h.bytes is n few sheet ready, bench-held h.numbers h.bytes is n few sheet ready)
+one-event h (start sheet) is =
+    either_way (bad_size (length sheet))
+    (λ e. let o = sym (all-refused (bench_held h) sheet e) in (
+      ap (λ (x : Begun Bench). bench_held (started_by h x)) o ∙ sym (ap (λ (x : Begun Bench). x.next) o),
+      rw (ap (λ (x : Begun Bench). (started_by h x).numbers) o) is,
+    ))
+    (λ e. started-bench h sheet e)
+one-event h (poll n sheet ready) is =
+    either_way (ltb 7 n)
+    (λ e. let over = ltb-true 7 n e in
+    let same = over-leaves h.numbers h.bytes n sheet ready over in
+    (rw (← same) (ap (λ (x : Outcome Bench). x.next) (over-seven (bench_held h) n sheet ready over)), rw (← same) is))
+    (λ e. let few = ltb-false 7 n e in
+    (bench-decoded h.numbers h.bytes is n few sheet ready, bench-held h.numbers h.bytes is n few sheet ready))
 
 -- all zeros are a bench before any start
 pub zeros-fresh : bench_in (replicate 113 0) (replicate max_bytes 0) ≡ fresh_bench
@@ -103,12 +95,8 @@ bench-history h (e ∷ es) is =
 bench-number : (ns kept : List ℕ) → IsBench ns → (m : ℕ) (sheet : List ℕ) (ready : Bool)
     → bench_number ns kept m sheet ready ≡ answer_number progress_number (bench_of (bench_in ns kept) m sheet ready).answer
 unfolding bench_number
-bench-number ns kept is m sheet ready = by (ltb 7 m) refl
-  where
-    by : (t : Bool) → ltb 7 m ≡ t
-        → bench_number ns kept m sheet ready ≡ answer_number progress_number (bench_of (bench_in ns kept) m sheet ready).answer
-    by true e = rw e
-    by false e = rw (e, le-leb _ _ (is.marked m (ltb-false 7 m e)))
+bench-number ns kept is m sheet ready =
+    either_way (ltb 7 m) (λ e. rw e) (λ e. rw (e, le-leb _ _ (is.marked m (ltb-false 7 m e))))
 
 bench-answered : (n : ℕ) (es : List BenchEvent) (h : Held) → IsBench h.numbers
     → bench_numbers n h es ≡ map (answer_number progress_number) (answers_for n (bench_held h) es)

@@ -1,14 +1,14 @@
 -- The numbers that an exported call for a board leaves, read as a bench, are the bench that the definition leaves.
-use mathlib.Core.{Bool.Bool, Bool.true, Bool.false, List.List, List.[], List.◌∷◌, Logic.◌⊎◌, Logic.inl, Logic.inr}
+use mathlib.Core.{Bool.Bool, Bool.true, Bool.false, List.List, List.◌∷◌, Logic.◌⊎◌, Logic.inl, Logic.inr}
 use mathlib.Core.Path.{◌≡◌, refl, sym, ap, ◌∙◌}
 use Prim.Native.Nat.{ℕ, zero, suc, ◌+◌, ◌*◌, ◌≤◌, ◌<◌}
 use native.Mathlib.Omega.{arith}
 use borrow.Author.Tests.{le-ltb, le-leb, eqb-true, eqb-false, ltb-true, ltb-false}
-use lib.{Dec.eqb, Dec.ltb, ListN.length, ListN.get_or, ListN.set, ListN.length-set, Seq.sets, Seq.length-sets}
-use lib.Seq.{get_or-set_same, get_or-set_other, set-get_or}
+use lib.{Dec.eqb, Dec.ltb, ListN.length, ListN.get_or, ListN.set, ListN.length-set, Seq.length-sets}
 use Rattle.base.specs.{Answer.Answer, Answer.value, Answer.refusal, Choice.bit, Choice.pick}
 use Rattle.step.specs.declared.Step.{Step}
-use Rattle.step.specs.Kinds as kind
+use Rattle.step.specs.Kinds.{is}
+use Rattle.step.specs.declared.kind.Kind.TheVariants as kind
 use Rattle.fields.specs.Row.{nth, ten_at}
 use Rattle.runner.specs.declared.Stepper.{Stepper}
 use Rattle.runner.specs.declared.Reply.{Reply}
@@ -20,43 +20,13 @@ use Rattle.numbers.proofs.PartRows.{row-whole}
 use Rattle.numbers.specs.Bench.{stepper_at, boards_from, bench_in, board_numbers, with_board, bench_leaves}
 use Rattle.numbers.proofs.Boards.{call, of-board, next-board}
 use Rattle.export.specs.Calls.{IsBench}
-use Rattle.export.proofs.Calls.{mark-back, mark-same}
-
-mark-least : (b : Bool) → bit b ≤ 1
-mark-least true = omega arith
-mark-least false = omega arith
-
--- numbers outside the ones set in a row stay, and those inside are the new ones
-outside : (vs l : List ℕ) (i k : ℕ) → (k < i) ⊎ (i + length vs ≤ k) → nth (sets l i vs) k ≡ nth l k
-outside [] l i k h = refl
-outside (a ∷ vs) l i k (inl h) =
-    outside vs (set l i a) (suc i) k (inl (omega arith)) ∙ get_or-set_other l i k a 0 (λ e. omega arith)
-outside (a ∷ vs) l i k (inr h) =
-    outside vs (set l i a) (suc i) k (inr (omega arith)) ∙ get_or-set_other l i k a 0 (λ e. omega arith)
-
-inside : (vs l : List ℕ) (i j : ℕ) → j < length vs → i + length vs ≤ length l → nth (sets l i vs) (i + j) ≡ nth vs j
-inside [] l i j h room = absurd (omega arith)
-inside (a ∷ vs) l i zero h room =
-    let here : i + 0 ≡ i = omega arith in
-    rw here (outside vs (set l i a) (suc i) i (inl (omega arith)) ∙ get_or-set_same l i a 0 (omega arith))
-inside (a ∷ vs) l i (suc j) h room =
-    let there : i + suc j ≡ suc i + j = omega arith in
-    rw there (inside vs (set l i a) (suc i) j (omega arith) (omega (arith, length-set l i a)))
-
--- numbers that the row already holds
-abbrev Stand : List ℕ → ℕ → List ℕ → Type 0
-Stand l i [] = Unit {0}
-Stand l i (a ∷ vs) = (a ≡ nth l i) × Stand l (suc i) vs
-
-sets_same : (vs l : List ℕ) (i : ℕ) → Stand l i vs → sets l i vs ≡ l
-sets_same [] l i s = refl
-sets_same (a ∷ vs) l i (e, s) =
-    ap (λ (x : List ℕ). sets x (suc i) vs) (ap (set l i) e ∙ set-get_or l i 0) ∙ sets_same vs l (suc i) s
+use Rattle.export.proofs.Rows.{mark-back, mark-same, mark-least, outside, inside, sets_same}
+use Rattle.sleep.proofs.Replay.{either_way}
 
 -- the list of frequencies keeps its length
 stored-long : (step : Step) (freqs : List ℕ) → length (stored_by step freqs) ≡ length freqs
 unfolding stored_by
-stored-long step freqs = go (eqb step.kind kind.store)
+stored-long step freqs = go (is step.kind kind.Store)
   where
     go : (b : Bool) → length (pick b (set freqs step.f0 step.f1) freqs) ≡ length freqs
     go true = length-set freqs step.f0 step.f1
@@ -113,11 +83,9 @@ module _ (ns : List ℕ) (long : length ns ≡ 113) (n : ℕ) (few : n ≤ 7) (b
       (rw (ten-whole b.freqs ten))
 
   side : (m : ℕ) → (m ≡ n → ⊥) → (j : ℕ) → j < 14 → (14 * m + j < 14 * n) ⊎ (14 * n + 14 ≤ 14 * m + j)
-  side m ne j h = by (ltb m n) refl
-    where
-      by : (t : Bool) → ltb m n ≡ t → (14 * m + j < 14 * n) ⊎ (14 * n + 14 ≤ 14 * m + j)
-      by true e = let less = ltb-true m n e in inl (omega arith)
-      by false e = let more = ltb-false m n e in inr (omega arith)
+  side m ne j h =
+      either_way (ltb m n) (λ e. let less = ltb-true m n e in inl (omega arith))
+      (λ e. let more = ltb-false m n e in inr (omega arith))
 
   board-elsewhere : (m : ℕ) → (m ≡ n → ⊥) → stepper_at after m ≡ stepper_at ns m
   board-elsewhere m ne =
@@ -192,21 +160,17 @@ module _ (ns kept : List ℕ) (is : IsBench ns) (n : ℕ) (few : n ≤ 7) (sheet
       b = (call ns kept n sheet ready few).next
 
       marked : (m : ℕ) → m ≤ 7 → get_or (with_board n b ns) (14 * m + 3) 0 ≤ 1
-      marked m h = by (eqb m n) refl
-        where
-          by : (t : Bool) → eqb m n ≡ t → get_or (with_board n b ns) (14 * m + 3) 0 ≤ 1
-          by true e =
-              let same = eqb-true m n e in
-              omega (
-                arith,
-                ap (λ (k : ℕ). nth (with_board n b ns) (14 * k + 3)) same,
-                here ns is.all n few b freqs-long 3 (omega arith),
-                mark-least b.state.stopped,
-              )
-          by false e =
-              let ne = eqb-false m n e in
-              omega (
-                arith,
-                elsewhere ns is.all n few b freqs-long (14 * m + 3) (side ns is.all n few b freqs-long m ne 3 (omega arith)),
-                is.marked m h,
-              )
+      marked m h =
+          either_way (eqb m n)
+          (λ e. omega (
+            arith,
+            ap (λ (k : ℕ). nth (with_board n b ns) (14 * k + 3)) (eqb-true m n e),
+            here ns is.all n few b freqs-long 3 (omega arith),
+            mark-least b.state.stopped,
+          ))
+          (λ e. omega (
+            arith,
+            elsewhere ns is.all n few b freqs-long (14 * m + 3)
+                (side ns is.all n few b freqs-long m (eqb-false m n e) 3 (omega arith)),
+            is.marked m h,
+          ))

@@ -4,8 +4,8 @@ use mathlib.Core.{Bool.Bool, Bool.true, Bool.false, List.List, List.[], List.◌
 use mathlib.Core.Path.{◌≡◌, refl, sym, ap, ◌∙◌}
 use Prim.Native.Nat.{ℕ, zero, suc, ◌≤◌}
 use native.Mathlib.Omega.{arith}
-use lib.{Dec.eqb, Dec.leb, ListN.length, ListN.get_or, ListN.drop, ListN.replicate, ListN.take-append-drop}
-use Rattle.base.specs.{Answer.Answer, Answer.value, Answer.refusal, Choice.bit}
+use lib.{ListN.length, ListN.get_or, ListN.drop, ListN.replicate, ListN.take-append-drop}
+use Rattle.base.specs.{Answer.Answer, Answer.value, Answer.refusal}
 use Rattle.step.specs.Sheet.{max_bytes}
 use Rattle.step.specs.Size.{bad_size}
 use Rattle.config.specs.declared.ClockConfig.{ClockConfig}
@@ -26,22 +26,8 @@ use Rattle.numbers.specs.Answers.{answer_number}
 use Rattle.numbers.specs.Run.{progress_number, with_state, with_freqs, run_number, run_leaves, start_leaves}
 use Rattle.export.specs.Calls.{Held, runner_of, held_of, call_leaves, held_after, run_numbers, polls, polls_with, ExportedOneSheet}
 use Rattle.export.specs.Calls.{held_from, number_of, ExportedComesUp}
-use Rattle.export.proofs.Ranges.{word-from}
-
--- ---- marks
-
-pub mark-back : (b : Bool) → eqb (bit b) 1 ≡ b
-mark-back true = refl
-mark-back false = refl
-
-pub mark-same : (n : ℕ) → n ≤ 1 → bit (eqb n 1) ≡ n
-mark-same zero h = refl
-mark-same (suc zero) h = refl
-mark-same (suc (suc n)) h = absurd (omega arith)
-
-pub mark-good : (b : Bool) → leb (bit b) 1 ≡ true
-mark-good true = refl
-mark-good false = refl
+use Rattle.export.proofs.{Ranges.word-from, Rows.mark-back, Rows.mark-same, Rows.mark-good}
+use Rattle.sleep.proofs.Replay.{either_way}
 
 -- ---- numbers written and read
 
@@ -89,11 +75,10 @@ module _ (h : Held) (sheet : List ℕ) where
   taken e = ap (started_by h) (sym (start-kept (runner_of h) sheet e))
 
 begun-held : (r : Runner) (sheet : List ℕ) → call_leaves (held_of r) (start sheet) ≡ held_of (start_of r sheet).next
-begun-held r sheet = go (bad_size (length sheet)) refl
-  where
-    go : (b : Bool) → bad_size (length sheet) ≡ b → call_leaves (held_of r) (start sheet) ≡ held_of (start_of r sheet).next
-    go true e = turned (held_of r) sheet e ∙ ap (λ (x : Begun Runner). held_of x.next) (start-refused r sheet e)
-    go false e = taken (held_of r) sheet e ∙ ap (λ (x : Begun Runner). held_of x.next) (start-kept r sheet e)
+begun-held r sheet =
+    either_way (bad_size (length sheet))
+    (λ e. turned (held_of r) sheet e ∙ ap (λ (x : Begun Runner). held_of x.next) (start-refused r sheet e))
+    (λ e. taken (held_of r) sheet e ∙ ap (λ (x : Begun Runner). held_of x.next) (start-kept r sheet e))
 
 -- ---- calls one after another
 

@@ -1,6 +1,7 @@
 pub mod Demand3
 pub mod UsbFirst
 pub mod Ranges
+pub mod Rows
 pub mod Calls
 pub mod Benches
 pub mod BenchCalls

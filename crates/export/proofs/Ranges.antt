@@ -3,10 +3,9 @@ use mathlib.Core.{Bool.Bool, Bool.true, Bool.false, Path.◌≡◌, Path.refl}
 use Prim.Native.Nat.{◌^◌, ◌≤◌}
 use native.Mathlib.Omega.{arith}
 use lib.Dec.{T}
-use Rattle.base.proofs.Bools.{in-range}
 use Rattle.step.specs.declared.Step.{Step}
-use Rattle.step.specs.{Layout.kinds, Steps.pack_of, Steps.known, Steps.kind_in, Steps.WellFormed}
-use Rattle.step.proofs.Laws.{kind-in, pack-lt}
+use Rattle.step.specs.{Kinds.known, Steps.pack_of, Steps.WellFormed}
+use Rattle.step.proofs.{Laws.number-in, Laws.pack-lt, Numbers.known-from}
 use Rattle.runner.specs.declared.Reply.{Reply}
 use Rattle.runner.specs.declared.Reply.TheVariants.{Done, Handed, Passed, Waiting}
 use Rattle.export.specs.Ranges.{ProgressRange, Ranges}
@@ -17,11 +16,8 @@ is_true false t = absurd t
 
 -- a step's kind, which is at least 1, is in the word's upper 6 bits
 pub word-from : (s : Step) → WellFormed s → 2 ^ 58 ≤ pack_of s
-unfolding kind_in known
 word-from s w =
-    let kind = kind-in s w in
-    let known = (in-range 1 kinds s.kind (is_true _ w.is_known)).0 in
-    omega (arith, kind, known)
+    omega (arith, number-in s w, known-from s.kind (is_true (known s.kind) w.is_known))
 
 progress-range : (p : Reply) → ProgressRange p
 progress-range Done = omega arith

@@ -2,32 +2,26 @@
 -- sequence of exported sleeps and wakes.
 use Rattle.std.specs.Prelude.{Some}
 use mathlib.Core.{Bool.Bool, Bool.true, Bool.◌&&◌}
-use mathlib.Core.{List.List, List.[], List.◌∷◌, List.◌++◌, List.append-nil, Path.◌≡◌, Path.refl, Path.sym, Path.ap, Path.◌∙◌}
+use mathlib.Core.{List.List, List.[], List.◌∷◌, Path.◌≡◌, Path.refl, Path.sym, Path.ap, Path.◌∙◌}
 use Prim.Native.Nat.{ℕ, zero, suc, ◌+◌, ◌≤◌}
 use native.Mathlib.Omega.{arith}
 use borrow.Author.Tests.{le-ltb, ltb-false, leb-true}
-use lib.{Dec.eqb, Dec.leb, Dec.ltb, ListN.length, ListN.set, ListN.drop, ListN.replicate, Seq.sets, Seq.sets-eq, Seq.drop-length}
-use Rattle.base.proofs.Bools.{both_true}
+use lib.{Dec.eqb, Dec.leb, Dec.ltb, ListN.length, ListN.set, ListN.replicate, Seq.sets}
+use Rattle.std.proofs.lemmas.Bool.{and_parts}
 use Rattle.fields.specs.Row.{nth}
 use Rattle.sleep.specs.declared.{Slot.Slot}
 use Rattle.sleep.specs.Sleep.{SleepOutcome, fresh_slots, slot_at, sleep_of, woken, wake_of}
 use Rattle.sleep.specs.History.{SleepEvent, sleeps, wakes, writes, happens, board_after}
 use Rattle.sleep.proofs.{History.history, Replay.either_way}
 use Rattle.numbers.specs.Slots.{words_at, slots_in, slots_numbers}
-use Rattle.numbers.proofs.PartRows.{row-whole}
+use Rattle.numbers.proofs.{PartRows.row-whole, Asked.sets-all}
 use Rattle.numbers.specs.SleepCall.{are_slots, asked_with}
 use Rattle.export.specs.Calls.{slots_left, slots_after, Elevens, ExportedWakes}
-use Rattle.export.proofs.Calls.{mark-back, mark-same, mark-good}
+use Rattle.export.proofs.Rows.{mark-back, mark-same, mark-good}
 
 -- all zeros are slots with nothing saved
 pub zeros-fresh : slots_in (replicate 48 0) 0 ≡ fresh_slots
 zeros-fresh = refl
-
--- numbers that replace all of a row
-sets-all : (vs l : List ℕ) → length vs ≡ length l → sets l 0 vs ≡ vs
-sets-all vs l e =
-    let all : 0 + length vs ≡ length l = omega arith in
-    sets-eq vs l 0 (omega arith) ∙ ap (λ (k : ℕ). vs ++ drop k l) all ∙ ap (λ (r : List ℕ). vs ++ r) (drop-length l) ∙ append-nil vs
 
 -- 48 numbers, of which the four flags are 1 or 0
 pub record IsSlots (ns : List ℕ) : Type 0 where
@@ -77,9 +71,9 @@ at ns i = record { flag = eqb (nth ns i) 1; row = ns; place = i + 1 }
 -- slots that are read and written again give the same numbers
 again : (ns : List ℕ) → IsSlots ns → sets ns 0 (slots_numbers (slots_in ns 0)) ≡ ns
 again ns is =
-    let h = both_true ((leb (nth ns 0) 1 && leb (nth ns 12) 1) && leb (nth ns 24) 1) (leb (nth ns 36) 1) is.flags in
-    let k = both_true (leb (nth ns 0) 1 && leb (nth ns 12) 1) (leb (nth ns 24) 1) h.0 in
-    let m = both_true (leb (nth ns 0) 1) (leb (nth ns 12) 1) k.0 in
+    let h = and_parts ((leb (nth ns 0) 1 && leb (nth ns 12) 1) && leb (nth ns 24) 1) (leb (nth ns 36) 1) is.flags in
+    let k = and_parts (leb (nth ns 0) 1 && leb (nth ns 12) 1) (leb (nth ns 24) 1) h.0 in
+    let m = and_parts (leb (nth ns 0) 1) (leb (nth ns 12) 1) k.0 in
     sets-all (slots_numbers (slots_in ns 0)) ns (sym is.all)
     ∙ rw (
       mark-same (nth ns 0) (leb-true _ 1 m.0),

@@ -1,16 +1,17 @@
 -- A refusal leaves what was lent unchanged. For the runner and the bench this follows from runner/proofs/Untouched; for the other
 -- calls, from the fact that their values have numbers below the refusals.
 use Rattle.std.specs.Prelude.{Option, Some, None}
-use mathlib.Core.{Bool.Bool, Bool.true, Bool.false, Bool.not, Logic.inl, Logic.inr}
+use mathlib.Core.{Bool.Bool, Bool.true, Bool.false, Logic.inl, Logic.inr}
 use mathlib.Core.{List.List, List.[], List.◌∷◌, List.flat_map, Path.◌≡◌, Path.refl, Path.sym, Path.ap, Path.◌∙◌}
 use Prim.Native.Nat.{ℕ, ◌+◌, ◌*◌, ◌≤◌}
 use native.Mathlib.Omega.{arith}
 use borrow.Author.Tests.{leb-true, leb-false, ltb-true, ltb-false, le-ltb}
-use lib.{Dec.eqb, Dec.leb, Dec.ltb, ListN.length, ListN.get_or}
+use lib.{Dec.leb, Dec.ltb, ListN.length, ListN.get_or}
 use Rattle.base.specs.{Answer.Answer, Answer.value, Answer.refusal, Placed.past}
 use Rattle.step.specs.Size.{bad_size}
 use Rattle.step.proofs.Sizes.{size_fits}
 use Rattle.chip.specs.declared.{Chip.Chip, Chip.TheVariants.Rp2040, Chip.TheVariants.Rp235x}
+use Rattle.base.specs.declared.refusal.Refusal.{Refusal}
 use Rattle.config.specs.declared.ClockConfig.{ClockConfig}
 use Rattle.config.specs.Board.{board_of}
 use Rattle.sheet.specs.Writer.{sheet_bytes, refusal_in, init_answer, init_buffer}
@@ -134,10 +135,13 @@ bench-start-keeps {ns} {kept} {sheet} c low =
 init-keeps : (p : ClockConfig) (reading : ℕ) (buffer : List ℕ) → Refused (answer_number itself (init_answer p reading buffer))
     → init_buffer p reading buffer ≡ buffer
 unfolding init_answer init_buffer
-init-keeps p reading buffer r =
-    either_way (not (eqb (refusal_in p reading) 0)) (λ e. rw e)
-    (λ e. either_way (ltb (length buffer) (length (sheet_bytes p reading))) (λ f. rw (e, f))
-    (λ f. let low = rw (e, f) at r in absurd (omega (arith, low.0, size_fits (length (sheet_bytes p reading)) (sheet-size p reading)))))
+init-keeps p reading buffer r = go (refusal_in p reading) refl
+  where
+    go : (found : Option Refusal) → refusal_in p reading ≡ found → init_buffer p reading buffer ≡ buffer
+    go (Some reason) e = rw e
+    go None e =
+        either_way (ltb (length buffer) (length (sheet_bytes p reading))) (λ f. rw (e, f))
+        (λ f. let low = rw (e, f) at r in absurd (omega (arith, low.0, size_fits (length (sheet_bytes p reading)) (sheet-size p reading))))
 
 sheets-keep : (plan : Option (Answer ClockConfig)) {reading r : ℕ} {before after : List ℕ}
     → SheetCall plan reading before r after → Refused r → after ≡ before

@@ -1,5 +1,6 @@
 -- The exported calls that write a sheet, of a preset's plan or of a plan given as numbers (docs/FORMAT.md, Sheet writer).
 use Rattle.std.specs.Prelude.{Option, Some, None}
+use Rattle.std.specs.Option.{option_map, option_and_then}
 use mathlib.Core.{Path.◌≡◌, List.List}
 use Rattle.std.specs.Prelude.{ℕ}
 use Rattle.base.specs.Answer.{Answer, value, refusal}
@@ -41,13 +42,7 @@ pub record SheetCall (plan : Option (Answer ClockConfig)) (reading : ℕ) (befor
 
 -- a preset for a chip, and a plan for a chip that is given as numbers; none for an unknown chip
 abbrev pub preset_on : (Chip → Answer ClockConfig) → Option Chip → Option (Answer ClockConfig)
-preset_on preset (Some chip) = Some (preset chip)
-preset_on preset None = None
-
-abbrev pub given : Option ClockConfig → Option (Answer ClockConfig)
-given (Some plan) = Some (value plan)
-given None = None
+preset_on = option_map
 
 abbrev pub plan_on : List ℕ → Option Chip → Option (Answer ClockConfig)
-plan_on ns (Some chip) = given (plan_numbered chip ns)
-plan_on ns None = None
+plan_on ns chip = option_map value (option_and_then (λ on. plan_numbered on ns) chip)

@@ -4,10 +4,12 @@ ghost use Rattle.std.specs.Prelude.{◌≡◌};
 ghost use Rattle.numbers.specs.Bench.{bench_number, bench_leaves, StartAllCall};
 
 use base::Refusal;
+use boards::Bench;
 use numbers::answers;
 use step::MAX_BYTES;
 
 // Starts eight fresh boards with one sheet and answers 0; any numbers may be given before. Refusal: 20.
+#[tactic(auto, using(step::proofs::Sizes::size_fits), unfolding(boards::specs::Bench::start_all_of))]
 #[unsafe(no_mangle)]
 pub extern "C" fn dizbaral_bench_start(
     bench: &mut [u32; 113],
@@ -16,13 +18,14 @@ pub extern "C" fn dizbaral_bench_start(
 ) -> u64
     ensures { StartAllCall bench.old kept.old sheet.now result bench.new kept.new }
 {
-    let mut one = [0u32; 15];
-    let number = crate::dizbaral_start(&mut one, kept, sheet);
-    if number == 0 {
-        *bench = [0; 113];
-        bench[112] = one[4];
+    let mut next = Bench::new();
+    if let Err(why) = next.start(sheet) {
+        return answers::refused(why);
     }
-    number
+    *bench = [0; 113];
+    bench[112] = next.len as u32;
+    *kept = next.kept;
+    0
 }
 
 // One call for a board, as `dizbaral_run` for a runner. Refusals: 28, then those of `dizbaral_run`; a bad mark is malformed.

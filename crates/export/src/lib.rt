@@ -6,8 +6,7 @@ pub mod bench;
 pub mod read;
 pub mod slots;
 
-ghost use Rattle.std.specs.Prelude.{◌≡◌, length, Some};
-ghost use Rattle.base.specs.Answer.{value};
+ghost use Rattle.std.specs.Prelude.{◌≡◌, length};
 ghost use Rattle.divider.specs.Pio.{pio_of};
 ghost use Rattle.pll.specs.Setting.{valid_of, output_of};
 ghost use Rattle.pll.specs.Search.{search_of};
@@ -16,12 +15,12 @@ ghost use Rattle.speed_book.specs.Lookup.{lookup_in};
 ghost use Rattle.pll.specs.Usb.{usb_of};
 ghost use Rattle.margin.specs.Margin.{margin_of};
 ghost use Rattle.config.specs.Presets.{system_plan, system_plan_from};
-ghost use Rattle.base.specs.Answer.{answer_of};
+ghost use Rattle.base.specs.Answer.{answer_in};
 ghost use Rattle.lister.specs.Lister.{listed_of, listed_in};
 ghost use Rattle.bring_up.specs.ComesUp.{longest_wait};
 ghost use Rattle.numbers.specs.Answers.{answer_number, itself, setting_number, dividers_are, done, limits_after, chip_numbered, on_chip};
 ghost use Rattle.numbers.specs.Answers.{voltage_number, divider_numbered, gpout_number};
-ghost use Rattle.export.specs.Sheet.{SheetCall, preset_on, given, plan_on};
+ghost use Rattle.export.specs.Sheet.{SheetCall, preset_on, plan_on};
 ghost use Rattle.numbers.specs.Run.{run_number, run_leaves, StartCall};
 ghost use Rattle.numbers.specs.Access.{AccessCall};
 
@@ -91,6 +90,18 @@ pub extern "C" fn dizbaral_target_margin(
     }
 }
 
+// The PLL setting of four dividers.
+fn dividers(refdiv: u8, fbdiv: u16, post_div1: u8, post_div2: u8) -> PllConfig
+    ensures { result ≡ dividers_are refdiv fbdiv post_div1 post_div2 }
+{
+    PllConfig {
+        refdiv,
+        fbdiv,
+        post_div1,
+        post_div2,
+    }
+}
+
 // Whether the four dividers are valid for an input frequency.
 #[unsafe(no_mangle)]
 pub extern "C" fn dizbaral_is_valid(
@@ -102,13 +113,7 @@ pub extern "C" fn dizbaral_is_valid(
 ) -> bool
     ensures { result ≡ valid_of (dividers_are refdiv fbdiv post_div1 post_div2) input_hz }
 {
-    let setting = PllConfig {
-        refdiv,
-        fbdiv,
-        post_div1,
-        post_div2,
-    };
-    setting.is_valid(input_hz)
+    dividers(refdiv, fbdiv, post_div1, post_div2).is_valid(input_hz)
 }
 
 // The output frequency of a PLL in Hz, without a test of validity. Refusal: 16.
@@ -122,12 +127,7 @@ pub extern "C" fn dizbaral_output_frequency(
 ) -> u64
     ensures { result ≡ answer_number itself (output_of (dividers_are refdiv fbdiv post_div1 post_div2) input_hz) }
 {
-    let setting = PllConfig {
-        refdiv,
-        fbdiv,
-        post_div1,
-        post_div2,
-    };
+    let setting = dividers(refdiv, fbdiv, post_div1, post_div2);
     answers::number(setting.output_frequency(input_hz).map(u64::from))
 }
 
@@ -136,10 +136,7 @@ pub extern "C" fn dizbaral_output_frequency(
 pub extern "C" fn dizbaral_core_voltage(chip: u8, reading: u8) -> u64
     ensures { result ≡ on_chip (λ on. voltage_number on reading) (chip_numbered chip) }
 {
-    match answers::chip(chip) {
-        Some(on) => answers::voltage(on, reading),
-        None => answers::MALFORMED,
-    }
+    answers::chip(chip).map_or(answers::MALFORMED, |on| answers::voltage(on, reading))
 }
 
 // The PIO clock divider in 256ths. Refusal: 17.
@@ -161,35 +158,18 @@ pub extern "C" fn dizbaral_gpout_frequency(
 ) -> u64
     ensures { result ≡ gpout_number (divider_numbered whole fraction (chip_numbered chip)) source freqs.now }
 {
-    match answers::divider(chip, whole, fraction) {
-        Some(divider) => answers::number(divider::get_freq(source, divider, freqs).map(u64::from)),
-        None => answers::MALFORMED,
-    }
+    answers::divider(chip, whole, fraction).map_or(answers::MALFORMED, |divider| {
+        answers::number(divider::get_freq(source, divider, freqs).map(u64::from))
+    })
 }
 
-// Writes a plan's sheet and answers its length. Refusals: 18, 1 to 14, 19.
-fn write(plan: ClockConfig, reading: u8, sheet: &mut [u8]) -> u64
-    ensures { SheetCall (Some (value plan)) reading sheet.old result sheet.new }
-{
-    answers::number(sheet::init(plan, reading, sheet).map(|n| n as u64))
-}
-
-// Writes the sheet of a preset's plan, or answers the preset's refusal.
-fn write_planned(plan: Result<ClockConfig, Refusal>, reading: u8, sheet: &mut [u8]) -> u64
-    ensures { SheetCall (Some (answer_of plan)) reading sheet.old result sheet.new }
+// Writes a plan's sheet and answers its length; a refused plan answers its refusal, and no plan is malformed.
+fn write(plan: Option<Result<ClockConfig, Refusal>>, reading: u8, sheet: &mut [u8]) -> u64
+    ensures { SheetCall (answer_in plan) reading sheet.old result sheet.new }
 {
     match plan {
-        Ok(config) => write(config, reading, sheet),
-        Err(why) => answers::refused(why),
-    }
-}
-
-// Writes the sheet of a plan that is given as numbers; numbers of no plan are malformed.
-fn write_given(plan: Option<ClockConfig>, reading: u8, sheet: &mut [u8]) -> u64
-    ensures { SheetCall (given plan) reading sheet.old result sheet.new }
-{
-    match plan {
-        Some(config) => write(config, reading, sheet),
+        Some(Ok(config)) => answers::number(sheet::init(config, reading, sheet).map(|n| n as u64)),
+        Some(Err(why)) => answers::refused(why),
         None => answers::MALFORMED,
     }
 }
@@ -199,10 +179,8 @@ fn write_given(plan: Option<ClockConfig>, reading: u8, sheet: &mut [u8]) -> u64
 pub extern "C" fn dizbaral_system_sheet(chip: u8, hz: u32, reading: u8, sheet: &mut [u8]) -> u64
     ensures { SheetCall (preset_on (λ on. system_plan on hz) (chip_numbered chip)) reading sheet.old result sheet.new }
 {
-    match answers::chip(chip) {
-        Some(on) => write_planned(ClockConfig::system_freq(on, hz), reading, sheet),
-        None => answers::MALFORMED,
-    }
+    let plan = answers::chip(chip).map(|on| ClockConfig::system_freq(on, hz));
+    write(plan, reading, sheet)
 }
 
 // Writes the sheet of `system_freq_from`. Refusals: 15, 25, 18, 1 to 14, 19; an unknown chip is malformed.
@@ -216,14 +194,8 @@ pub extern "C" fn dizbaral_system_sheet_from(
 ) -> u64
     ensures { SheetCall (preset_on (λ on. system_plan_from on crystal_hz hz) (chip_numbered chip)) reading sheet.old result sheet.new }
 {
-    match answers::chip(chip) {
-        Some(on) => write_planned(
-            ClockConfig::system_freq_from(on, crystal_hz, hz),
-            reading,
-            sheet,
-        ),
-        None => answers::MALFORMED,
-    }
+    let plan = answers::chip(chip).map(|on| ClockConfig::system_freq_from(on, crystal_hz, hz));
+    write(plan, reading, sheet)
 }
 
 // Writes the sheet of a plan given as numbers. Refusals: 18, 1 to 14, 19; an unknown chip or no plan is malformed.
@@ -231,10 +203,8 @@ pub extern "C" fn dizbaral_system_sheet_from(
 pub extern "C" fn dizbaral_plan_sheet(chip: u8, plan: &[u32], reading: u8, sheet: &mut [u8]) -> u64
     ensures { SheetCall (plan_on plan.now (chip_numbered chip)) reading sheet.old result sheet.new }
 {
-    match answers::chip(chip) {
-        Some(on) => write_given(numbers::plan::plan(on, plan), reading, sheet),
-        None => answers::MALFORMED,
-    }
+    let plan = answers::chip(chip).and_then(|on| numbers::plan::plan(on, plan).map(Ok));
+    write(plan, reading, sheet)
 }
 
 // Writes every setting that gives the target exactly, two bytes each, and answers the length in bytes. Refusal: 19.

@@ -21,7 +21,7 @@ ghost use Rattle.lister.specs.Lister.{listed_of, listed_in};
 ghost use Rattle.bring_up.specs.ComesUp.{longest_wait};
 ghost use Rattle.numbers.specs.Answers.{answer_number, itself, setting_number, dividers_are, done, limits_after, chip_numbered, on_chip};
 ghost use Rattle.numbers.specs.Answers.{voltage_number, divider_numbered, gpout_number};
-ghost use Rattle.export.specs.Sheet.{SheetCall, preset_on, given, plan_on};
+ghost use Rattle.export.specs.Sheet.{SheetCall, preset_on, plan_on};
 ghost use Rattle.numbers.specs.Run.{run_number, run_leaves, StartCall};
 ghost use Rattle.numbers.specs.Access.{AccessCall};
 

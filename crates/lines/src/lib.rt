@@ -3,11 +3,14 @@
 
 ghost use Rattle.std.specs.Prelude.{◌≡◌, ◌≤◌, length};
 ghost use Rattle.base.specs.Placed.{Placed};
+ghost use Rattle.base.specs.Writing.{Puts};
 ghost use Rattle.lines.specs.Lines.{no_line, held_text, pushed, feeds, feeds_out, Feeding};
 
+use base::Writer;
 use std::io::{Input, Read};
 
-// What is held of a line: its first bytes, and their number, which is 4097 for a line of more than 4096.
+// What is held of a line: its first bytes, and their number, which is 4097 for a line of more than 4096. One count says how long the
+// line is and that it is too long, as it stops at 4097; an enum would say it twice.
 #[derive(Drop)]
 pub struct Held {
     pub bytes: [u8; 4096],
@@ -37,23 +40,33 @@ impl Held {
         }
     }
 
-    // Writes the answer to the line and a newline, and answers the index after them.
-    #[tactic(auto, using(std::proofs::lemmas::Bool::Decides::nat_tests), unfolding(crate::specs::Lines::held_text))]
-    fn answer(&self, out: &mut [u8]) -> usize
-        ensures placed { Placed out.old 0 (held_text self.now) result out.new }
+    // Writes the answer to the line and a newline.
+    #[tactic(auto, using(base::proofs::Writing::put_more), unfolding(crate::specs::Lines::held_text))]
+    fn write_answer(&self, out: &mut Writer<'_, u8>)
+        ensures puts { Puts out.old (held_text self.now) out.new }
         ensures short { length (held_text self.now) ≤ 3478 }
     {
         let len = self.len;
         if 4096 < len {
-            let bad = replies::put_bad(out);
-            return base::put(out, bad, b'\n');
+            replies::write_bad(out);
+        } else {
+            cases::write_answer(out, &self.bytes[..len]);
         }
-        let end = cases::answer(&self.bytes[..len], out);
-        base::put(out, end, b'\n')
+        out.put(b'\n');
+    }
+
+    // Writes the answer and a newline at the buffer's start, and answers the index after them.
+    fn answer(&self, out: &mut [u8]) -> usize
+        ensures placed { Placed out.old 0 (held_text self.now) result out.new }
+        ensures short { length (held_text self.now) ≤ 3478 }
+    {
+        let mut out = Writer::new(out);
+        self.write_answer(&mut out);
+        out.at
     }
 
     // Takes a byte. A newline closes the line, whose answer is written; it answers the index after it.
-    #[tactic(auto, using(std::proofs::lemmas::Bool::Decides::nat_tests), unfolding(crate::specs::Lines::fed, crate::specs::Lines::fed_out))]
+    #[tactic(auto, unfolding(crate::specs::Lines::fed, crate::specs::Lines::fed_out))]
     fn feed(&mut self, b: u8, out: &mut [u8]) -> Option<usize>
         ensures { Feeding self.old b out.old result self.new out.new }
     {

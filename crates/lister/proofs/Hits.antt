@@ -1,6 +1,6 @@
 -- The settings with one feedback divider that give the target with no remainder are those whose post product is the
 -- quotient of the VCO frequency and the target.
-use mathlib.Core.{Path.◌≡◌, Path.refl, Path.sym, Path.◌∙◌, Path.ap, List.List, List.[], List.◌∷◌, List.map, List.flat_map}
+use mathlib.Core.{Path.◌≡◌, Path.refl, Path.sym, Path.◌∙◌, Path.ap, List.[], List.◌∷◌, List.map, List.flat_map}
 use mathlib.Core.{Bool.Bool, Bool.true, Bool.false, Bool.◌&&◌, Logic.⊎_elim}
 use Prim.Native.Nat.{ℕ, zero, suc, ◌+◌, ◌-◌, ◌*◌, ◌/◌, ◌%◌, ◌≤◌, ◌<◌}
 use native.Mathlib.Omega.{arith}
@@ -8,17 +8,19 @@ use native.Mathlib.Nat.{eq-or-lt_of_le, eq_of_mul-eq-mul_left, div-one, div-add-
 use lib.Dec.{leb, eqb}
 use borrow.Author.Tests.{le-leb, leb-true, eqb-true, eq-eqb, ne_eqb}
 use Rattle.base.specs.Choice.{in_range}
-use Rattle.base.proofs.Bools.{both_true, never_true, same_test, in-range}
+use Rattle.std.proofs.lemmas.Bool.{and_parts, false_from_ne_true, false≢true}
+use Rattle.base.proofs.Bools.{in-range}
 use Rattle.pll.specs.Ranges.{reference_min, feedback_min, feedback_max, vco_min, vco_max}
 use Rattle.pll.specs.Search.{falling, rising, setting, keep}
 use Rattle.pll.specs.Law.{InVco, VcoPermits, HighestPermitted, LowestPermitted}
 use Rattle.lister.specs.Lister.{meets, in_order, list_of}
-use Rattle.lister.specs.Order.{at_post1, at_feedback, has_product, Wrote}
-use Rattle.lister.proofs.{Writing.nothing, Walks.same-feedback, Walks.none_kept, Walks.none-given, Walks.between}
+use Rattle.lister.specs.Order.{at_post1, at_feedback, has_product}
+use Rattle.lister.proofs.{Walks.same-feedback, Walks.none_kept, Walks.none-given, Walks.between}
 
--- the quotient is a post 2, and nothing remains
-abbrev pub divides : ℕ → ℕ → Bool
-divides p1 q = in_range 1 p1 (q / p1) && eqb (q % p1) 0
+-- two tests, each of which holds where the other does, are the same
+same_test : (a b : Bool) → (a ≡ true → b ≡ true) → (b ≡ true → a ≡ true) → a ≡ b
+same_test true b to from = sym (to refl)
+same_test false b to from = sym (false_from_ne_true b (λ e. absurd (false≢true (from e))))
 
 -- of the post 2 from n down to 1, at most one makes a product with post 1
 module _ (fb p1 : ℕ) (positive : 1 ≤ p1) where
@@ -46,24 +48,19 @@ module _ (fb p1 : ℕ) (positive : 1 ≤ p1) where
       (one_product k n lo (omega arith)))
       (eq-or-lt_of_le hi)
 
-  pub product-kept : (q : ℕ) → divides p1 q ≡ true
+  pub product_kept : (q : ℕ) → 1 ≤ q / p1 → q / p1 ≤ p1 → q % p1 ≡ 0
       → keep (has_product q) (at_post1 fb p1) ≡ setting fb p1 (q / p1) ∷ []
-  product-kept q e =
-      let h = both_true (in_range 1 p1 (q / p1)) (eqb (q % p1) 0) e in
-      let r = in-range 1 p1 (q / p1) h.0 in
-      let z = eqb-true (q % p1) 0 h.1 in
+  product_kept q low high whole =
       let m : p1 * (q / p1) ≡ q = omega (arith, div-add-mod' q p1) in
-      rw m at (one_product (q / p1) p1 r.0 r.1)
+      rw m at (one_product (q / p1) p1 low high)
 
-  pub no-product-kept : (q : ℕ) → divides p1 q ≡ false → keep (has_product q) (at_post1 fb p1) ≡ []
-  no-product-kept q e =
+  pub no-product-kept : (q : ℕ) → (1 ≤ q / p1 → q / p1 ≤ p1 → q % p1 ≡ 0 → ⊥)
+      → keep (has_product q) (at_post1 fb p1) ≡ []
+  no-product-kept q none =
       no-product q p1
       (λ k lo hi m.
       let d : q / p1 ≡ k = rw (← m) (mul-div_cancel_left k positive) in
-      let z : q % p1 ≡ 0 = rw (← m) (mul-mod_right p1 k) in
-      let t : divides p1 q ≡ true = rw (d, le-leb 1 k lo, le-leb k p1 hi, eq-eqb (q % p1) 0 z) in
-      let y : ◌≡◌ {A = ℕ} 0 1 = cc in
-      omega arith)
+      none (omega arith) (omega arith) (rw (← m) (mul-mod_right p1 k)))
 
 module _ (input target fb : ℕ) where
   -- where no product gives the target, or the divider is not permitted, there is no setting
@@ -74,23 +71,17 @@ module _ (input target fb : ℕ) where
     where
       missed : (p1 p2 : ℕ) → meets input target (setting fb p1 p2) ≡ false
       missed p1 p2 =
-          never_true (meets input target (setting fb p1 p2))
+          false_from_ne_true (meets input target (setting fb p1 p2))
           (λ e.
           let v : input / 1 * fb ≡ input * fb = rw div-one in
-          let t = both_true (leb reference_min input && leb feedback_min fb && in_range vco_min vco_max (input / 1 * fb))
+          let t = and_parts (leb reference_min input && leb feedback_min fb && in_range vco_min vco_max (input / 1 * fb))
           (eqb (target * (p1 * p2)) (input / 1 * fb)) e in
-          let p = both_true (leb reference_min input && leb feedback_min fb) (in_range vco_min vco_max (input / 1 * fb)) t.0 in
-          let l = both_true (leb reference_min input) (leb feedback_min fb) p.0 in
+          let p = and_parts (leb reference_min input && leb feedback_min fb) (in_range vco_min vco_max (input / 1 * fb)) t.0 in
+          let l = and_parts (leb reference_min input) (leb feedback_min fb) p.0 in
           let r = in-range vco_min vco_max (input / 1 * fb) p.1 in
           h (p1 * p2) (leb-true reference_min input l.0) (leb-true feedback_min fb l.1)
           (record { low = omega arith; high = omega arith })
           (eqb-true (target * (p1 * p2)) (input / 1 * fb) t.1 ∙ v))
-
-  -- and nothing is put
-  pub none-put : (buf : List ℕ) (at : ℕ) → ((posts : ℕ) → 0 < input * fb → target * posts ≡ input * fb → ⊥)
-      → Wrote buf at (keep (meets input target) (at_feedback fb)) buf at × (at ≤ at + 14)
-  none-put buf at h =
-      (rw (none-meets (λ p least low v e. h p (omega (arith, v.low)) e)) (nothing buf at), omega arith)
 
   -- where the target goes into the VCO frequency, the quotient is the product
   pub product-meets : reference_min ≤ input → VcoPermits input fb → 0 < target → input * fb % target ≡ 0

@@ -5,7 +5,8 @@ use native.Mathlib.{Omega.arith, Decide.dec_le}
 use lib.Dec.{eqb}
 use borrow.Author.Tests.{eqb-true, eq-eqb}
 use Rattle.base.specs.Choice.{pick, in_range}
-use Rattle.base.proofs.Bools.{both_true, in-range, range-true}
+use Rattle.std.proofs.lemmas.Bool.{and_parts}
+use Rattle.base.proofs.Bools.{in-range, range-true}
 use Rattle.pll.specs.{Ranges.feedback_min, Ranges.feedback_max, Search.permitted, Search.exact, Law.Candidate}
 use Rattle.pll.specs.declared.PllConfig.{PllConfig}
 use Rattle.pll.proofs.Order.{Kind, Lists, From, lists-same, lists-rising, lists-keep}
@@ -72,11 +73,11 @@ module _ (input target : ℕ) where
 
   pub free-hit : (c : PllConfig) → remainder_free input target c ≡ true → Hit c
   free-hit c e =
-      let fourth = both_true _ (in_range 1 c.post_div1 c.post_div2) e in
-      let third = both_true _ (in_range 1 7 c.post_div1) fourth.0 in
-      let second = both_true _ (in_range feedback_min feedback_max c.fbdiv) third.0 in
-      let first = both_true _ (eqb c.refdiv 1) second.0 in
-      let meet = both_true (permitted input c) (exact input target c) first.0 in
+      let fourth = and_parts _ (in_range 1 c.post_div1 c.post_div2) e in
+      let third = and_parts _ (in_range 1 7 c.post_div1) fourth.0 in
+      let second = and_parts _ (in_range feedback_min feedback_max c.fbdiv) third.0 in
+      let first = and_parts _ (eqb c.refdiv 1) second.0 in
+      let meet = and_parts (permitted input c) (exact input target c) first.0 in
       let post2 = in-range 1 c.post_div1 c.post_div2 fourth.1 in
       let post1 = in-range 1 7 c.post_div1 third.1 in
       let feedback = in-range feedback_min feedback_max c.fbdiv second.1 in (
@@ -90,7 +91,7 @@ module _ (input target : ℕ) where
   list-hits =
       lists-same list_key _ Hit
       (λ c m.
-      let meet = both_true (permitted input c) (exact input target c) m.1 in
+      let meet = and_parts (permitted input c) (exact input target c) m.1 in
       (permitted-candidate input c m.0.0.0 m.0.0.1 meet.0, meet.1))
       (λ c h. (
         ((candidate-posts input c h.0, h.0.feedback_high), h.0.feedback_low, omega (arith, h.0.feedback_high)),

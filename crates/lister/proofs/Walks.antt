@@ -1,13 +1,18 @@
 -- A walk over numbers writes the settings of each number that pass a test; numbers without such settings may be left out.
-use mathlib.Core.{Path.◌≡◌, Path.refl, Path.sym, Path.◌∙◌, List.List, List.[], List.◌∷◌, List.◌++◌, List.map, List.flat_map}
-use mathlib.Core.Bool.{Bool, false}
-use Prim.Native.Nat.{ℕ, zero, suc, ◌+◌, ◌-◌, ◌≤◌, ◌<◌}
+use mathlib.Core.Path.{◌≡◌, refl, sym, ap, ◌∙◌}
+use mathlib.Core.List.{List, [], ◌∷◌, ◌++◌, map, flat_map}
+use mathlib.Core.Bool.{Bool, true, false}
+use Prim.Native.Nat.{ℕ, zero, suc, ◌+◌, ◌-◌, ◌*◌, ◌≤◌, ◌<◌}
+use lib.ListN.{length}
+use Rattle.base.specs.Choice.{pick}
 use native.Mathlib.{Omega.arith, Numerals.add-one}
 use Rattle.pll.specs.{Ranges.feedback_min, Ranges.feedback_max, Search.falling, Search.rising, Search.setting, Search.keep}
 use Rattle.pll.specs.declared.PllConfig.{PllConfig}
 use Rattle.pll.proofs.Order.{keep_append}
-use Rattle.lister.specs.Order.{at_post1, at_feedback, Wrote}
-use Rattle.lister.proofs.Writing.{nothing, then}
+use Rattle.base.specs.Writing.{Written}
+use Rattle.lister.specs.Lister.{in_order}
+use Rattle.lister.specs.Order.{at_post1, at_feedback, puts}
+use Rattle.lister.proofs.Writing.{put_more, put_none}
 
 pub falling-step : (n : ℕ) → 1 ≤ n → falling n ≡ n ∷ falling (n - 1)
 unfolding falling
@@ -28,6 +33,15 @@ unfolding rising
 rising-end zero k h = refl
 rising-end (suc n) k h = absurd (omega arith)
 
+-- the numbers of all settings of the lister, and of those with one feedback divider
+pub few : length in_order ≡ 8540
+unfolding in_order rising falling flat_map
+few = refl
+
+pub few-posts : (fb : ℕ) → length (at_feedback fb) ≡ 28
+unfolding falling flat_map
+few-posts fb = refl
+
 module _ (t : PllConfig → Bool) where
   keep-each : (f : ℕ → List PllConfig) (k : ℕ) (ks : List ℕ)
       → keep t (flat_map f (k ∷ ks)) ≡ keep t (f k) ++ keep t (flat_map f ks)
@@ -35,16 +49,32 @@ module _ (t : PllConfig → Bool) where
   keep-each f k ks = keep_append t (f k) (flat_map f ks)
 
   -- the settings of the next number, and then those of the numbers left, complete the walk
-  pub one_more : {b b₁ b₂ : List ℕ} {at m r : ℕ} (f : ℕ → List PllConfig) (k : ℕ) (ks left : List ℕ) → ks ≡ k ∷ left
-      → Wrote b at (keep t (f k)) b₁ m → Wrote b₁ m (keep t (flat_map f left)) b₂ r
-      → Wrote b at (keep t (flat_map f ks)) b₂ r
-  one_more f k ks left e v w = rw (e, keep-each f k left) (then (keep t (f k)) (keep t (flat_map f left)) v w)
+  pub one_more : (w v : Written ℕ) (f : ℕ → List PllConfig) (k : ℕ) (ks left : List ℕ) → ks ≡ k ∷ left
+      → v ≡ puts w (keep t (f k)) → puts v (keep t (flat_map f left)) ≡ puts w (keep t (flat_map f ks))
+  one_more w v f k ks left e put =
+      rw (put, e, keep-each f k left) (put_more w (keep t (f k)) (keep t (flat_map f left)))
 
   -- no number is left
-  pub done : (b : List ℕ) (at : ℕ) (f : ℕ → List PllConfig) (ks : List ℕ) → ks ≡ []
-      → Wrote b at (keep t (flat_map f ks)) b at
+  pub done : (w : Written ℕ) (f : ℕ → List PllConfig) (ks : List ℕ) → ks ≡ [] → puts w (keep t (flat_map f ks)) ≡ w
   unfolding keep flat_map
-  done b at f ks e = rw e (nothing b at)
+  done w f ks e = rw e (put_none w)
+
+  keep-length : (cs : List PllConfig) → length (keep t cs) ≤ length cs
+  unfolding keep
+  keep-length [] = omega arith
+  keep-length (c ∷ cs) = go (t c) (keep-length cs)
+    where
+      go : (b : Bool) → length (keep t cs) ≤ length cs → length (pick b (c ∷ keep t cs) (keep t cs)) ≤ suc (length cs)
+      go true h = omega arith
+      go false h = omega arith
+
+  -- a part of the settings moves the index by no more than twice their number
+  pub index-most : (w v : Written ℕ) (cs left : List PllConfig) → puts v left ≡ puts w (keep t cs)
+      → v.at ≤ w.at + 2 * length cs
+  unfolding puts
+  index-most w v cs left e =
+      let i : v.at + 2 * length left ≡ w.at + 2 * length (keep t cs) = ap (λ (h : Written ℕ). h.at) e in
+      omega (arith, keep-length cs)
 
 -- numbers that give nothing may be left out
 module _ (t : PllConfig → Bool) (f : ℕ → List PllConfig) where
@@ -66,7 +96,8 @@ module _ (t : PllConfig → Bool) (f : ℕ → List PllConfig) where
   -- after the others
   stop : (n m total k : ℕ) → total ≡ n + m → ((j : ℕ) → k + n ≤ j → j < k + total → keep t (f j) ≡ [])
       → keep t (flat_map f (rising total k)) ≡ keep t (flat_map f (rising n k))
-  stop zero m total k e h = none-given total k (λ j lo hi. h j (omega arith) hi) ∙ sym (none-given 0 k (λ j lo hi. absurd (omega arith)))
+  stop zero m total k e h =
+      none-given total k (λ j lo hi. h j (omega arith) hi) ∙ sym (none-given 0 k (λ j lo hi. absurd (omega arith)))
   stop (suc n) m total k e h =
       rw (
         rising_step total (n + m) k (omega arith),

@@ -11,16 +11,16 @@ use Rattle.margin.specs.Margin.{is_setting, lower_from, higher_from, margin_at, 
 use Rattle.margin.specs.declared.Margin.{Margin}
 use Rattle.margin.specs.Law.{RightLower, RightHigher, RightMargin}
 use Rattle.pll.proofs.Same.{same-path, same_self}
-use Rattle.margin.proofs.{Sides.no, Sides.value_same, Sides.refused-not, Sides.refused-15, Unique.margin-unique}
+use Rattle.margin.proofs.{Sides.refused-15, Unique.margin-unique}
 
 -- the test says whether the answer is the setting
 is-setting : (c : PllConfig) (a : Answer PllConfig) → is_setting c a ≡ true → a ≡ value c
 is-setting c (value d) e = ap value (same-path d c e)
-is-setting c (refusal n) e = no e
+is-setting c (refusal n) e = cc
 
 setting-is : (c : PllConfig) (a : Answer PllConfig) → a ≡ value c → is_setting c a ≡ true
-setting-is c (value d) e = same_self d c (value_same d c e)
-setting-is c (refusal n) e = absurd (refused-not n c e)
+setting-is c (value d) e = same_self d c cc
+setting-is c (refusal n) e = cc
 
 module _ (input target : ℕ) (c : PllConfig) (given : search_of input target ≡ value c) where
   abbrev test : ℕ → Bool
@@ -30,7 +30,7 @@ module _ (input target : ℕ) (c : PllConfig) (given : search_of input target �
   shares t e = is-setting c (search_of input t) e ∙ sym given
 
   differs : (t : ℕ) → test t ≡ false → search_of input t ≡ search_of input target → ⊥
-  differs t e s = no (sym e ∙ setting-is c (search_of input t) (s ∙ given))
+  differs t e s = let z = sym e ∙ setting-is c (search_of input t) (s ∙ given) in cc
 
   -- every target that the walk down passes shares the setting
   lower-right : (t : ℕ) → t ≤ target → ((u : ℕ) → t ≤ u → u ≤ target → search_of input u ≡ search_of input target)
@@ -59,7 +59,8 @@ module _ (input target : ℕ) (c : PllConfig) (given : search_of input target �
           → RightHigher input target (higher_from test n (suc t)))
           → RightHigher input target (pick b (higher_from test n (suc t)) (Some (suc t)))
       go true f next =
-          next (λ u a b. ⊎_elim (λ g. ap (search_of input) g ∙ shares (suc t) f) (λ m. passed u a (omega arith)) (eq-or-lt_of_le b))
+          next (λ u a b. ⊎_elim (λ g. ap (search_of input) g ∙ shares (suc t) f) (λ m. passed u a (omega arith))
+          (eq-or-lt_of_le b))
       go false f next = (omega arith, omega arith, differs (suc t) f, λ u a b. passed u a (omega arith))
 
 module _ (input target : ℕ) where

@@ -1,22 +1,12 @@
 -- A comparison of two settings decides whether the search gives c, and the lowest and the highest target with c give
 -- the two sides.
-use mathlib.Core.{Path.◌≡◌, Path.sym, Path.ap, Path.subst, Path.◌∙◌, Bool.Bool, Bool.true, Bool.false}
+use mathlib.Core.{Path.◌≡◌, Path.sym, Path.ap, Path.subst, Path.◌∙◌, Bool.Bool, Bool.false}
 use Prim.Native.Nat.{ℕ}
-use native.Mathlib.Omega.{arith}
 use Rattle.base.specs.Answer.{Answer, value, refusal}
 use Rattle.pll.specs.{Search.search_of, Law.RightAnswer, Setting.same_setting}
 use Rattle.pll.specs.declared.PllConfig.{PllConfig}
 use Rattle.pll.proofs.{Right.search-right, Same.same-path, Same.same_self}
 use Rattle.margin.specs.Walk.{Tells}
-
-pub no : {A : Type 0} → false ≡ true → A
-no e = let z : ◌≡◌ {A = ℕ} 0 1 = cc in absurd (omega arith)
-
-pub value_same : (c d : PllConfig) → ◌≡◌ {A = Answer PllConfig} (value c) (value d) → c ≡ d
-value_same c d e = cc
-
-pub refused-not : (n : ℕ) (c : PllConfig) → ◌≡◌ {A = Answer PllConfig} (refusal n) (value c) → ⊥
-refused-not n c e = let z : ◌≡◌ {A = ℕ} 0 1 = cc in omega arith
 
 -- the comparison of c with the search's setting decides
 pub found-tells : (input t : ℕ) (d c : PllConfig) (r : Bool) → search_of input t ≡ value d → r ≡ same_setting d c
@@ -24,11 +14,11 @@ pub found-tells : (input t : ℕ) (d c : PllConfig) (r : Bool) → search_of inp
 found-tells input t d c r e s =
     record {
       yes = λ y. e ∙ ap value (same-path d c (sym s ∙ y));
-      no = λ h. s ∙ same_self d c (value_same d c (sym e ∙ h));
+      no = λ h. let found : ◌≡◌ {A = Answer PllConfig} (value d) (value c) = sym e ∙ h in s ∙ same_self d c cc;
     }
 
 pub refused-tells : (input t n : ℕ) (c : PllConfig) → search_of input t ≡ refusal n → Tells input t c false
-refused-tells input t n c e = record { yes = λ y. no y; no = λ h. absurd (refused-not n c (sym e ∙ h)) }
+refused-tells input t n c e = record { yes = λ y. cc; no = λ h. let found = sym e ∙ h in cc }
 
 -- the search refuses only with 15
 pub refused-15 : (input target n : ℕ) → search_of input target ≡ refusal n

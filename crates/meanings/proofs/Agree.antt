@@ -7,7 +7,7 @@ use native.Mathlib.{Nat.div-div-eq-div-mul, Nat.pow-suc, Omega.arith}
 use borrow.Author.Tests.{eqb-true, eq-eqb, ne_eqb}
 use lib.{Dec.eqb, ListN.length, ListN.get_or}
 use Rattle.base.specs.Choice.{pick}
-use Rattle.base.proofs.Bools.{both_true}
+use Rattle.std.proofs.lemmas.Bool.{and_parts}
 use Rattle.meanings.specs.Differences.{agree_from, agree, mask_of, has_bit}
 
 agree-from : (t : Bool) (xs ys : List ℕ) → agree_from t xs ys ≡ true → (t ≡ true) × (xs ≡ ys)
@@ -16,7 +16,7 @@ agree-from t [] (y ∷ ys) e = let z : ◌≡◌ {A = ℕ} 0 1 = cc in absurd (o
 agree-from t (x ∷ xs) [] e = let z : ◌≡◌ {A = ℕ} 0 1 = cc in absurd (omega arith)
 agree-from t (x ∷ xs) (y ∷ ys) e =
     let more = agree-from (t && eqb x y) xs ys e in
-    let both = both_true t (eqb x y) more.0 in
+    let both = and_parts t (eqb x y) more.0 in
     let x-y : x ≡ y = eqb-true x y both.1 in
     let xs-ys : xs ≡ ys = more.1 in
     (both.0, cc)

@@ -17,7 +17,7 @@ use Rattle.config.specs.Board.{board_of}
 use Rattle.settings.specs.declared.Crystal.{Crystal}
 use Rattle.settings.specs.declared.Settings.{Settings}
 use Rattle.settings.specs.Settings.{settings_of}
-use Rattle.settings.specs.Codes.{sys_code, range_from, ref_from, sys_source_from, peri_from, aux_from, chip_from}
+use Rattle.config.specs.Codes.{sys_code, range_from, ref_from, sys_source_from, peri_from, aux_from, chip_from}
 use Rattle.settings.proofs.Decoded.{range-code, ref-code, peri-code, aux-code, chip-back}
 use Rattle.meanings.specs.Parts.{chip_code, ring_numbers, crystal_numbers, sys_pll_of, usb_pll_of, pll_numbers, cycles_numbers}
 use Rattle.meanings.specs.Parts.{peri_numbers, aux_numbers, rtc_numbers, parts_of}

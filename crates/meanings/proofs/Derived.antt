@@ -22,7 +22,7 @@ use Rattle.config.specs.contracts.RoscConfigPartialEq.TheImpl as ring
 use Rattle.config.specs.contracts.AuxClkConfigPartialEq.TheImpl as aux
 use Rattle.config.specs.contracts.RtcClkConfigPartialEq.TheImpl as rtc
 use Rattle.settings.specs.declared.Crystal.{Crystal}
-use Rattle.settings.specs.Codes.{range_code, range_from, ref_code, ref_from, sys_code, sys_source_from, peri_aux, peri_from, aux_code, aux_from}
+use Rattle.config.specs.Codes.{range_code, range_from, ref_code, ref_from, sys_code, sys_source_from, peri_aux, peri_from, aux_code, aux_from}
 use Rattle.settings.proofs.Decoded.{range-code, ref-code, peri-code, aux-code}
 use Rattle.meanings.specs.Parts.{chip_code, ring_numbers, crystal_numbers, pll_numbers, cycles_numbers, peri_numbers, aux_numbers, rtc_numbers}
 use Rattle.meanings.specs.Differences.{agree}

@@ -3,6 +3,7 @@ use mathlib.Core.{Path.◌≡◌, Path.refl, Path.sym, Path.ap, Path.◌∙◌, 
 use Prim.Native.Nat.{ℕ, ◌+◌, ◌<◌}
 use native.Mathlib.{Numerals.add-one, Omega.arith}
 use lib.ListN.{get_or}
+use Rattle.base.proofs.Writing.{writing}
 use Rattle.config.specs.declared.ClockConfig.{ClockConfig}
 use Rattle.settings.specs.{declared.Settings.Settings, Settings.settings_of}
 use Rattle.sheet.proofs.Demand3.{demand-3}
@@ -37,3 +38,6 @@ part-differs a b k h = mask-bit (parts_of a) (parts_of b) k (omega arith) (omega
 
 pub lines_next : (mask k : ℕ) → part_lines mask (k + 1) ≡ part_lines mask k ++ part_line mask k
 lines_next mask k = rw (add-one k)
+
+-- what a loop over the parts rewrites by
+pub ruleset lines = (writing, lines_next)

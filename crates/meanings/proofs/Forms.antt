@@ -1,15 +1,17 @@
 -- A form is put byte by byte, and each step's form has a place for each of the kind's fields.
 use mathlib.Core.{Path.◌≡◌, Path.refl, Path.ap, Bool.Bool, Bool.true, Bool.false}
-use mathlib.Core.List.{List, [], ◌∷◌, ◌++◌, map}
-use Prim.Native.{Nat.ℕ, Nat.suc, Nat.◌+◌, Nat.◌≤◌, Nat.◌<◌, String.String}
+use mathlib.Core.List.{List, [], ◌∷◌, ◌++◌}
+use Prim.Native.{Nat.ℕ, Nat.suc, Nat.◌+◌, Nat.◌≤◌, Nat.◌<◌}
 use native.Mathlib.{Nat.suc-add, Nat.zero-add, Numerals.add-one}
 use lib.{Dec.ltb, ListN.length, ListN.drop, ListN.get_or, ListN.drop_of_length-le, Seq.drop-cons}
 use Rattle.base.specs.{Choice.bit}
 use Rattle.base.proofs.Writing.{put_more, put_none}
-use Rattle.step.specs.{Layout.rows, Steps.step_of}
+use Rattle.step.specs.declared.kind.Kind.{Kind}
+use Rattle.step.specs.declared.kind.Kind.TheVariants as kind
+use Rattle.step.specs.{Layout.layout, Steps.step_of}
 use Rattle.text.specs.{Ascii.ascii, Decimal.decimal_of, Hex.hex_of}
 use Rattle.meanings.specs.{Rows.row_text, Form.clock_rows, Form.clock_name}
-use Rattle.meanings.specs.{Form.mask_text, Form.is_field, Form.piece_of, Form.formed_from, Form.formed, Steps.step_forms, Steps.step_text}
+use Rattle.meanings.specs.{Form.mask_text, Form.is_field, Form.piece_of, Form.formed_from, Form.formed, Steps.step_form, Steps.step_text}
 
 -- a form with the numbers after the first one
 from-none : (form : List ℕ) (i : ℕ) → formed_from form [] (suc i) ≡ formed_from form [] i
@@ -48,16 +50,17 @@ abbrev present : List ℕ → ℕ
 present [] = 0
 present (w ∷ ws) = bit (ltb 0 w) + present ws
 
-pub every-field : map (λ (form : String). fields_in (ascii form)) step_forms ≡ map present rows
-unfolding step_forms rows
-every-field = refl
+-- the form of a kind has a place for each of its fields
+pub every-field : (k : Kind) → fields_in (step_form k) ≡ present (layout k)
+every-field (kind.Unknown number) = refl
+every-field k = refl
 
 -- a step of each kind of field, and one of no kind
 pub worked-steps :
-    (step_text (step_of 1 0x0FBCDBF 0 0 0 0) ≡ ascii "1 reset write: mask 0x0fbcdbf")
-    × (step_text (step_of 4 0 0 0 0 0) ≡ ascii "4 resus off")
-    × (step_text (step_of 23 0 6 2 0 0) ≡ ascii "23 PLL post dividers: W 0, post1 6, post2 2")
-    × (step_text (step_of 37 0 6500000 0 0 0) ≡ ascii "37 store: rosc 6500000 Hz")
-    × (step_text (step_of 46 0 0 0 0 0) ≡ ascii "no step")
-unfolding step_text step_forms row_text piece_of mask_text hex_of clock_name clock_rows decimal_of
+    (step_text (step_of kind.Reset 0x0FBCDBF 0 0 0 0) ≡ ascii "1 reset write: mask 0x0fbcdbf")
+    × (step_text (step_of kind.ResusOff 0 0 0 0 0) ≡ ascii "4 resus off")
+    × (step_text (step_of kind.PllPosts 0 6 2 0 0) ≡ ascii "23 PLL post dividers: W 0, post1 6, post2 2")
+    × (step_text (step_of kind.Store 0 6500000 0 0 0) ≡ ascii "37 store: rosc 6500000 Hz")
+    × (step_text (step_of (kind.Unknown 46) 0 0 0 0 0) ≡ ascii "no step")
+unfolding step_text row_text piece_of mask_text hex_of clock_name clock_rows decimal_of
 worked-steps = (refl, refl, refl, refl, refl)

@@ -3,7 +3,6 @@ pub mod Refusals
 pub mod Forms
 pub mod Agree
 pub mod Derived
-pub mod Cut
 pub mod Bits
 pub mod Decode
 pub mod Differing

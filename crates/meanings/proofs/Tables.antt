@@ -5,7 +5,7 @@ use Prim.Native.{Nat.ℕ, Nat.zero, Nat.suc, Nat.◌≤◌, String.String}
 use native.Mathlib.Omega.{arith}
 use borrow.Author.Tests.{leb-true}
 use lib.{Dec.leb, ListN.length}
-use Rattle.base.proofs.Bools.{both_true}
+use Rattle.std.proofs.lemmas.Bool.{and_parts}
 use Rattle.text.specs.Ascii.{ascii}
 use Rattle.meanings.specs.Rows.{row_text}
 
@@ -18,6 +18,6 @@ unfolding row_text
 row-most [] most zero t = omega arith
 row-most [] most (suc n) t = omega arith
 row-most (row ∷ rows) most zero t =
-    leb-true (length (ascii row)) most (both_true (leb (length (ascii row)) most) (all_within most rows) t).0
+    leb-true (length (ascii row)) most (and_parts (leb (length (ascii row)) most) (all_within most rows) t).0
 row-most (row ∷ rows) most (suc n) t =
-    row-most rows most n (both_true (leb (length (ascii row)) most) (all_within most rows) t).1
+    row-most rows most n (and_parts (leb (length (ascii row)) most) (all_within most rows) t).1

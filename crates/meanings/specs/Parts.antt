@@ -7,7 +7,7 @@ use Rattle.pll.specs.declared.PllConfig.{PllConfig}
 use Rattle.config.specs.declared.{PeriClkSrc.PeriClkSrc, AuxClkConfig.AuxClkConfig}
 use Rattle.config.specs.declared.{RtcClkConfig.RtcClkConfig}
 use Rattle.settings.specs.declared.{Crystal.Crystal, Settings.Settings}
-use Rattle.settings.specs.Codes.{range_code, ref_code, sys_code, peri_aux, aux_code}
+use Rattle.config.specs.Codes.{range_code, ref_code, sys_code, peri_aux, aux_code}
 
 abbrev pub chip_code : Chip → ℕ
 chip_code Rp2040 = 0
@@ -75,7 +75,7 @@ clock_parts s =
 
 -- voltage code and settling step, then the clocks
 abbrev pub core_parts : Settings → List (List ℕ)
-core_parts s = (s.board.code ∷ []) ∷ cycles_numbers s.settling ∷ clock_parts s
+core_parts s = (s.board.volts.code ∷ []) ∷ cycles_numbers s.settling ∷ clock_parts s
 
 -- all thirteen: chip, ring, crystal, system PLL and USB PLL, then the others
 abbrev pub parts_of : Settings → List (List ℕ)

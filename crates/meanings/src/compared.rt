@@ -1,6 +1,5 @@
 // The settings in which two plans differ, as a mask and by name.
 ghost use Rattle.std.specs.Prelude.{◌≡◌, ◌+◌, ◌*◌, ◌≤◌, ◌<◌};
-ghost use Rattle.base.specs.Placed.{Placed};
 ghost use Rattle.base.specs.Writing.{Puts};
 ghost use Rattle.meanings.specs.Rows.{row_text};
 ghost use Rattle.meanings.specs.Differences.{differences_of, has_bit, part_names, part_line, differences_text};
@@ -24,12 +23,12 @@ pub fn differences(a: Settings, b: Settings) -> u32
     mask
 }
 
-// Whether bit k is set.
-fn has_bit(mask: u32, k: u8) -> bool
-    requires { k < 32 }
+// Whether bit k of a mask is set; from 32 on there is no bit.
+#[tactic(auto, using(crate::proofs::Bits::no_bit))]
+pub fn has_bit(mask: u32, k: u8) -> bool
     ensures { result ≡ has_bit mask k }
 {
-    (mask >> k) % 2 == 1
+    k < 32 && (mask >> k) % 2 == 1
 }
 
 static PARTS: [&str; 13] = [
@@ -56,14 +55,8 @@ fn part_name(k: u8) -> &'static [u8]
     row(&PARTS, k)
 }
 
-// Puts the name of part k, in the order of `differences`; nothing from 13 on.
-pub fn put_part_name(out: &mut [u8], at: usize, k: u8) -> usize
-    ensures { Placed out.old at (row_text part_names k) result out.new }
-{
-    base::put_all(out, at, part_name(k))
-}
-
-// Writes the name of part k, in the order of `differences`; nothing from 13 on.
+// Writes the name of part k, in the order of `differences`; nothing from 13 on. A part goes by its number, as the bits of the mask do,
+// and a number without a part has no name.
 pub fn write_part_name(out: &mut Writer<'_, u8>, k: u8)
     ensures { Puts out.old (row_text part_names k) out.new }
 {
@@ -71,9 +64,8 @@ pub fn write_part_name(out: &mut Writer<'_, u8>, k: u8)
 }
 
 // Writes the name of part k and a newline, where its bit is set.
-#[tactic(auto, using(base::proofs::Writing::put_more, base::proofs::Writing::put_none), unfolding(crate::specs::Differences::part_line))]
+#[tactic(auto, using(base::proofs::Writing::writing), unfolding(crate::specs::Differences::part_line))]
 fn write_part(out: &mut Writer<'_, u8>, mask: u32, k: u8)
-    requires { k < 32 }
     ensures { Puts out.old (part_line mask k) out.new }
 {
     if has_bit(mask, k) {
@@ -82,8 +74,9 @@ fn write_part(out: &mut Writer<'_, u8>, mask: u32, k: u8)
     }
 }
 
-// Writes the names of the settings whose bits `differences` has set, one per line.
-#[tactic(auto, using(base::proofs::Writing::put_more, base::proofs::Writing::put_none, crate::proofs::Differing::lines_next), unfolding(crate::specs::Differences::differences_text))]
+// Writes the names of the settings whose bits `differences` has set, one per line. It is for callers who want no more than the names;
+// verdict writes the two plans' lines under each.
+#[tactic(auto, using(crate::proofs::Differing::lines), unfolding(crate::specs::Differences::differences_text))]
 pub fn write_differences(out: &mut Writer<'_, u8>, mask: u32)
     ensures { Puts out.old (differences_text mask) out.new }
 {

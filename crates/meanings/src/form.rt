@@ -1,17 +1,17 @@
 // Forms: texts in which `#` stands for the next number in decimal, `$` for the next as a mask in hex and `@` for the next as the
 // name of a clock.
-ghost use Rattle.std.specs.Prelude.{◌≡◌, ◌%◌, ◌≤◌, get_or, drop};
+ghost use Rattle.std.specs.Prelude.{◌≡◌, get_or, drop};
 ghost use Rattle.std.specs.Slice.Iter.{iter_rest};
 ghost use Rattle.base.specs.Choice.{bit};
-ghost use Rattle.base.specs.Placed.{Placed};
 ghost use Rattle.base.specs.Writing.{Puts};
-ghost use Rattle.text.specs.Hex.{hex_digit};
 ghost use Rattle.meanings.specs.Form.{clock_name, mask_text, is_field, piece_of, formed};
 
 use crate::rows::row;
 use base::Writer;
 use std::slice::Iter;
 
+// A step's field is any number, so the table has a last row for no clock. With `step::Clock` the function would be as long, and a
+// lemma would have to tie each name to its number.
 static CLOCKS: [&str; 11] = [
     "rosc", "xosc", "pll_sys", "pll_usb", "ref", "sys", "peri", "usb", "adc", "rtc", "no clock",
 ];
@@ -24,26 +24,14 @@ fn clock_name(clock: u64) -> &'static [u8]
     row(&CLOCKS, clock.min(10) as u8)
 }
 
-// The last hex digit of n.
-fn hex_digit(n: u64) -> u8
-    ensures { result ≡ hex_digit (n % 16) }
-{
-    let d = (n % 16) as u8;
-    if d < 10 { b'0' + d } else { b'a' - 10 + d }
-}
-
 // Writes the 28 low bits in hex.
 #[tactic(auto, using(base::proofs::Writing::put_more), unfolding(crate::specs::Form::mask_text))]
 fn write_mask(out: &mut Writer<'_, u8>, mask: u64)
     ensures { Puts out.old (mask_text mask) out.new }
 {
-    out.put(hex_digit(mask / 16777216));
-    let bytes = [
-        (mask / 65536 % 256) as u8,
-        (mask / 256 % 256) as u8,
-        (mask % 256) as u8,
-    ];
-    text::write_hex(out, &bytes);
+    let [.., high, a, b, c] = mask.to_be_bytes();
+    out.put(text::hex_digit(high));
+    text::write_hex(out, &[a, b, c]);
 }
 
 // The next number; 0 where there is none.
@@ -77,17 +65,4 @@ pub fn write_form(out: &mut Writer<'_, u8>, form: &[u8], ns: &[u64])
     for c in form {
         write_piece(out, *c, &mut numbers);
     }
-}
-
-// Puts a form at an index, as `write_form`.
-pub fn put_form(out: &mut [u8], at: usize, form: &[u8], ns: &[u64]) -> usize
-    ensures { Placed out.old at (formed form.now ns.now) result out.new }
-{
-    let start = at.min(out.len());
-    let mut w = Writer {
-        buf: out,
-        at: start,
-    };
-    write_form(&mut w, form, ns);
-    w.at
 }

@@ -8,7 +8,7 @@ mod rows;
 mod same;
 mod steps;
 
-pub use compared::{differences, put_part_name, write_differences, write_part_name};
-pub use form::{put_form, write_form};
-pub use refused::{put_refusal, write_refusal};
+pub use compared::{differences, has_bit, write_differences, write_part_name};
+pub use form::write_form;
+pub use refused::write_refusal;
 pub use steps::write_step;

@@ -1,10 +1,9 @@
 // The meaning of each refusal, in words.
 ghost use Rattle.std.specs.Prelude.{◌≡◌};
-ghost use Rattle.base.specs.Placed.{Placed};
 ghost use Rattle.base.specs.Writing.{Puts};
 ghost use Rattle.meanings.specs.Refusals.{refusal_text};
 
-use crate::rows::{or_first, row};
+use crate::rows::row_or_first;
 use base::Writer;
 
 // The refusals by number; a number that is no refusal has the first.
@@ -43,19 +42,12 @@ static MEANINGS: [&str; 32] = [
     "The count is over 10000.",
 ];
 
-// The meaning of the refusal with this number.
+// The meaning of the refusal with this number. It goes by a number and no `Refusal`, as it tells what any number means.
 #[tactic(auto, unfolding(crate::specs::Refusals::refusal_rows, crate::specs::Refusals::refusal_text, crate::specs::Rows::row_text))]
 fn meaning(number: u8) -> &'static [u8]
     ensures { result.now ≡ refusal_text number }
 {
-    row(&MEANINGS, or_first(number, 31))
-}
-
-// Puts the meaning of the refusal with this number; a number past the table is an unknown refusal.
-pub fn put_refusal(out: &mut [u8], at: usize, number: u8) -> usize
-    ensures { Placed out.old at (refusal_text number) result out.new }
-{
-    base::put_all(out, at, meaning(number))
+    row_or_first(&MEANINGS, number)
 }
 
 // Writes the meaning of the refusal with this number; a number past the table is an unknown refusal.

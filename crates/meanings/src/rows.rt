@@ -1,5 +1,5 @@
 // Tables of texts.
-ghost use Rattle.std.specs.Prelude.{◌≡◌, leb};
+ghost use Rattle.std.specs.Prelude.{◌≡◌, ◌<◌, ltb, length};
 ghost use Rattle.base.specs.Choice.{pick};
 ghost use Rattle.meanings.specs.Rows.{row_of};
 
@@ -13,9 +13,10 @@ pub(crate) fn row(rows: &[&'static str], n: u8) -> &'static [u8]
     }
 }
 
-// The number of a row up to the last; 0 where there are fewer rows.
-pub(crate) fn or_first(n: u8, last: u8) -> u8
-    ensures { result ≡ pick (leb n last) n 0 }
+// Row n of a table of texts; the first row where there are fewer rows.
+pub(crate) fn row_or_first(rows: &[&'static str], n: u8) -> &'static [u8]
+    requires { 0 < length rows.now }
+    ensures { result.now ≡ row_of rows.now (pick (ltb n (length rows.now)) n 0) }
 {
-    if n <= last { n } else { 0 }
+    rows.get(usize::from(n)).unwrap_or(&rows[0]).as_bytes()
 }

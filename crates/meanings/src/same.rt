@@ -16,7 +16,7 @@ pub(crate) fn same_parts(a: Settings, b: Settings) -> [bool; 13]
         a.xosc.map(|x| (x.hz, x.delay)) == b.xosc.map(|x| (x.hz, x.delay)),
         a.xosc.and_then(|x| x.sys) == b.xosc.and_then(|x| x.sys),
         a.xosc.and_then(|x| x.usb) == b.xosc.and_then(|x| x.usb),
-        a.board.code == b.board.code,
+        a.board.volts.code == b.board.volts.code,
         a.settling == b.settling,
         a.reference == b.reference,
         (a.sys, a.board.whole, a.board.fraction) == (b.sys, b.board.whole, b.board.fraction),

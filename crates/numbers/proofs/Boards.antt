@@ -1,21 +1,20 @@
--- A bench given as numbers: a call for a board is the runner's call over the board's numbers, and a start of one runner over
--- zeros decides the start of all eight boards.
+-- A bench given as numbers: a call for a board is the runner's call over the board's numbers, and a start that is refused for
+-- one bench is refused for each.
 use mathlib.Core.{Bool.Bool, Bool.true, Bool.false, List.List, Path.◌≡◌, Path.refl, Path.sym, Path.ap, Path.◌∙◌}
 use Prim.Native.Nat.{ℕ, zero, suc, ◌+◌, ◌*◌, ◌<◌, ◌≤◌}
 use native.Mathlib.Omega.{arith}
 use borrow.Author.Tests.{lt-ltb, le-ltb, le-leb, lt-leb}
-use lib.{ListN.length, ListN.get_or, ListN.set, ListN.replicate, Seq.sets, Seq.get_or-set_same}
+use lib.{ListN.length, ListN.get_or, Seq.sets, Seq.get_or-set_same}
 use Rattle.fields.specs.Row.{nth}
-use Rattle.runner.specs.declared.{Stepper.Stepper, Runner.Runner}
-use Rattle.runner.specs.Run.{Outcome, stepper_of, advance_of, Begun}
+use Rattle.runner.specs.declared.{Stepper.Stepper}
+use Rattle.runner.specs.Run.{Outcome, outcome, stepper_of, advance_of, Begun}
+use Rattle.base.specs.Answer.{refusal}
 use Rattle.step.specs.Size.{bad_size}
-use Rattle.runner.proofs.Starts.{start-refused, start-kept}
 use Rattle.boards.specs.declared.Bench.{Bench}
-use Rattle.boards.specs.Bench.{no_board, board_at, in_bench, bench_of}
+use Rattle.boards.specs.Bench.{no_board, board_at, in_bench, bench_of, start_all_of}
 use Rattle.boards.proofs.Benches.{all-refused, all-kept, over-seven, of-eight}
 use Rattle.numbers.specs.Answers.{answer_number, refusals, malformed}
-use Rattle.numbers.specs.Run.{runner_in, progress_number, with_state, with_freqs, run_number, run_leaves, go_number, start_leaves}
-use Rattle.numbers.specs.Run.{StartCall}
+use Rattle.numbers.specs.Run.{progress_number, with_state, with_freqs, run_number, run_leaves, go_number}
 use Rattle.numbers.specs.Bench.{runner_at, stepper_at, boards_from, bench_in, fourteen, bench_number, bench_leaves}
 use Rattle.numbers.specs.Bench.{start_all_leaves, StartAllCall}
 
@@ -74,59 +73,21 @@ module _ (ns kept : List ℕ) (n : ℕ) (sheet : List ℕ) (ready : Bool) where
       unfolding run_leaves bench_leaves advance_of with_state with_freqs
       board-leaves = rw (le-ltb 7 n few, le-leb _ _ good, next-board) refl
 
--- a start of one runner over zeros, as the start of all eight boards
-module _ (ns kept sheet : List ℕ) (r : ℕ) (one kept' : List ℕ)
-    (call : StartCall (replicate 15 0) kept sheet r one kept') where
-  abbrev board : Runner
-  board = runner_in (replicate 15 0) kept
+-- the number of a start's answer
+abbrev start_number : Begun Bench → ℕ
+start_number x = answer_number go_number x.answer
 
-  abbrev bench : Bench
-  bench = bench_in ns kept
-
-  module _ (e : bad_size (length sheet) ≡ true) where
-    turned-number : r ≡ refusals + 20
-    turned-number =
-        call.answer ∙ ap (λ (x : Begun Runner). answer_number go_number x.answer) (sym (start-refused board sheet e))
-
-    turned : StartAllCall ns kept sheet r ns kept'
-    turned = record {
-      answer = turned-number
-          ∙ ap (λ (x : Begun Bench). answer_number go_number x.answer) (all-refused bench sheet e);
-      numbers = ap (λ (x : Begun Bench). start_all_leaves x.answer ns x.next.len) (all-refused bench sheet e);
-      bytes = call.bytes ∙ ap (λ (x : Begun Runner). x.next.kept) (sym (start-refused board sheet e))
-          ∙ ap (λ (x : Begun Bench). x.next.kept) (all-refused bench sheet e);
-    }
-
-  module _ (e : bad_size (length sheet) ≡ false) where
-    abbrev told : Begun Runner → List ℕ
-    told x = start_leaves x.answer (replicate 15 0) x.next.len
-
-    taken-number : r ≡ 0
-    taken-number =
-        call.answer ∙ ap (λ (x : Begun Runner). answer_number go_number x.answer) (sym (start-kept board sheet e))
-
-    taken : StartAllCall ns kept sheet r (set (replicate 113 0) 112 (get_or one 4 0)) kept'
-    taken = record {
-      answer = taken-number ∙ ap (λ (x : Begun Bench). answer_number go_number x.answer) (all-kept bench sheet e);
-      numbers =
-          ap (λ (l : List ℕ). set (replicate 113 0) 112 (get_or l 4 0))
-          (call.numbers ∙ ap told (sym (start-kept board sheet e)))
-          ∙ ap (λ (x : Begun Bench). start_all_leaves x.answer ns x.next.len) (all-kept bench sheet e);
-      bytes = call.bytes ∙ ap (λ (x : Begun Runner). x.next.kept) (sym (start-kept board sheet e))
-          ∙ ap (λ (x : Begun Bench). x.next.kept) (all-kept bench sheet e);
-    }
-
-  pub all-started : r ≡ 0 → StartAllCall ns kept sheet r (set (replicate 113 0) 112 (get_or one 4 0)) kept'
-  all-started h = go (bad_size (length sheet)) refl
-    where
-      go : (t : Bool) → bad_size (length sheet) ≡ t
-          → StartAllCall ns kept sheet r (set (replicate 113 0) 112 (get_or one 4 0)) kept'
-      go true e = absurd (omega (arith, turned-number e))
-      go false e = taken e
-
-  pub all-turned : (r ≡ 0 → ⊥) → StartAllCall ns kept sheet r ns kept'
-  all-turned h = go (bad_size (length sheet)) refl
-    where
-      go : (t : Bool) → bad_size (length sheet) ≡ t → StartAllCall ns kept sheet r ns kept'
-      go true e = turned e
-      go false e = absurd (h (taken-number e))
+-- a start that is refused for one bench is refused for each, and leaves each
+pub refused-start : (ns kept sheet : List ℕ) (b after : Bench) (n : ℕ) → outcome (refusal n) after ≡ start_all_of b sheet
+    → StartAllCall ns kept sheet (refusals + n) ns kept
+refused-start ns kept sheet b after n e = go (bad_size (length sheet)) refl
+  where
+    go : (t : Bool) → bad_size (length sheet) ≡ t → StartAllCall ns kept sheet (refusals + n) ns kept
+    go true bad =
+        let each = all-refused (bench_in ns kept) sheet bad in
+        record {
+          answer = ap start_number (e ∙ sym (all-refused b sheet bad)) ∙ ap start_number each;
+          numbers = ap (λ (x : Begun Bench). start_all_leaves x.answer ns x.next.len) each;
+          bytes = ap (λ (x : Begun Bench). x.next.kept) each;
+        }
+    go false ok = let no : refusals + n ≡ 0 = ap start_number (e ∙ sym (all-kept b sheet ok)) in absurd (omega (arith, no))

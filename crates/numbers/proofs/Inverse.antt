@@ -8,7 +8,7 @@ use native.Mathlib.Omega.{arith}
 use borrow.Author.Tests.{eqb-true, leb-true, le-leb}
 use lib.{Dec.eqb, Dec.leb, ListN.length}
 use Rattle.base.specs.{Answer.Answer, Answer.value, Answer.refusal, Choice.pick}
-use Rattle.base.proofs.Bools.{both_true}
+use Rattle.std.proofs.lemmas.Bool.{and_parts}
 use Rattle.chip.specs.declared.{Chip.Chip, Chip.TheVariants.Rp2040, Chip.TheVariants.Rp235x}
 use Rattle.chip.specs.declared.voltage.{CoreVoltage.CoreVoltage, CoreVoltage235.CoreVoltage235}
 use Rattle.chip.specs.Voltage.{code_of, voltages, with_code, core_voltage_of}
@@ -17,7 +17,7 @@ use Rattle.pll.specs.declared.PllConfig.{PllConfig}
 use Rattle.config.specs.declared.{ChipConfig.ChipConfig, ClockConfig.ClockConfig}
 use Rattle.config.specs.declared.ChipConfig.TheVariants.{Rp2040 as on2040, Rp235x as on235x}
 use Rattle.config.specs.Board.{board_of}
-use Rattle.settings.specs.Codes.{ref_code}
+use Rattle.config.specs.Codes.{ref_code}
 use Rattle.settings.proofs.Decoded.{board-small}
 use Rattle.fields.specs.Row.{nth, byte_at, half_at, u8, u16, u32}
 use Rattle.numbers.specs.Row.{ring_row, crystal_row, sys_pll_in, usb_pll_in, pll_row, oscillator_row, first_row, sys_row, peri_row}
@@ -50,7 +50,7 @@ conj (b ∷ c ∷ bs) = b && conj (c ∷ bs)
 all_true : (bs : List Bool) → conj bs ≡ true → AllTrue bs
 all_true [] e = tt
 all_true (b ∷ []) e = (e, tt)
-all_true (b ∷ c ∷ bs) e = let h = both_true b (conj (c ∷ bs)) e in (h.0, all_true (c ∷ bs) h.1)
+all_true (b ∷ c ∷ bs) e = let h = and_parts b (conj (c ∷ bs)) e in (h.0, all_true (c ∷ bs) h.1)
 
 -- ---- the crystal with its PLLs
 
@@ -130,7 +130,7 @@ module _ (c : ChipConfig) (p : ClockConfig) (t : PlanTyped p) (z : List ℕ) whe
   row =
       joined (row_from 12 0 (ring_row p.rosc)) (row_from 3 0 (crystal_row p.xosc)) (row_from 5 0 (pll_row (sys_pll_in p.xosc)))
       (row_from 5 0 (pll_row (usb_pll_in p.xosc)))
-      ((board_of c).code ∷ (row_from 2 0 settling ++ (ref_code p.ref_clk.src ∷ p.ref_clk.div ∷ [])))
+      ((board_of c).volts.code ∷ (row_from 2 0 settling ++ (ref_code p.ref_clk.src ∷ p.ref_clk.div ∷ [])))
       (sys_row p.sys_clk_src (board_of c).whole (board_of c).fraction)
       (row_from 2 0 (peri_row p.peri_clk_src)) (row_from 4 0 (aux_row p.usb_clk)) (row_from 4 0 (aux_row p.adc_clk)) z
 
@@ -139,8 +139,8 @@ module _ (c : ChipConfig) (p : ClockConfig) (t : PlanTyped p) (z : List ℕ) whe
   row_is e =
       let plls = plls-typed p.xosc t.xosc in
       let time = (time-back p.voltage_stabilization_delay_us t.settling).0 in
-      let first = ap (λ (l : List ℕ). (board_of c).code ∷ (l ++ (ref_code p.ref_clk.src ∷ p.ref_clk.div ∷ []))) time
-      ∙ sym (first-row (board_of c).code p.voltage_stabilization_delay_us p.ref_clk) in
+      let first = ap (λ (l : List ℕ). (board_of c).volts.code ∷ (l ++ (ref_code p.ref_clk.src ∷ p.ref_clk.div ∷ []))) time
+      ∙ sym (first-row (board_of c).volts.code p.voltage_stabilization_delay_us p.ref_clk) in
       λ i. joined ((ring-back p.rosc t.rosc).0 i) ((crystal-back p.xosc t.xosc).long i)
       ((pll-back (sys_pll_in p.xosc) plls.0).0 i) ((pll-back (usb_pll_in p.xosc) plls.1).0 i) (first i)
       (sys_row p.sys_clk_src (board_of c).whole (board_of c).fraction) ((peri-back p.peri_clk_src).0 i)
@@ -157,8 +157,8 @@ module _ (c : ChipConfig) (p : ClockConfig) (t : PlanTyped p) (z : List ℕ) whe
   clocks-fit : whole_clocks row ≡ true
   unfolding whole_clocks is_part
   clocks-fit =
-      let code : (board_of c).code ≤ 15 = omega (arith, (board-small c).0) in
-      both (both (le-leb (board_of c).code 15 code) refl)
+      let code : (board_of c).volts.code ≤ 15 = omega (arith, (board-small c).0) in
+      both (both (le-leb (board_of c).volts.code 15 code) refl)
       (both (time-back p.voltage_stabilization_delay_us t.settling).1
       (both (both (le-leb _ 2 (ref-code p.ref_clk.src).1) (both (le-leb _ u8 t.reference) refl))
       (both (both (le-leb _ 4 (sys-code p.sys_clk_src).1) refl)
@@ -249,7 +249,7 @@ module _ (n : List ℕ) (osc : whole_oscillators n ≡ true) (clk : whole_clocks
   code-most : nth n 25 ≤ 15
   code-most = (fits true n 25 (15 ∷ []) clock-facts.0).0
 
-  plan-row : (c : ChipConfig) → (board_of c).code ≡ nth n 25 → (board_of c).whole ≡ nth n 31 → (board_of c).fraction ≡ nth n 32
+  plan-row : (c : ChipConfig) → (board_of c).volts.code ≡ nth n 25 → (board_of c).whole ≡ nth n 31 → (board_of c).fraction ≡ nth n 32
       → plan_row (plan_at c n) ≡ row_from 43 0 n ++ rtc_numbers c
   unfolding plan_row oscillator_row clock_row plan_at is_part crystal_at option_pll_at settling_at reference_at peripheral_at divided_at
   plan-row c code whole fraction =
@@ -260,14 +260,15 @@ module _ (n : List ℕ) (osc : whole_oscillators n ≡ true) (clk : whole_clocks
       let r = fits true n 28 (2 ∷ u8 ∷ []) k.1.1.0 in
       let s = fits true n 30 (4 ∷ []) k.1.1.1.0 in
       let time = time-row (row_from 2 26 n) k.1.0 in
-      let first : first_row (board_of c).code (settling_at n) (reference_at n) ≡ row_from 5 25 n =
-      first-row (board_of c).code (settling_at n) (reference_at n)
+      let first : first_row (board_of c).volts.code (settling_at n) (reference_at n) ≡ row_from 5 25 n =
+      first-row (board_of c).volts.code (settling_at n) (reference_at n)
       ∙ (λ i. code i ∷ (time i ++ ((codes (nth n 28)).1 r.0 i ∷ cut r.1.0 i ∷ []))) in
       λ i. joined (ring-row n o.0 i) (x.0 i) (x.1 i) (x.2 i) (first i)
       (((codes (nth n 30)).2 s.0).0 i ∷ whole i ∷ fraction i ∷ []) (peri-row (row_from 2 33 n) k.1.1.1.1.0 i)
       (aux-row (row_from 4 35 n) k.1.1.1.1.1.0 i) (aux-row (row_from 4 39 n) k.1.1.1.1.1.1.0 i) (rtc_numbers c)
 
-  code_is : {A : Type 0} (code_of_lem : A → ℕ) (vs : List A) (v : A) → with_code code_of_lem (byte_at n 25) vs ≡ value v → code_of_lem v ≡ nth n 25
+  code_is : {A : Type 0} (code_of_lem : A → ℕ) (vs : List A) (v : A)
+      → with_code code_of_lem (byte_at n 25) vs ≡ value v → code_of_lem v ≡ nth n 25
   code_is code_of_lem vs v read =
       let small : nth n 25 ≤ u8 = omega (arith, code-most) in
       code_read code_of_lem (byte_at n 25) vs v read ∙ cut small

@@ -3,12 +3,12 @@
 use Rattle.std.specs.Prelude.{Option, Some, None}
 use mathlib.Core.{Bool.Bool, Bool.true, Bool.false, Bool.◌&&◌}
 use mathlib.Core.{List.List, List.[], List.◌∷◌, List.◌++◌, Path.◌≡◌, Path.refl, Path.sym, Path.ap, Path.◌∙◌}
-use Prim.Native.Nat.{ℕ, zero, suc, min, ◌≤◌}
-use native.Mathlib.Omega.{arith}
+use Prim.Native.Nat.{ℕ, zero, suc, min, ◌+◌, ◌≤◌}
+use native.Mathlib.{Numerals.add-one, Omega.arith}
 use borrow.Author.Tests.{eqb-true, eq-eqb, ne_eqb, leb-true, le-leb}
-use lib.{Dec.eqb, Dec.leb, ListN.length, ListN.take, ListN.replicate, Seq.take-length}
+use lib.{Dec.eqb, Dec.leb, ListN.length, ListN.take, ListN.drop, ListN.replicate, Seq.take-length, Seq.drop-cons}
 use Rattle.base.specs.{Answer.value, Choice.pick}
-use Rattle.base.proofs.Bools.{both_true}
+use Rattle.std.proofs.lemmas.Bool.{and_parts}
 use Rattle.chip.specs.Voltage.{with_code}
 use Rattle.pll.specs.declared.PllConfig.{PllConfig}
 use Rattle.config.specs.declared.RoscConfig.{RoscConfig}
@@ -16,7 +16,8 @@ use Rattle.config.specs.declared.PeriClkSrc.{PeriClkSrc}
 use Rattle.config.specs.declared.AuxClkConfig.{AuxClkConfig}
 use Rattle.config.specs.declared.RtcClkConfig.{RtcClkConfig}
 use Rattle.config.specs.declared.{RefClkConfig.RefClkConfig, RefClkSrc.RefClkSrc, SysClkSrc.SysClkSrc}
-use Rattle.settings.specs.Codes.{range_code, ref_code, sys_code, peri_aux, aux_code, range_from, ref_from, sys_source_from, peri_from, aux_from}
+use Rattle.config.specs.Codes.{range_code, ref_code, sys_code, peri_aux, aux_code}
+use Rattle.config.specs.Codes.{range_from, ref_from, sys_source_from, peri_from, aux_from}
 use Rattle.settings.proofs.Decoded.{range-code, aux-code}
 use Rattle.fields.specs.Row.{nth, byte_at, u8, u16, u32}
 use Rattle.numbers.specs.Row.{ring_row, pll_row, first_row, peri_row, aux_row, rtc_row}
@@ -29,16 +30,15 @@ use Rattle.numbers.specs.Typed.{PllTyped, RingTyped, TimeTyped, AuxTyped, ClockT
 -- k numbers from index i on
 abbrev pub row_from : ℕ → ℕ → List ℕ → List ℕ
 row_from zero i l = []
-row_from (suc k) i l = nth l i ∷ row_from k (suc i) l
+row_from (suc k) i l = nth l i ∷ row_from k (i + 1) l
 
-row-shift : (k i x : ℕ) (l : List ℕ) → row_from k (suc i) (x ∷ l) ≡ row_from k i l
-row-shift zero i x l = refl
-row-shift (suc k) i x l = ap (λ (r : List ℕ). nth l i ∷ r) (row-shift k (suc i) x l)
+pub row-drop : (k i : ℕ) (l : List ℕ) → i + k ≤ length l → row_from k i l ≡ take k (drop i l)
+row-drop zero i l h = refl
+row-drop (suc k) i l h =
+    rw (drop-cons l i 0 (omega arith), ← add-one i) (ap (λ (r : List ℕ). nth l i ∷ r) (row-drop k (i + 1) l (omega arith)))
 
 pub row-take : (k : ℕ) (l : List ℕ) → k ≤ length l → row_from k 0 l ≡ take k l
-row-take zero l h = refl
-row-take (suc k) [] h = absurd (omega arith)
-row-take (suc k) (x ∷ l) h = ap (λ (r : List ℕ). x ∷ r) (row-shift k 0 x l ∙ row-take k l (omega arith))
+row-take k l h = row-drop k 0 l (omega arith)
 
 pub row-whole : (k : ℕ) (l : List ℕ) → length l ≡ k → row_from k 0 l ≡ l
 row-whole k l e = row-take k l (omega arith) ∙ ap (λ (n : ℕ). take n l) (sym e) ∙ take-length l
@@ -61,7 +61,7 @@ fit there n i (limit ∷ limits) (h, w) = both (le-leb (nth n i) (pick there lim
 pub fits : (there : Bool) (n : List ℕ) (i : ℕ) (limits : List ℕ) → fit_from there n i limits ≡ true → Within there n i limits
 fits there n i [] e = tt
 fits there n i (limit ∷ limits) e =
-    let h = both_true (leb (nth n i) (pick there limit 0)) (fit_from there n (suc i) limits) e in
+    let h = and_parts (leb (nth n i) (pick there limit 0)) (fit_from there n (suc i) limits) e in
     (leb-true (nth n i) (pick there limit 0) h.0, fits there n (suc i) limits h.1)
 
 -- the numbers of a part that is there fit their limits, and those of an absent part are all 0
@@ -74,7 +74,8 @@ absent-row : (n : List ℕ) (i : ℕ) (limits : List ℕ) → Within false n i l
 absent-row n i [] w = refl
 absent-row n i (limit ∷ limits) (h, w) =
     let z : 0 ≡ nth n i = omega arith in
-    λ j. z j ∷ absent-row n (suc i) limits w j
+    let rest : replicate (length limits) 0 ≡ row_from (length limits) (i + 1) n = rw add-one (absent-row n (suc i) limits w) in
+    λ j. z j ∷ rest j
 
 pub gone : (n limits : List ℕ) → is_part n 0 limits ≡ true → nth n 0 ≤ 0
     → replicate (length limits) 0 ≡ row_from (length limits) 0 n
@@ -124,11 +125,13 @@ codes (suc (suc (suc (suc zero)))) = ((λ h. absurd (omega arith)), (λ h. absur
 codes (suc (suc (suc (suc (suc n))))) =
     ((λ h. absurd (omega arith)), (λ h. absurd (omega arith)), λ h. absurd (omega arith))
 
-pub code_read : {A : Type 0} (code_of_lem : A → ℕ) (code : ℕ) (vs : List A) (v : A) → with_code code_of_lem code vs ≡ value v → code_of_lem v ≡ code
+pub code_read : {A : Type 0} (code_of_lem : A → ℕ) (code : ℕ) (vs : List A) (v : A)
+    → with_code code_of_lem code vs ≡ value v → code_of_lem v ≡ code
 code_read code_of_lem code [] v e = let z : ◌≡◌ {A = ℕ} 0 1 = cc in absurd (omega arith)
 code_read code_of_lem code (u ∷ vs) v e = go (eqb code (code_of_lem u)) refl (code_read code_of_lem code vs v)
   where
-    go : (b : Bool) → eqb code (code_of_lem u) ≡ b → (with_code code_of_lem code vs ≡ value v → code_of_lem v ≡ code) → code_of_lem v ≡ code
+    go : (b : Bool) → eqb code (code_of_lem u) ≡ b → (with_code code_of_lem code vs ≡ value v → code_of_lem v ≡ code)
+        → code_of_lem v ≡ code
     go true f rest =
         let first : value u ≡ value v = rw f at e in
         let same : u ≡ v = cc in
@@ -188,7 +191,8 @@ time_row None = 0 ∷ 0 ∷ []
 abbrev pub time_limits : List ℕ
 time_limits = 1 ∷ u32 ∷ []
 
-pub first-row : (code : ℕ) (o : Option ℕ) (c : RefClkConfig) → first_row code o c ≡ code ∷ (time_row o ++ (ref_code c.src ∷ c.div ∷ []))
+pub first-row : (code : ℕ) (o : Option ℕ) (c : RefClkConfig)
+    → first_row code o c ≡ code ∷ (time_row o ++ (ref_code c.src ∷ c.div ∷ []))
 first-row code (Some n) c = refl
 first-row code None c = refl
 

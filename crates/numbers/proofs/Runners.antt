@@ -8,10 +8,11 @@ use lib.{ListN.length, ListN.drop, ListN.drop_of_length-le, ListN.length-drop, S
 use Rattle.step.specs.declared.Step.{Step}
 use Rattle.step.specs.Access.{word_at}
 use Rattle.step.proofs.Accesses.{read-sound}
-use Rattle.runner.specs.declared.State.{State}
-use Rattle.runner.specs.Run.{Outcome, outside, stored_by, turn_of}
+use Rattle.runner.specs.declared.{State.State, Runner.Runner}
+use Rattle.runner.specs.Run.{Outcome, outside, stored_by, turn_of, joined, in_runner, advance_of, stepper_of}
 use Rattle.numbers.specs.{Answers.answer_number, Run.with_freqs, Run.progress_number, Run.progress_with}
-use Rattle.runner.proofs.Calls.{inside, call-outside, every-turn}
+use Rattle.runner.proofs.{Calls.inside, Calls.call-outside, Calls.every-turn, Steps.turn_formed}
+use Rattle.std.proofs.lemmas.Bool.Decides.{nat_tests}
 
 -- the frequencies follow the four numbers of the state and the kept length
 pub stored_behind : (ns freqs : List ℕ) (step : Step) → length ns ≡ 15 → freqs ≡ stored_by step (mid_of 5 10 ns)
@@ -43,3 +44,11 @@ turn_word s len kept sheet ready =
     every-turn
     (λ (x : Outcome State). answer_number (progress_with word) x.answer ≡ answer_number progress_number x.answer) s len kept sheet ready
     (λ n. refl) refl refl (λ polls. refl) refl (λ step e. sym (read-sound sheet (8 * s.position) step e).1)
+
+-- a call of a runner is the turn of its state
+pub advanced : (r : Runner) (sheet : List ℕ) (ready : Bool)
+    → advance_of r sheet ready ≡ in_runner r (joined (turn_of r.stepper.state r.len r.kept sheet ready) r.stepper.freqs)
+unfolding advance_of stepper_of
+advanced r sheet ready = refl
+
+pub ruleset calling = (nat_tests, turn_formed, position_fits, turn_word, advanced)

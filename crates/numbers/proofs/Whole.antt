@@ -3,7 +3,7 @@ use Rattle.std.specs.Prelude.{Option, Some, None}
 use mathlib.Core.{Path.◌≡◌, Path.refl, List.List}
 use Prim.Native.Nat.{ℕ, ◌+◌, ◌≤◌}
 use native.Mathlib.Omega.{arith}
-use lib.{ListN.length, ListN.take, ListN.drop, ListN.length-append, Seq.take-append_seam, Seq.length-sets, Seq.sets-eq}
+use lib.{ListN.length, ListN.take, ListN.drop, ListN.length-append, Seq.take-append_seam, Seq.sets-eq}
 use Rattle.base.specs.Placed.{Placed}
 use Rattle.config.specs.declared.RoscConfig.{RoscConfig}
 use Rattle.config.specs.declared.XoscConfig.{XoscConfig}
@@ -56,7 +56,7 @@ clocks-long p =
     simp length-append
     (omega (
       arith,
-      first-long (board_of p.chip).code p.voltage_stabilization_delay_us p.ref_clk,
+      first-long (board_of p.chip).volts.code p.voltage_stabilization_delay_us p.ref_clk,
       peri-long p.peri_clk_src,
       aux-long p.usb_clk,
       aux-long p.adc_clk,
@@ -67,19 +67,10 @@ unfolding plan_row
 row-most p = simp length-append (omega (arith, oscillators-long p.rosc p.xosc, clocks-long p, rtc-most p.chip))
 
 -- a row of 48 into which a plan's numbers are placed begins with them
-pub record Begins (p : ClockConfig) (n : ℕ) (row : List ℕ) : Type 0 where
-  pub count : n ≡ length (plan_row p)
-  pub inside : n ≤ length row
-  pub whole : n ≡ length (take n row)
-  pub numbers : take n row ≡ plan_row p
-
-pub begins : {p : ClockConfig} {n : ℕ} {before after : List ℕ} → length before ≡ 48
-    → Placed before 0 (plan_row p) n after → Begins p n after
-begins {p} {n} {before} {after} long h =
+pub begins : (p : ClockConfig) {n : ℕ} {before after : List ℕ} → length before ≡ 48
+    → Placed before 0 (plan_row p) n after → take n after ≡ plan_row p
+begins p {n} {before} {after} long h =
     let few = row-most p in
     let count : n ≡ length (plan_row p) = omega (arith, h.index) in
-    let size : length after ≡ length before = rw h.bytes (length-sets before 0 (plan_row p)) in
-    let same : take n after ≡ plan_row p =
     rw (h.bytes, sets-eq (plan_row p) before 0 (omega arith), count)
-    (take-append_seam (plan_row p) (drop (0 + length (plan_row p)) before)) in
-    record { count = count; inside = omega arith; whole = rw same count; numbers = same }
+    (take-append_seam (plan_row p) (drop (0 + length (plan_row p)) before))

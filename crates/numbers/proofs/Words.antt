@@ -1,33 +1,23 @@
 -- The words of a slot are those from an index on, and a board's numbers a runner's without the kept length.
-use mathlib.Core.{Path.◌≡◌, Path.refl, Path.sym, Path.ap, Path.◌∙◌, List.List, List.[], List.◌∷◌, List.◌++◌}
-use Rattle.std.specs.Prelude.{ℕ, zero, suc, ◌+◌, ◌≤◌}
+use mathlib.Core.{Path.◌≡◌, Path.sym, Path.ap, Path.◌∙◌, List.List, List.◌++◌}
+use Rattle.std.specs.Prelude.{ℕ, ◌+◌, ◌≤◌}
 use Rattle.std.proofs.Common.{add_assoc}
-use native.Mathlib.{Numerals.add-one, Omega.arith}
-use lib.{ListN.length, ListN.take, ListN.drop, Seq.drop-cons, Seq.sets, Seq.take_all}
+use native.Mathlib.Omega.{arith}
+use lib.{ListN.length, ListN.take, ListN.drop, Seq.sets, Seq.take_all}
 use Rattle.base.specs.Placed.{Placed}
 use Rattle.base.proofs.Placing.{placed-append}
-use Rattle.fields.specs.Row.{nth}
 use Rattle.numbers.specs.{Bench.fourteen, Slots.words_at}
-
--- k numbers from index i on
-abbrev numbers_from : ℕ → ℕ → List ℕ → List ℕ
-numbers_from zero i n = []
-numbers_from (suc k) i n = nth n i ∷ numbers_from k (i + 1) n
-
-numbers-drop : (k i : ℕ) (n : List ℕ) → i + k ≤ length n → take k (drop i n) ≡ numbers_from k i n
-numbers-drop zero i n h = refl
-numbers-drop (suc k) i n h =
-    rw (drop-cons n i 0 (omega arith), ← add-one i)
-    (ap (λ (r : List ℕ). nth n i ∷ r) (numbers-drop k (i + 1) n (omega arith)))
+use Rattle.numbers.proofs.PartRows.{row_from, row-drop}
 
 pub words_from : (n : List ℕ) (i : ℕ) → i + 11 ≤ length n → take 11 (drop i n) ≡ words_at n i
-words_from n i h = simp add_assoc at (numbers-drop 11 i n h)
+words_from n i h = simp add_assoc at (sym (row-drop 11 i n h))
 
 pub words_whole : (n : List ℕ) → length n ≡ 11 → words_at n 0 ≡ n
 words_whole n h = sym (words_from n 0 (omega arith)) ∙ take_all 11 n (omega arith)
 
 board_numbers : (r : List ℕ) → length r ≡ 15 → take 4 r ++ take 10 (drop 5 r) ≡ fourteen r
-board_numbers r h = rw (numbers-drop 10 5 r (omega arith)) (ap (λ (l : List ℕ). l ++ numbers_from 10 5 r) (numbers-drop 4 0 r (omega arith)))
+board_numbers r h =
+    rw (sym (row-drop 10 5 r (omega arith))) (ap (λ (l : List ℕ). l ++ row_from 10 5 r) (sym (row-drop 4 0 r (omega arith))))
 
 -- the numbers of a board, written in two runs
 pub two_runs : {n n' n'' : List ℕ} {at end last : ℕ} (r : List ℕ) → length r ≡ 15 → Placed n at (take 4 r) end n'

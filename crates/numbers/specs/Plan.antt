@@ -16,7 +16,7 @@ use Rattle.config.specs.declared.RtcClkConfig.{RtcClkConfig}
 use Rattle.config.specs.declared.{RefClkConfig.RefClkConfig, DriveStrength.DriveStrength, ChipConfig.ChipConfig}
 use Rattle.config.specs.declared.ChipConfig.TheVariants.{Rp2040 as on2040, Rp235x as on235x}
 use Rattle.config.specs.declared.ClockConfig.{ClockConfig}
-use Rattle.settings.specs.Codes.{range_from, ref_from, sys_source_from, peri_from, aux_from}
+use Rattle.config.specs.Codes.{range_from, ref_from, sys_source_from, peri_from, aux_from}
 use Rattle.fields.specs.Row.{nth, byte_at, half_at, pll_at, u8, u16, u32}
 use Rattle.numbers.specs.Parts.{fit_from, is_part}
 

@@ -9,7 +9,7 @@ use Rattle.config.specs.declared.{PeriClkSrc.PeriClkSrc, AuxClkConfig.AuxClkConf
 use Rattle.config.specs.declared.{RefClkConfig.RefClkConfig, SysClkSrc.SysClkSrc, ChipConfig.ChipConfig}
 use Rattle.config.specs.declared.ClockConfig.{ClockConfig}
 use Rattle.config.specs.Board.{board_of}
-use Rattle.settings.specs.Codes.{range_code, ref_code, sys_code, peri_aux, aux_code}
+use Rattle.config.specs.Codes.{range_code, ref_code, sys_code, peri_aux, aux_code}
 
 -- the ring: flag, Hz, range, eight strengths, divider
 abbrev pub ring_row : Option RoscConfig → List ℕ
@@ -62,7 +62,7 @@ aux_row None = 0 ∷ 0 ∷ 0 ∷ 0 ∷ []
 
 unfoldable pub clock_row : ClockConfig → List ℕ
 clock_row p =
-    first_row (board_of p.chip).code p.voltage_stabilization_delay_us p.ref_clk
+    first_row (board_of p.chip).volts.code p.voltage_stabilization_delay_us p.ref_clk
     ++ (sys_row p.sys_clk_src (board_of p.chip).whole (board_of p.chip).fraction
     ++ (peri_row p.peri_clk_src ++ (aux_row p.usb_clk ++ aux_row p.adc_clk)))
 

@@ -11,7 +11,8 @@ use chip::voltage::{CoreVoltage, CoreVoltage235, Voltage};
 use divider::GpoutDiv;
 use pll::PllConfig;
 
-const REFUSAL: u64 = 1 << 48;
+// The number of refusal 0; values are below it.
+pub const REFUSAL: u64 = 1 << 48;
 
 // An absent limit, above every 32-bit target.
 const ABSENT: u64 = 1 << 32;
@@ -48,7 +49,8 @@ pub fn found(answer: Result<PllConfig, Refusal>) -> u64
     answer.map_or_else(refused, setting)
 }
 
-// The chip of a number: 0 is the RP2040, 1 the RP235x, any other None.
+// The chip of a number: 0 is the RP2040, 1 the RP235x, any other None. It is no `TryFrom`: an unknown chip is malformed, which is
+// no refusal, so an error would have nothing to say.
 pub fn chip(number: u8) -> Option<Chip>
     ensures { result ≡ chip_numbered number }
 {

@@ -8,7 +8,7 @@ ghost use Rattle.numbers.specs.Access.{AccessCall};
 
 use crate::answers;
 use chip::Chip;
-use runner::Runner;
+use runner::{Kept, Runner};
 use step::MAX_BYTES;
 
 // Starts a runner with a sheet and answers 0; any numbers may be given before. Refusal: 20.
@@ -28,7 +28,7 @@ pub fn start(runner: &mut [u32; 15], kept: &mut [u8; MAX_BYTES], sheet: &[u8]) -
 }
 
 // One call of the runner: done, passed, waiting, or the word of the step. Refusals: 21, 22, 27, 20; a bad mark is malformed.
-#[tactic(auto, using(std::proofs::lemmas::Bool::Decides::nat_tests, runner::proofs::Steps::turn_formed, crate::proofs::Runners::position_fits, crate::proofs::Runners::turn_word), unfolding(crate::specs::Run::run_number, crate::specs::Run::run_leaves, runner::specs::Run::advance_of, runner::specs::Run::stepper_of))]
+#[tactic(auto, using(crate::proofs::Runners::calling), unfolding(crate::specs::Run::run_number, crate::specs::Run::run_leaves))]
 pub fn call(runner: &mut [u32; 15], kept: &[u8; MAX_BYTES], sheet: &[u8], ready: bool) -> u64
     ensures value { result ≡ run_number runner.old kept.now sheet.now ready }
     ensures runner_after { runner.new ≡ run_leaves runner.old kept.now sheet.now ready }
@@ -38,7 +38,11 @@ pub fn call(runner: &mut [u32; 15], kept: &[u8; MAX_BYTES], sheet: &[u8], ready:
     }
     let mut state = run::state(runner);
     let word = step::word(sheet, 8 * state.position);
-    let reply = state.turn(runner[4] as usize, kept, sheet, ready);
+    let kept = Kept {
+        bytes: kept,
+        len: runner[4] as usize,
+    };
+    let reply = state.turn(kept, sheet, ready);
     let number = run::answer(runner, reply, word);
     run::put_state(runner, state);
     number

@@ -6,14 +6,14 @@ ghost use Rattle.std.specs.Prelude.{◌≡◌};
 ghost use Rattle.numbers.specs.Plan.{whole_oscillators, whole_clocks, whole_chip, whole_plan, plan_at, plan_numbered};
 
 use chip::Chip;
-use config::{ChipConfig, ClockConfig};
+use config::{ChipConfig, ClockConfig, SysClkSrc};
 use rows::{fits, is_part};
 
-const U8: u32 = 255;
+const U8: u32 = u8::MAX as u32;
 
-const U16: u32 = 65535;
+const U16: u32 = u16::MAX as u32;
 
-const U32: u32 = 4294967295;
+const U32: u32 = u32::MAX;
 
 // Whether the numbers of ring, crystal and PLLs are within their limits; a PLL needs a crystal.
 #[tactic(auto, using(std::proofs::lemmas::Bool::Decides::nat_tests), unfolding(crate::specs::Plan::whole_oscillators))]
@@ -86,7 +86,7 @@ fn plan_at(chip: ChipConfig, n: &[u32]) -> ClockConfig
         rosc: part::ring(n),
         xosc: part::crystal(n),
         ref_clk: part::reference(n),
-        sys_clk_src: settings::sys_source_from(u64::from(fields::number_at(n, 30))),
+        sys_clk_src: SysClkSrc::from(u64::from(fields::number_at(n, 30))),
         peri_clk_src: part::peripheral(n),
         usb_clk: part::divided(n, 35),
         adc_clk: part::divided(n, 39),

@@ -1,6 +1,7 @@
 // Writes a plan as the numbers that cases and exported calls use: 48 for the RP2040, 43 for the RP235x.
 mod rows;
 
+ghost use Rattle.std.specs.Prelude.{◌≡◌};
 ghost use Rattle.base.specs.Placed.{Placed};
 ghost use Rattle.base.specs.Writing.{Puts};
 ghost use Rattle.numbers.specs.Row.{oscillator_row, clock_row, rtc_numbers, plan_row};
@@ -8,6 +9,7 @@ ghost use Rattle.numbers.specs.Row.{oscillator_row, clock_row, rtc_numbers, plan
 use base::Writer;
 use config::{ChipConfig, ClockConfig, RoscConfig, XoscConfig};
 pub use rows::{sys_pll, usb_pll};
+use std::marker::Model;
 
 // Puts the numbers of ring, crystal and PLLs.
 #[tactic(auto, using(base::proofs::Writing::put_more), unfolding(crate::specs::Row::oscillator_row))]
@@ -27,7 +29,7 @@ fn put_clocks(row: &mut Writer<'_, u32>, plan: ClockConfig)
 {
     let board = plan.chip.board();
     row.put_all(&rows::first(
-        board.code,
+        board.volts.code,
         plan.voltage_stabilization_delay_us,
         plan.ref_clk,
     ));
@@ -64,4 +66,40 @@ pub fn put_plan(row: &mut [u32], plan: ClockConfig) -> usize
     let mut out = Writer::new(row);
     put_parts(&mut out, plan);
     out.at
+}
+
+// The numbers of a plan. There is no heap, so an array holds them, of which the first `count` are used. It is no `BoundedList`,
+// which is filled by pushes: a writer puts these at once.
+#[derive(Drop)]
+pub struct Row {
+    numbers: [u32; 48],
+    count: usize,
+}
+
+impl Model for Row {
+    ghost use Rattle.std.specs.Prelude.{ℕ, List, take, ◌≤◌};
+
+    ghost Value = { List ℕ };
+
+    ghost view = { λ r. take r.count r.numbers };
+
+    ghost invariant = { λ r. r.count ≤ 48 };
+}
+
+impl Row {
+    // The numbers of a plan.
+    pub fn of(plan: ClockConfig) -> Self
+        ensures { result ≡ plan_row plan }
+    {
+        let mut numbers = [0; 48];
+        let count = put_plan(&mut numbers, plan);
+        Row { numbers, count }
+    }
+
+    // The numbers in order.
+    pub fn as_slice(&self) -> &[u32]
+        ensures { result.now ≡ self.now }
+    {
+        &self.numbers[..self.count]
+    }
 }

@@ -1,9 +1,10 @@
--- An order is the words that ask for a plan (docs/PROGRAMS.md, check). Each preset has a row: its name, the letters of the words
+-- An order is the words that ask for a plan (docs/PROGRAMS.md, check). Each order has a row: its name, the letters of the words
 -- that it takes (words/specs/Words), and the plan that it asks for.
-use Rattle.std.specs.Prelude.{Option, Some, None}
+use Rattle.std.specs.Prelude.{Option, Some, None, is_some, find}
+use Rattle.std.specs.Option.{option_and_then, option_map}
 use mathlib.Core.{Bool.Bool, List.List, List.[], List.◌∷◌}
-use Prim.Native.{Nat.ℕ, Nat.zero, Nat.suc, String.String}
-use lib.{Dec.eqb, Dec.ltb, ListN.length, ListN.take}
+use Prim.Native.{Nat.ℕ, String.String}
+use lib.{Dec.ltb, ListN.length, ListN.take}
 use Rattle.base.specs.{Answer.Answer, Answer.value, Answer.refusal, Choice.pick}
 use Rattle.text.specs.Ascii.{ascii, same}
 use Rattle.chip.specs.declared.{Chip.Chip, Chip.TheVariants.Rp2040, Chip.TheVariants.Rp235x}
@@ -14,11 +15,11 @@ use Rattle.config.specs.Presets.{default_plan, crystal_plan, rosc_plan, system_p
 use Rattle.fields.specs.Row.{nth, byte_at, pll_at}
 use Rattle.numbers.specs.Plan.{plan_numbered}
 use Rattle.readback.specs.Read.{read_of}
-use Rattle.words.specs.declared.Words.{Words}
-use Rattle.words.specs.Words.{unread, sheet_at, given}
-use Rattle.orders.specs.Line.{word_after, end_after}
+use Rattle.words.specs.{Line.word_after, Line.rest_after, Words.unread, Words.sheet_at, Words.given}
+use Rattle.orders.specs.declared.names.Preset.{Preset}
+use Rattle.orders.specs.declared.names.Preset.TheVariants.{System, SystemFrom, Crystal, Rosc, Default, Manual, Plan}
 
--- the row of a preset; its plan depends on the chip and on the numbers that were read
+-- the row of an order; a preset's plan depends on the chip and on the numbers that were read
 pub record Row : Type 0 where
   pub name : List ℕ
   pub letters : List ℕ
@@ -39,85 +40,55 @@ abbrev pub manual_on : Chip → List ℕ → Option (Answer ClockConfig)
 manual_on Rp2040 n = manual_of n
 manual_on Rp235x n = None
 
-abbrev pub presets : List Row
-presets =
-    row "system" "w" (λ chip n. Some (system_plan chip (nth n 0)))
-    ∷ row "system_from" "ww" (λ chip n. Some (system_plan_from chip (nth n 0) (nth n 1)))
-    ∷ row "crystal" "w" (λ chip n. Some (value (crystal_plan chip (nth n 0))))
-    ∷ row "rosc" "" (λ chip n. Some (value (rosc_plan chip)))
-    ∷ row "default" "" (λ chip n. Some (value (default_plan chip)))
-    ∷ row "manual" "wbhbbb" manual_on
-    ∷ []
+-- `plan` takes 43 numbers for the RP235x and 48 for the RP2040, so the last five may be absent; their plan is `plan_in`
+abbrev pub presets : Preset → Row
+presets System = row "system" "w" (λ chip n. Some (system_plan chip (nth n 0)))
+presets SystemFrom = row "system_from" "ww" (λ chip n. Some (system_plan_from chip (nth n 0) (nth n 1)))
+presets Crystal = row "crystal" "w" (λ chip n. Some (value (crystal_plan chip (nth n 0))))
+presets Rosc = row "rosc" "" (λ chip n. Some (value (rosc_plan chip)))
+presets Default = row "default" "" (λ chip n. Some (value (default_plan chip)))
+presets Manual = row "manual" "wbhbbb" manual_on
+presets Plan = row "plan" "wwwwwwwwwwwwwwwwwwwwwwwwwwwwwwwwwwwwwwwwwwwooooo" (λ chip n. None)
 
--- `plan` takes 43 numbers for the RP235x and 48 for the RP2040, so the last five may be absent
-abbrev pub plan_letters : List ℕ
-plan_letters = ascii "wwwwwwwwwwwwwwwwwwwwwwwwwwwwwwwwwwwwwwwwwwwooooo"
+abbrev pub name_of : Preset → List ℕ
+name_of p = (presets p).name
 
--- the number of the order with that name: a preset's row, then 6 for `plan`; 7 is no order
-abbrev pub named_in : List Row → List ℕ → ℕ
-named_in [] word = pick (same word (ascii "plan")) 0 1
-named_in (r ∷ rs) word = pick (same word r.name) 0 (suc (named_in rs word))
+abbrev pub letters_of : Preset → List ℕ
+letters_of p = (presets p).letters
 
-unfoldable pub preset_named : List ℕ → ℕ
-preset_named word = named_in presets word
+unfoldable pub preset_of : Preset → Chip → List ℕ → Option (Answer ClockConfig)
+preset_of p = (presets p).plan
 
-unfoldable pub is_order : List ℕ → Bool
-is_order word = ltb (preset_named word) 7
+-- the order with a name
+abbrev pub order_named : List ℕ → Option Preset
+order_named word =
+    find (λ p. same word (name_of p)) (System ∷ SystemFrom ∷ Crystal ∷ Rosc ∷ Default ∷ Manual ∷ Plan ∷ [])
 
-abbrev pub name_in : List Row → ℕ → List ℕ
-name_in [] k = ascii "plan"
-name_in (r ∷ rs) zero = r.name
-name_in (r ∷ rs) (suc k) = name_in rs k
-
-unfoldable pub name_of : ℕ → List ℕ
-name_of k = name_in presets k
-
-abbrev pub letters_in : List Row → ℕ → List ℕ
-letters_in [] k = plan_letters
-letters_in (r ∷ rs) zero = r.letters
-letters_in (r ∷ rs) (suc k) = letters_in rs k
-
-unfoldable pub letters_of : ℕ → List ℕ
-letters_of k = letters_in presets k
-
-abbrev pub preset_in : List Row → ℕ → Chip → List ℕ → Option (Answer ClockConfig)
-preset_in [] k chip n = None
-preset_in (r ∷ rs) zero chip n = r.plan chip n
-preset_in (r ∷ rs) (suc k) chip n = preset_in rs k chip n
-
-unfoldable pub preset_of : ℕ → Chip → List ℕ → Option (Answer ClockConfig)
-preset_of k chip n = preset_in presets k chip n
+abbrev pub is_order : List ℕ → Bool
+is_order word = is_some (order_named word)
 
 -- the plan of the first `count` numbers; none where there are fewer
-abbrev pub planned : Option ClockConfig → Option (Answer ClockConfig)
-planned (Some p) = Some (value p)
-planned None = None
-
 unfoldable pub plan_in : Chip → List ℕ → ℕ → Option (Answer ClockConfig)
-plan_in chip n count = pick (ltb (length n) count) None (planned (plan_numbered chip (take count n)))
+plan_in chip n count = pick (ltb (length n) count) None (option_map value (plan_numbered chip (take count n)))
 
--- the order with number k; 6 is `plan`
-unfoldable pub order_with : ℕ → Chip → List ℕ → ℕ → Option (Answer ClockConfig)
-order_with k chip n count = pick (eqb k 6) (plan_in chip n count) (preset_of k chip n)
+-- the plan that an order asks for with the numbers that were read, of which there are `count`
+unfoldable pub order_with : Preset → Chip → List ℕ → ℕ → Option (Answer ClockConfig)
+order_with Plan chip n count = plan_in chip n count
+order_with p chip n count = preset_of p chip n
 
-abbrev pub with_state : (Words → Option (Answer ClockConfig)) → Option Words → Option (Answer ClockConfig)
-with_state f (Some s) = f s
-with_state f None = None
-
--- an order for a chip: the word after index `at` is its name, and the words after it are those that its letters ask for
-unfoldable pub order_on : Chip → List ℕ → ℕ → Option (Answer ClockConfig)
-order_on chip line at =
-    let k = preset_named (word_after line at) in
-    with_state (λ s. order_with k chip s.row s.count) (given line (letters_of k) (end_after line at) unread)
+-- an order for a chip, in the rest of a line: the next word is its name, and those after it are the ones that its letters ask for
+unfoldable pub order_on : Chip → List ℕ → Option (Answer ClockConfig)
+order_on chip rest = option_and_then
+    (λ p. option_and_then (λ s. order_with p chip s.row s.count) (given (rest_after rest) (letters_of p) unread))
+    (order_named (word_after rest))
 
 -- an order that is a sheet in hex asks for the plan that the sheet is read back to
-unfoldable pub sheet_order : List ℕ → ℕ → ℕ → Option (Answer ClockConfig)
-sheet_order line at reading =
-    with_state (λ s. Some (read_of (sheet_at s 0) reading)) (given line (ascii "x") at unread)
+unfoldable pub sheet_order : List ℕ → ℕ → Option (Answer ClockConfig)
+sheet_order rest reading = option_map (λ s. read_of (sheet_at s 0) reading) (given rest (ascii "x") unread)
 
--- the order in the words after index `at`, at a reading: `rp235x` before a name selects that chip, and a word that names no order
--- is a sheet
-unfoldable pub order_of : List ℕ → ℕ → ℕ → Option (Answer ClockConfig)
-order_of line at reading =
-    pick (same (word_after line at) (ascii "rp235x")) (order_on Rp235x line (end_after line at))
-    (pick (eqb (preset_named (word_after line at)) 7) (sheet_order line at reading) (order_on Rp2040 line at))
+-- the order in the rest of a line, at a reading: `rp235x` before a name selects that chip, and a word that names no order is a
+-- sheet
+unfoldable pub order_of : List ℕ → ℕ → Option (Answer ClockConfig)
+order_of rest reading =
+    pick (same (word_after rest) (ascii "rp235x")) (order_on Rp235x (rest_after rest))
+    (pick (is_order (word_after rest)) (order_on Rp2040 rest) (sheet_order rest reading))

@@ -1,23 +1,20 @@
 // An order is the words of a line that ask for a plan: a preset, the numbers of a plan, or another sheet.
 #![tactic(auto)]
 
-mod line;
 mod names;
 
 ghost use Rattle.std.specs.Prelude.{◌≡◌};
 ghost use Rattle.base.specs.Answer.{answer_in};
 ghost use Rattle.orders.specs.Orders.{is_order, manual_of, preset_of, plan_in, order_with};
 ghost use Rattle.orders.specs.Orders.{order_on, sheet_order, order_of};
-ghost use Rattle.orders.specs.Numbers.{number_of};
 
 use base::Refusal;
 use chip::Chip;
 use chip::voltage::CoreVoltage;
 use config::ClockConfig;
 use fields::number_at;
-pub use line::{end_after, first_word, word_after};
 pub use names::Preset;
-use words::Words;
+use words::{Words, next_word};
 
 // The plan that is ordered, or its refusal.
 pub type Planned = Result<ClockConfig, Refusal>;
@@ -35,7 +32,7 @@ fn manual(n: &[u32]) -> Option<Planned>
 // The plan of a preset for a chip, from its numbers. Refusals 5, 15 and 25; None for `plan`, and for manual on the RP235x.
 #[tactic(auto, unfolding(crate::specs::Orders::preset_of))]
 pub fn preset(kind: Preset, chip: Chip, n: &[u32]) -> Option<Planned>
-    ensures { answer_in result ≡ preset_of (number_of kind) chip n.now }
+    ensures { answer_in result ≡ preset_of kind chip n.now }
 {
     let hz = number_at(n, 0);
     match kind {
@@ -53,7 +50,7 @@ pub fn preset(kind: Preset, chip: Chip, n: &[u32]) -> Option<Planned>
 }
 
 // The chip's plan of the first `count` numbers; None where there are fewer or they are no plan.
-#[tactic(auto, using(std::proofs::lemmas::Bool::Decides::nat_tests), unfolding(crate::specs::Orders::plan_in))]
+#[tactic(auto, unfolding(crate::specs::Orders::plan_in))]
 fn plan_of(chip: Chip, n: &[u32], count: usize) -> Option<Planned>
     ensures { answer_in result ≡ plan_in chip n.now count }
 {
@@ -63,7 +60,7 @@ fn plan_of(chip: Chip, n: &[u32], count: usize) -> Option<Planned>
 // The plan that an order asks for with the words that were read.
 #[tactic(auto, unfolding(crate::specs::Orders::order_with, crate::specs::Orders::preset_of))]
 fn order_with(kind: Preset, chip: Chip, words: &Words) -> Option<Planned>
-    ensures { answer_in result ≡ order_with (number_of kind) chip words.now.row words.now.count }
+    ensures { answer_in result ≡ order_with kind chip words.now.row words.now.count }
 {
     match kind {
         Preset::Plan => plan_of(chip, &words.row, words.count),
@@ -71,43 +68,43 @@ fn order_with(kind: Preset, chip: Chip, words: &Words) -> Option<Planned>
     }
 }
 
-// The order for a chip whose name follows the word that ends at `at`.
-#[tactic(auto, using(crate::proofs::Rows::no_order, crate::proofs::Rows::number_found), unfolding(crate::specs::Orders::order_on))]
-fn order_on(chip: Chip, line: &[u8], at: usize) -> Option<Planned>
-    ensures { answer_in result ≡ order_on chip line.now at }
+// The order for a chip in the rest of a line, whose next word is its name.
+#[tactic(auto, unfolding(crate::specs::Orders::order_on))]
+fn order_on(chip: Chip, rest: &[u8]) -> Option<Planned>
+    ensures { answer_in result ≡ order_on chip rest.now }
 {
-    let kind = Preset::named(word_after(line, at))?;
-    let words = Words::read(kind.letters(), line, end_after(line, at))?;
+    let (name, rest) = next_word(rest);
+    let kind = Preset::named(name)?;
+    let words = Words::read(kind.letters(), rest)?;
     order_with(kind, chip, &words)
 }
 
 // The plan that a sheet in hex is read back to. Refusals 18 and 26.
 #[tactic(auto, unfolding(crate::specs::Orders::sheet_order))]
-fn sheet_order(line: &[u8], at: usize, reading: u8) -> Option<Planned>
-    ensures { answer_in result ≡ sheet_order line.now at reading }
+fn sheet_order(rest: &[u8], reading: u8) -> Option<Planned>
+    ensures { answer_in result ≡ sheet_order rest.now reading }
 {
-    let words = Words::read(b"x", line, at)?;
+    let words = Words::read(b"x", rest)?;
     Some(readback::read_sheet(words.sheet_at(0), reading))
 }
 
-// The order in the words after the one that ends at `at`: a name and its numbers, with `rp235x` before them for that chip, or a
-// sheet in hex. Refusals 5, 15 and 25, for a sheet 18 and 26; None where the words are no order.
-#[tactic(auto, using(crate::proofs::Rows::named_most), unfolding(crate::specs::Orders::order_of, crate::specs::Orders::is_order))]
-pub fn read_order(line: &[u8], at: usize, reading: u8) -> Option<Planned>
-    ensures { answer_in result ≡ order_of line.now at reading }
+// The order in the rest of a line: a name and its numbers, with `rp235x` before them for that chip, or a sheet in hex. Refusals
+// 5, 15 and 25, for a sheet 18 and 26; None where the words are no order.
+#[tactic(auto, unfolding(crate::specs::Orders::order_of))]
+pub fn read_order(rest: &[u8], reading: u8) -> Option<Planned>
+    ensures { answer_in result ≡ order_of rest.now reading }
 {
-    let word = word_after(line, at);
+    let (word, after) = next_word(rest);
     if word == b"rp235x".as_slice() {
-        order_on(Chip::Rp235x, line, end_after(line, at))
+        order_on(Chip::Rp235x, after)
     } else if is_order(word) {
-        order_on(Chip::Rp2040, line, at)
+        order_on(Chip::Rp2040, rest)
     } else {
-        sheet_order(line, at, reading)
+        sheet_order(rest, reading)
     }
 }
 
 // Whether a word is the name of an order.
-#[tactic(auto, using(crate::proofs::Rows::found_order))]
 pub fn is_order(word: &[u8]) -> bool
     ensures { result ≡ is_order word.now }
 {

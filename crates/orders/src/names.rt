@@ -1,7 +1,6 @@
 // The orders that have a name.
 ghost use Rattle.std.specs.Prelude.{◌≡◌};
-ghost use Rattle.orders.specs.Orders.{name_of, letters_of};
-ghost use Rattle.orders.specs.Numbers.{number_of, order_named};
+ghost use Rattle.orders.specs.Orders.{name_of, letters_of, order_named};
 
 // A preset of the library, or `plan`, which gives the numbers of a plan.
 #[derive(Clone, Copy, Debug, PartialEq, Eq)]
@@ -26,9 +25,8 @@ impl Preset {
         Preset::Plan,
     ];
 
-    #[tactic(auto, unfolding(crate::specs::Orders::name_of))]
     fn name(self) -> &'static [u8]
-        ensures { result.now ≡ name_of (number_of self) }
+        ensures { result.now ≡ name_of self }
     {
         match self {
             Preset::System => b"system",
@@ -42,9 +40,8 @@ impl Preset {
     }
 
     // The letters of the words that the order takes.
-    #[tactic(auto, unfolding(crate::specs::Orders::letters_of))]
     pub(crate) fn letters(self) -> &'static [u8]
-        ensures { result.now ≡ letters_of (number_of self) }
+        ensures { result.now ≡ letters_of self }
     {
         match self {
             Preset::System | Preset::Crystal => b"w",

@@ -12,7 +12,7 @@ use Rattle.chip.specs.declared.{Chip.Chip, Chip.TheVariants.Rp2040, Chip.TheVari
 use Rattle.pll.specs.declared.PllConfig.{PllConfig}
 use Rattle.config.specs.declared.{RtcClkConfig.RtcClkConfig, RefClkConfig.RefClkConfig, SysClkSrc.SysClkSrc}
 use Rattle.settings.specs.declared.{Crystal.Crystal}
-use Rattle.phrases.specs.Form.{formed}
+use Rattle.meanings.specs.Form.{formed}
 use Rattle.phrases.specs.Names.{named_form, range_name, ref_name, sys_name, peri_name, aux_name}
 
 unfoldable pub chip_line : Chip → List ℕ

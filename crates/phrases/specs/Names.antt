@@ -3,7 +3,7 @@ use Rattle.std.specs.Prelude.{List, [], ◌∷◌, ◌++◌, ℕ}
 use Rattle.text.specs.Ascii.{ascii}
 use Rattle.config.specs.declared.{RoscRange.RoscRange, RefClkSrc.RefClkSrc, SysClkSrc.SysClkSrc, PeriClkSrc.PeriClkSrc}
 use Rattle.config.specs.declared.AuxClkSrc.{AuxClkSrc}
-use Rattle.phrases.specs.Form.{formed}
+use Rattle.meanings.specs.Form.{formed}
 
 abbrev pub range_name : RoscRange → List ℕ
 range_name RoscRange.Low = ascii "low"

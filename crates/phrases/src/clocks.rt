@@ -1,8 +1,9 @@
 // The lines of the clocks, and of the blocks that the last release leaves out.
+ghost use Rattle.std.specs.Prelude.{[]};
+ghost use Rattle.base.specs.Choice.{pick};
 ghost use Rattle.base.specs.Writing.{Puts};
 ghost use Rattle.phrases.specs.Lines.{ref_line, sys_line, peri_line, aux_line, rtc_line, left_out_line};
 
-use crate::form::write_where;
 use crate::names::write_named;
 use base::Writer;
 use config::{AuxClkConfig, PeriClkSrc, RefClkConfig, RtcClkConfig, SysClkSrc};
@@ -104,6 +105,13 @@ pub struct Absent {
     pub usb: bool,
     pub adc: bool,
     pub rtc: bool,
+}
+
+// Writes a text only where a test holds.
+fn write_where(out: &mut Writer<'_, u8>, test: bool, s: &[u8])
+    ensures { Puts out.old (pick test s.now []) out.new }
+{
+    out.put_all(if test { s } else { b"" });
 }
 
 // Writes the blocks that the last release leaves out: those of absent clocks, and HSTX of the RP235x.

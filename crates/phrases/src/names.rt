@@ -3,9 +3,9 @@ ghost use Rattle.std.specs.Prelude.{◌≡◌, List, ℕ};
 ghost use Rattle.base.specs.Writing.{Puts};
 ghost use Rattle.phrases.specs.Names.{range_name, ref_name, sys_name, peri_name, aux_name, named_form};
 
-use crate::form::write_form;
 use base::Writer;
 use config::{AuxClkSrc, PeriClkSrc, RefClkSrc, RoscRange, SysClkSrc};
+use meanings::write_form;
 
 // A setting that has a name.
 pub trait Named {

@@ -3,11 +3,11 @@ ghost use Rattle.std.specs.Prelude.{◌≡◌};
 ghost use Rattle.base.specs.Writing.{Puts};
 ghost use Rattle.phrases.specs.Lines.{chip_line, ring_line, crystal_line, pll_line, millivolts, voltage_line, settling_line};
 
-use crate::form::write_form;
 use crate::names::write_named;
 use base::Writer;
 use chip::Chip;
 use config::RoscConfig;
+use meanings::write_form;
 use pll::PllConfig;
 use settings::Crystal;
 

@@ -6,7 +6,8 @@ use native.Mathlib.{Omega.arith, Nat.eq-or-lt_of_le, Nat.div-one}
 use lib.Dec.{leb}
 use borrow.Author.Tests.{leb-true, le-leb}
 use Rattle.base.specs.Choice.{in_range}
-use Rattle.base.proofs.Bools.{both_true, in-range}
+use Rattle.std.proofs.lemmas.Bool.{and_parts}
+use Rattle.base.proofs.Bools.{in-range}
 use Rattle.pll.specs.Ranges.{reference_min, feedback_min, feedback_max, vco_min, vco_max}
 use Rattle.pll.specs.Setting.{vco_of}
 use Rattle.pll.specs.Search.{falling, setting, settings, permitted, candidates}
@@ -75,8 +76,8 @@ module _ (input : ℕ) where
   pub permitted-candidate : (c : PllConfig) → Posts c → c.fbdiv ≤ feedback_max → permitted input c ≡ true
       → Candidate input c
   permitted-candidate c p high e =
-      let t = both_true (leb reference_min input && leb feedback_min c.fbdiv) (in_range vco_min vco_max (vco_of c input)) e in
-      let l = both_true (leb reference_min input) (leb feedback_min c.fbdiv) t.0 in
+      let t = and_parts (leb reference_min input && leb feedback_min c.fbdiv) (in_range vco_min vco_max (vco_of c input)) e in
+      let l = and_parts (leb reference_min input) (leb feedback_min c.fbdiv) t.0 in
       let v = in-range vco_min vco_max (vco_of c input) t.1 in
       record {
         reference = p.0;

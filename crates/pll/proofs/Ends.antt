@@ -9,7 +9,7 @@ use native.Mathlib.Nat.{mul-le-mul_left, mul-div-le, lt-mul-div-succ, le-div_iff
 use native.Mathlib.Nat.{mul-one, mul_comm, eq-or-lt_of_le}
 use native.Mathlib.Decide.{dec_le}
 use Rattle.base.specs.{Answer.Answer, Answer.value, Answer.refusal}
-use Rattle.base.proofs.Bools.{never_true}
+use Rattle.std.proofs.lemmas.Bool.{false_from_ne_true}
 use Rattle.pll.specs.Ranges.{reference_min, feedback_min, feedback_max, vco_min, vco_max}
 use Rattle.pll.specs.Search.{falling, rising, setting, permitted}
 use Rattle.pll.specs.Ends.{first_permitted, highest_of, lowest_of}
@@ -39,7 +39,7 @@ module _ (input : ℕ) where
   not-permitted : (fb : ℕ) → fb ≤ feedback_max → (reference_min ≤ input → VcoPermits input fb → ⊥)
       → permitted input (setting fb 1 1) ≡ false
   not-permitted fb high n =
-      never_true (permitted input (setting fb 1 1))
+      false_from_ne_true (permitted input (setting fb 1 1))
       (λ e.
       let m = permitted-candidate input (setting fb 1 1) (refl, omega arith, omega arith, omega arith) high e in
       n m.reference_low (candidate-permits input (setting fb 1 1) m))
@@ -228,3 +228,6 @@ module _ (input : ℕ) where
 pub ends-at-12-mhz : (highest_of 12000000 ≡ value 133) × (lowest_of 12000000 ≡ value 63)
 unfolding highest_of lowest_of first_permitted falling rising
 ends-at-12-mhz = (refl, refl)
+
+-- the ends that divisions give, and where there are none
+pub ruleset ends = (lowest-value, highest-value, lowest-none, highest-none)

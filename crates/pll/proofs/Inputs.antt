@@ -8,7 +8,8 @@ use Rattle.pll.specs.{Ranges.reference_min, Ranges.vco_max, Setting.reference_of
 use Rattle.pll.specs.{Ends.highest_of, Ends.lowest_of, Law.VcoPermits, Law.Candidate, Law.RightAnswer}
 use Rattle.pll.specs.declared.PllConfig.{PllConfig}
 use Rattle.pll.proofs.Candidates.{vco-is, candidate-permits}
-use Rattle.pll.proofs.Ends.{Served, served, unserved, number, highest-none, lowest-none, highest-value, lowest-some, highest-right}
+use Rattle.pll.proofs.Ends.{Served, served, unserved, number, highest-none, lowest-none, highest-value, lowest-some}
+use Rattle.pll.proofs.Ends.{highest-right}
 use Rattle.pll.proofs.{Right.search-right, Valid.valid-is}
 
 module _ (input target : ℕ) where

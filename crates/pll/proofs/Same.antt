@@ -2,7 +2,7 @@
 use mathlib.Core.{Path.◌≡◌, Path.refl, Bool.true, Bool.◌&&◌}
 use lib.Dec.{eqb}
 use borrow.Author.Tests.{eqb-true, eq-eqb}
-use Rattle.base.proofs.Bools.{both_true}
+use Rattle.std.proofs.lemmas.Bool.{and_parts}
 use Rattle.pll.specs.Setting.{same_setting}
 use Rattle.pll.specs.declared.PllConfig.{PllConfig}
 
@@ -11,9 +11,9 @@ same-path c d e =
     let a = eqb c.refdiv d.refdiv in
     let b = eqb c.fbdiv d.fbdiv in
     let f = eqb c.post_div1 d.post_div1 in
-    let p = both_true (a && b && f) (eqb c.post_div2 d.post_div2) e in
-    let q = both_true (a && b) f p.0 in
-    let r = both_true a b q.0 in
+    let p = and_parts (a && b && f) (eqb c.post_div2 d.post_div2) e in
+    let q = and_parts (a && b) f p.0 in
+    let r = and_parts a b q.0 in
     λ i. record {
       refdiv = eqb-true c.refdiv d.refdiv r.0 i;
       fbdiv = eqb-true c.fbdiv d.fbdiv r.1 i;

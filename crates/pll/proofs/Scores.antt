@@ -42,7 +42,8 @@ module _ (v t d : ℕ) where
   score-low e p h =
       let o : (v + e * d) / d < t = (div-lt_iff_lt-mul {k = d} {x = v + e * d} {y = t} p).1 h in
       let l : v / d + e ≤ (v + e * d) / d
-      = (le-div_iff_mul-le {k = d} {x = v / d + e} {y = v + e * d} p).1 (omega (arith, add-mul (v / d) e d, div-mul-le_self v d)) in
+      = (le-div_iff_mul-le {k = d} {x = v / d + e} {y = v + e * d} p).1
+      (omega (arith, add-mul (v / d) e d, div-mul-le_self v d)) in
       omega (arith, score-other (λ x. omega (arith, x)))
 
 -- the setting that precedes has the greater key
@@ -101,3 +102,6 @@ module _ (input target : ℕ) where
         nearest_first = λ none d k e.
             (by-score c d l k).1 (omega (arith, e, other c (none c m), other d (none d k)));
       }
+
+-- what shows that a score is above d
+pub ruleset farther = (score-high, score-low)

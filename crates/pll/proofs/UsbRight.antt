@@ -7,7 +7,7 @@ use native.Mathlib.{Omega.arith, Nat.mul-div_cancel, Numerals.add-one}
 use lib.Dec.{eqb}
 use borrow.Author.Tests.{eqb-true, eq-eqb}
 use Rattle.base.specs.Answer.{value, refusal}
-use Rattle.base.proofs.Bools.{both_true}
+use Rattle.std.proofs.lemmas.Bool.{and_parts}
 use Rattle.pll.specs.{Ranges.feedback_max, Setting.vco_of, Setting.posts_of, Setting.output_hz, Setting.valid_of}
 use Rattle.pll.specs.{Search.rising, Search.settings, Search.keep, Search.first_or, Walk.key}
 use Rattle.pll.specs.{Usb.with_reference, Usb.usb_settings, Usb.usb_fits, Usb.usb_of, UsbLaw.UsbSetting, UsbLaw.UsbRight}
@@ -25,9 +25,9 @@ both false b p q = p
 module _ (crystal : ℕ) where
   fits-setting : (c : PllConfig) → usb_fits crystal c ≡ true → UsbSetting crystal c
   fits-setting c e =
-      let t = both_true (valid_of c crystal && eqb (crystal % c.refdiv) 0)
+      let t = and_parts (valid_of c crystal && eqb (crystal % c.refdiv) 0)
       (eqb (48000000 * posts_of c) (vco_of c crystal)) e in
-      let s = both_true (valid_of c crystal) (eqb (crystal % c.refdiv) 0) t.0 in
+      let s = and_parts (valid_of c crystal) (eqb (crystal % c.refdiv) 0) t.0 in
       record {
         valid = s.0;
         divides = eqb-true (crystal % c.refdiv) 0 s.1;

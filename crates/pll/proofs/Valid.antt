@@ -5,7 +5,8 @@ use native.Mathlib.{Nat.div-le_self, Omega.arith}
 use lib.Dec.{leb}
 use borrow.Author.Tests.{leb-true, le-leb}
 use Rattle.base.specs.Choice.{in_range}
-use Rattle.base.proofs.Bools.{both_true, in-range}
+use Rattle.std.proofs.lemmas.Bool.{and_parts}
+use Rattle.base.proofs.Bools.{in-range}
 use Rattle.pll.specs.Ranges.{reference_min, reference_max, feedback_min, feedback_max, vco_min, vco_max}
 use Rattle.pll.specs.Setting.{reference_of, vco_of, posts_of, output_hz, valid_of, output_fits}
 use Rattle.pll.specs.declared.PllConfig.{PllConfig}
@@ -21,12 +22,12 @@ pub record Valid (c : PllConfig) (input : ℕ) : Type 0 where
 
 pub valid : (c : PllConfig) (input : ℕ) → valid_of c input ≡ true → Valid c input
 valid c input e =
-    let t = both_true _ _ e in
-    let r = both_true _ _ t.0 in
-    let p = both_true _ _ r.0 in
-    let p2 = both_true _ _ p.0 in
-    let p1 = both_true _ _ p2.0 in
-    let d = both_true _ _ p1.0 in
+    let t = and_parts _ _ e in
+    let r = and_parts _ _ t.0 in
+    let p = and_parts _ _ r.0 in
+    let p2 = and_parts _ _ p.0 in
+    let p1 = and_parts _ _ p2.0 in
+    let d = and_parts _ _ p1.0 in
     record {
       refdiv = in-range 1 63 _ d.0;
       fbdiv = in-range feedback_min feedback_max _ d.1;
@@ -60,5 +61,5 @@ output-most c input e = omega (arith, (valid c input e).vco.1, div-le_self (vco_
 
 pub output-fits : (c : PllConfig) (input : ℕ) → output_fits c input ≡ true → output_hz c input ≤ 4294967295
 output-fits c input e =
-    let t = both_true (leb 1 c.refdiv && in_range 1 255 (posts_of c)) (leb (vco_of c input) 4294967295) e in
+    let t = and_parts (leb 1 c.refdiv && in_range 1 255 (posts_of c)) (leb (vco_of c input) 4294967295) e in
     omega (arith, leb-true (vco_of c input) 4294967295 t.1, div-le_self (vco_of c input) (posts_of c))

@@ -1,6 +1,7 @@
 -- The walk takes exactly the feedback dividers that the VCO permits: it takes every number from the highest down to
 -- the lowest.
-use mathlib.Core.{Path.◌≡◌, Path.refl, Logic.◌⊎◌, Logic.◌↔◌, Logic.inl, Logic.inr, List.[], List.◌∷◌, Bool.Bool, Bool.true, Bool.false}
+use mathlib.Core.{Path.◌≡◌, Path.refl, Logic.◌⊎◌, Logic.◌↔◌, Logic.inl, Logic.inr, List.[], List.◌∷◌}
+use mathlib.Core.Bool.{Bool, true, false}
 use Prim.Native.Nat.{ℕ, zero, suc, ◌/◌, ◌≤◌, ◌<◌}
 use native.Mathlib.{Omega.arith, Nat.eq-or-lt_of_le}
 use lib.{Dec.leb, ListN.length}

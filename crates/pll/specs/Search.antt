@@ -25,7 +25,8 @@ setting fb p1 p2 = record { refdiv = 1; fbdiv = fb; post_div1 = p1; post_div2 = 
 unfoldable pub settings : List PllConfig
 settings = flat_map (λ fb. flat_map (λ p1. map (setting fb p1) (falling p1)) (falling 7)) (falling feedback_max)
 
--- the settings of the list that pass the test, in its order
+-- the settings of the list that pass the test, in its order. The library's `filter` is the same, but it would unfold in every
+-- goal, and of its laws only the one over `++` is of use here.
 unfoldable pub keep : (PllConfig → Bool) → List PllConfig → List PllConfig
 keep test [] = []
 keep test (c ∷ cs) = pick (test c) (c ∷ keep test cs) (keep test cs)

@@ -1,8 +1,7 @@
-// The highest and the lowest feedback divider that the search may take at an input frequency.
-ghost use Rattle.std.specs.Prelude.{◌≡◌, ◌≤◌, ◌↔◌, IsOk, IfErr};
+// The lowest and the highest feedback divider that the search may take at an input frequency.
+ghost use Rattle.std.specs.Prelude.{◌≡◌};
+ghost use Rattle.std.specs.Result.{result_map_both};
 ghost use Rattle.base.specs.Answer.{answer_of};
-ghost use Rattle.base.specs.declared.refusal.Refusal.TheVariants.{NoPllSetting};
-ghost use Rattle.pll.specs.Ranges.{reference_min};
 ghost use Rattle.pll.specs.Ends.{highest_of, lowest_of};
 
 use crate::{FEEDBACK_MIN, REFERENCE_MIN, VCO_MAX, VCO_MIN};
@@ -11,30 +10,38 @@ use base::Refusal;
 // Above this input even the least feedback divider, 16, takes the VCO above 1600 MHz.
 const INPUT_MAX: u32 = 100000000;
 
-// Refuses an input that has no permitted feedback divider.
-fn served(input_hz: u32) -> Result<(), Refusal>
-    ensures ok { IsOk result ↔ ((reference_min ≤ input_hz) × (input_hz ≤ 100000000)) }
-    ensures err { IfErr result (λ why. why ≡ NoPllSetting) }
-{
-    if (REFERENCE_MIN..=INPUT_MAX).contains(&input_hz) {
-        Ok(())
-    } else {
-        Err(Refusal::NoPllSetting)
-    }
+// The two ends of the permitted dividers.
+#[derive(Clone, Copy)]
+pub struct Ends {
+    pub low: u32,
+    pub high: u32,
 }
 
-// Answers the highest permitted divider; refuses with 15 where there is none. From 5 MHz on it is at most 320.
+// Answers the lowest and the highest permitted divider; refuses with 15 where there is none. From 5 MHz on none is above 320.
+#[tactic(auto, using(crate::proofs::Ends::ends))]
+pub fn dividers(input_hz: u32) -> Result<Ends, Refusal>
+    ensures lowest { answer_of (result_map_both (λ found. found.low) (λ why. why) result) ≡ lowest_of input_hz }
+    ensures highest { answer_of (result_map_both (λ found. found.high) (λ why. why) result) ≡ highest_of input_hz }
+{
+    if !(REFERENCE_MIN..=INPUT_MAX).contains(&input_hz) {
+        return Err(Refusal::NoPllSetting);
+    }
+    Ok(Ends {
+        low: VCO_MIN.div_ceil(input_hz).max(u32::from(FEEDBACK_MIN)),
+        high: VCO_MAX / input_hz,
+    })
+}
+
+// Answers the highest permitted divider; refuses with 15 where there is none.
 pub fn highest(input_hz: u32) -> Result<u32, Refusal>
     ensures { answer_of result ≡ highest_of input_hz }
 {
-    served(input_hz)?;
-    Ok(VCO_MAX / input_hz)
+    dividers(input_hz).map(|ends| ends.high)
 }
 
 // Answers the lowest permitted divider; refuses with 15 where there is none.
 pub fn lowest(input_hz: u32) -> Result<u32, Refusal>
     ensures { answer_of result ≡ lowest_of input_hz }
 {
-    served(input_hz)?;
-    Ok(VCO_MIN.div_ceil(input_hz).max(u32::from(FEEDBACK_MIN)))
+    dividers(input_hz).map(|ends| ends.low)
 }

@@ -8,7 +8,8 @@ mod walk;
 ghost use mathlib.Core.{Path.◌≡◌, Bool.true};
 ghost use Rattle.std.specs.Prelude.{◌*◌, ◌/◌, ◌^◌, ◌≤◌, ◌<◌, min};
 ghost use Rattle.std.specs.{Option.SomeIff, Bool.then_some};
-ghost use Rattle.pll.specs.Setting.{posts_of, reference_of, vco_of, output_hz, dividers_of, valid_of, valid_hz, output_fits, output_of};
+ghost use Rattle.pll.specs.Setting.{posts_of, reference_of, vco_of, output_hz, dividers_of};
+ghost use Rattle.pll.specs.Setting.{valid_of, valid_hz, output_fits, output_of};
 ghost use Rattle.pll.specs.Search.{search_of};
 ghost use Rattle.base.specs.Answer.{answer_of};
 
@@ -120,7 +121,7 @@ impl PllConfig {
 pub fn find_pll_params(input_hz: u32, target_hz: u32) -> Result<PllConfig, Refusal>
     ensures { answer_of result ≡ search_of input_hz target_hz }
 {
-    let high = feedback::highest(input_hz)?;
-    let low = feedback::lowest(input_hz)?;
-    Ok(walk::setting(walk::walk(input_hz, target_hz, high, low, walk::NO_RANK)))
+    let ends = feedback::dividers(input_hz)?;
+    let rank = walk::walk(input_hz, target_hz, ends.high, ends.low, walk::NO_RANK);
+    Ok(walk::setting(rank))
 }

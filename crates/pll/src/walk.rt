@@ -65,6 +65,7 @@ impl Stage {
 
     // Whether an output is more than d over the target, and whether it is more than d under it. Neither divides, and one
     // test of both sides would be slower.
+    #[tactic(auto, using(crate::proofs::Scores::farther))]
     fn too_high(self, d: u64, posts: Posts) -> bool
         requires { d ≤ 140737488355328 }
         ensures { result ≡ true → d < score_of self.vco self.target (product posts.code) }
@@ -72,6 +73,7 @@ impl Stage {
         (u64::from(self.target) + d + 1) * u64::from(posts.product()) <= u64::from(self.vco)
     }
 
+    #[tactic(auto, using(crate::proofs::Scores::farther))]
     fn too_low(self, d: u64, posts: Posts) -> bool
         requires { d ≤ 140737488355328 }
         ensures { result ≡ true → d < score_of self.vco self.target (product posts.code) }

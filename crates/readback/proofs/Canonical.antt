@@ -63,7 +63,7 @@ module _ (q : ClockConfig) (reading : ℕ) (ok : Accepted q reading) where
   abbrev mine : ClockConfig
   mine = plan_of (settings_of q reading)
 
-  settled-of : Settled reading (board_of q.chip).code (time_of q) (ring_hz q.rosc)
+  settled-of : Settled reading (board_of q.chip).volts.code (time_of q) (ring_hz q.rosc)
   settled-of = settled _ _ _ _ (accepted-by (settings_of q reading) reading ok 3)
 
   crystal-of : (crystal_of (xosc_for (crystal_of q.xosc)) ≡ crystal_of q.xosc)

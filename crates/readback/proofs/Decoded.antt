@@ -5,6 +5,7 @@ use native.Mathlib.{Decide.dec_lt, Nat.add-zero, Nat.zero-add, Omega.arith}
 use borrow.Author.Tests.{lt-ltb, le-ltb}
 use lib.{ListN.length, Seq.ext_get_or}
 use Rattle.step.specs.declared.Step.{Step}
+use Rattle.step.specs.declared.kind.Kind.TheVariants as kind
 use Rattle.step.specs.{Sheet.encoded, Sheet.AllFormed, Access.read_at}
 use Rattle.step.proofs.Sheets.{length-encoded, read-encoded}
 use Rattle.sheet_steps.specs.Steps.{step0}
@@ -22,7 +23,7 @@ at_from sheet i (suc n) (suc k) h =
     let e : suc i + k ≡ i + suc k = omega arith in
     at_from sheet (suc i) n k (omega arith) ∙ ap (λ (j : ℕ). step_or (read_at sheet (8 * j))) e
 
-pub past_end : (xs : List Step) (k : ℕ) → length xs ≤ k → step_at xs k ≡ step0 0
+pub past_end : (xs : List Step) (k : ℕ) → length xs ≤ k → step_at xs k ≡ step0 (kind.Unknown 0)
 past_end [] k h = refl
 past_end (x ∷ xs) zero h = absurd (omega arith)
 past_end (x ∷ xs) (suc k) h = past_end xs k (omega arith)
@@ -32,7 +33,7 @@ module _ (sheet : List ℕ) (k : ℕ) where
   unfolding steps_in
   step-inside h = rw zero-add at (at_from sheet 0 (length sheet / 8) k h)
 
-  pub step_past : length sheet / 8 ≤ k → step_at (steps_in sheet) k ≡ step0 0
+  pub step_past : length sheet / 8 ≤ k → step_at (steps_in sheet) k ≡ step0 (kind.Unknown 0)
   unfolding steps_in
   step_past h = past_end (steps_from sheet 0 (length sheet / 8)) k (omega (arith, length_from sheet 0 (length sheet / 8)))
 
@@ -48,10 +49,10 @@ step_taken sheet at = elim (dec_lt at (length sheet / 8)) [
 pub steps-encoded : (xs : List Step) → AllFormed xs → steps_in (encoded xs) ≡ xs
 unfolding steps_in
 steps-encoded xs f =
-    ext_get_or (step0 0) (steps_in (encoded xs)) xs long
+    ext_get_or (step0 (kind.Unknown 0)) (steps_in (encoded xs)) xs long
     (λ i h.
     let inside : i < length xs = omega (arith, long) in
-    step-inside (encoded xs) i (omega (arith, length-encoded xs)) ∙ ap step_or (read-encoded xs (step0 0) i f inside))
+    step-inside (encoded xs) i (omega (arith, length-encoded xs)) ∙ ap step_or (read-encoded xs (step0 (kind.Unknown 0)) i f inside))
   where
     long : length (steps_in (encoded xs)) ≡ length xs
     long = length_from (encoded xs) 0 (length (encoded xs) / 8) ∙ omega (arith, length-encoded xs)

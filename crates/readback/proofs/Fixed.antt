@@ -5,7 +5,7 @@ use Prim.Native.Nat.{ℕ, ◌+◌, ◌%◌, ◌^◌, ◌<◌}
 use native.Mathlib.{Nat.mod-eq_of_lt, Omega.arith}
 use lib.Dec.{eqb, ltb}
 use borrow.Author.Tests.{ltb-false, not-false}
-use Rattle.base.proofs.Bools.{both_false}
+use Rattle.std.proofs.lemmas.Bool.{or_parts}
 use Rattle.pll.specs.Setting.{valid_of}
 use Rattle.pll.proofs.Valid.{valid}
 use Rattle.config.specs.declared.RoscConfig.{RoscConfig}
@@ -76,7 +76,7 @@ rtc-fixed source hz (Some r) t e =
     let still : Bool = eqb source 0 in
     let h3 = none_more (still || whole_bad 16777215 r.div_int || ltb 3 r.phase) 65535 hz e in
     let h2 = none_more (still || whole_bad 16777215 r.div_int) 3 r.phase h3.0 in
-    let w = whole-good 16777215 r.div_int (both_false still (whole_bad 16777215 r.div_int) h2.0).1 in
+    let w = whole-good 16777215 r.div_int (or_parts still (whole_bad 16777215 r.div_int) h2.0).1 in
     rw (fits 32 r.div_int (omega arith), fits 8 r.div_frac t, fits 8 r.phase (omega arith))
 rtc-fixed source hz None t e = refl
 

@@ -5,10 +5,11 @@ use Rattle.base.specs.declared.refusal.Refusal.{Refusal}
 use mathlib.Core.{Path.◌≡◌, Path.refl, Path.sym, Path.ap, Path.◌∙◌, List.List, List.[], List.◌∷◌, List.◌++◌}
 use Prim.Native.Nat.{ℕ, suc, ◌+◌, ◌/◌, ◌≤◌, ◌<◌}
 use native.Mathlib.{Decide.dec_lt, Omega.arith}
-use lib.{ListN.length, ListN.take, Seq.take-suc, Seq.take_all}
+use lib.{ListN.length, ListN.take, ListN.length-take, Seq.take-suc, Seq.take_all}
 use borrow.Author.Tests.{lt-ltb, le-ltb}
 use Rattle.base.specs.Answer.{answer_in}
 use Rattle.step.specs.declared.Step.{Step}
+use Rattle.step.specs.declared.kind.Kind.TheVariants as kind
 use Rattle.step.specs.Sheet.{max_steps}
 use Rattle.sheet_steps.specs.Steps.{step0}
 use Rattle.readback.specs.declared.Reader.{Reader}
@@ -44,7 +45,7 @@ finds_some r x e = elim (dec_lt r.at (length r.sheet.now / 8)) [
 ]
 
 -- A refusal counts as a step of kind 0.
-pub unwrapped : (x : Result Step Refusal) → result_unwrap_or x (step0 0) ≡ step_in (answer_in (Some x))
+pub unwrapped : (x : Result Step Refusal) → result_unwrap_or x (step0 (kind.Unknown 0)) ≡ step_in (answer_in (Some x))
 unwrapped (Ok s) = refl
 unwrapped (Err why) = refl
 
@@ -60,18 +61,19 @@ module _ (sheet : List ℕ) where
   unfolding steps_in
   long = length_from sheet 0 (length sheet / 8)
 
-  pub one_onward : (steps : List Step) (r after : Reader) (left rest : ℕ) (x : Result Step Refusal) (step : Step)
+  pub one_onward : (steps more : List Step) (r after : Reader) (left rest : ℕ) (x : Result Step Refusal) (step : Step)
       → Onward sheet steps r left → MovesOn r (Some x) after → rest + 1 ≡ left → step ≡ step_in (answer_in (Some x))
-      → Onward sheet (steps ++ step ∷ []) after rest
-  one_onward steps r after left rest x step on m few one = elim (dec_lt r.at (length sheet / 8)) [
+      → (length steps < max_steps → more ≡ steps ++ step ∷ []) → Onward sheet more after rest
+  one_onward steps more r after left rest x step on m few one pushed = elim (dec_lt r.at (length sheet / 8)) [
     | yes h ↦
         let at : after.at ≡ suc r.at = rw (m.after_is, on.whole, lt-ltb r.at (length sheet / 8) h) (omega arith) in
+        let room : length steps < max_steps = omega (arith, on.room, few, ap length on.same, length-take r.at (steps_in sheet)) in
         record {
           whole = rw m.after_is on.whole;
           inside = omega arith;
           room = omega (arith, on.room);
-          same = rw (at, one, m.step_is, on.whole, on.same)
-              (sym (take-suc (steps_in sheet) r.at (step0 0) (omega (arith, long))));
+          same = rw (pushed room, at, one, m.step_is, on.whole, on.same)
+              (sym (take-suc (steps_in sheet) r.at (step0 (kind.Unknown 0)) (omega (arith, long))));
         }
     | no n ↦
         let h : length sheet / 8 ≤ r.at = omega arith in

@@ -7,6 +7,6 @@ pub mod Fixed
 pub mod Canonical
 pub mod Sequence
 pub mod Parts
-pub mod Kept
+pub mod Accepting
 pub mod Right
 pub mod Examples

@@ -1,14 +1,15 @@
 -- The settings of a sheet consist of its parts, each read from the steps after the previous one.
-use mathlib.Core.{Path.◌≡◌, Path.refl, List.List}
+use Rattle.std.specs.Prelude.{Option, Some}
+use mathlib.Core.{Path.◌≡◌, Path.refl, Path.◌∙◌, List.List}
 use Prim.Native.Nat.{ℕ}
 use lib.ListN.{drop}
 use Rattle.config.specs.declared.{ChipConfig.ChipConfig}
 use Rattle.config.specs.Board.{board_of}
-use Rattle.settings.specs.declared.{Settings.Settings}
+use Rattle.settings.specs.declared.{Crystal.Crystal, Settings.Settings}
 use Rattle.step.specs.declared.Step.{Step}
-use Rattle.sheet.specs.Read.{Part, part, ◌then◌, past_tick, read_rtc, settings_from}
+use Rattle.sheet.specs.Read.{Part, part, ◌then◌, step_at, read_pll, past_tick, read_rtc, settings_from}
 use Rattle.chip.specs.declared.{Chip.Chip, Chip.TheVariants.Rp2040, Chip.TheVariants.Rp235x}
-use Rattle.settings.specs.Codes.{chip_from}
+use Rattle.config.specs.Codes.{chip_from}
 use Rattle.readback.specs.Steps.{value_in, rest_in}
 use Rattle.readback.specs.Parse.{cut_part, ticks, chip_taken, ring_taken, voltage_taken, crystal_taken, ref_taken}
 use Rattle.readback.specs.Parse.{sys_taken, peri_taken, usb_taken, adc_taken}
@@ -28,6 +29,22 @@ part-is cut (part b ys) a rest e = record { value = cc; rest = cc }
 pub goes_on : {A : Type 0} (read : List Step → Part A) (cut : A → A) (xs : List Step) (a : A) (rest : List Step) {ys : List Step}
     → cut_part cut (read xs) ≡ part a rest → ys ≡ xs → Goes cut (read ys) a rest
 goes_on read cut xs a rest p e = rw e (part-is cut _ a _ p)
+
+-- The part of a crystal from its start delay and its PLLs, which begin at these steps.
+pub crystal-there : (ys : List Step) (delay : ℕ)
+    → ◌≡◌ {A = Part (Option Crystal)}
+    (read_pll 0 ys then λ sys ys. read_pll 1 ys then λ usb zs.
+    part (Some (record { hz = (step_at zs 0).f1; delay = delay; sys = sys; usb = usb })) zs)
+    (part
+    (Some
+    (record {
+      hz = (step_at (rest_in (read_pll 1 (rest_in (read_pll 0 ys)))) 0).f1;
+      delay = delay;
+      sys = value_in (read_pll 0 ys);
+      usb = value_in (read_pll 1 (rest_in (read_pll 0 ys)));
+    }))
+    (rest_in (read_pll 1 (rest_in (read_pll 0 ys)))))
+crystal-there ys delay = then_is (read_pll 0 ys) _ ∙ then_is (read_pll 1 (rest_in (read_pll 0 ys))) _
 
 pub past-tick : (chip : Chip) (xs : List Step) → past_tick chip xs ≡ drop (ticks chip) xs
 past-tick Rp2040 xs = refl

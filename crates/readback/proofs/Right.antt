@@ -3,14 +3,14 @@ use Rattle.std.specs.Prelude.{Option, Some, None}
 use mathlib.Core.{Path.◌≡◌, Path.refl, Path.sym, Path.ap, Path.◌∙◌, Bool.Bool, Bool.true, Bool.false, List.List, List.◌++◌}
 use Prim.Native.Nat.{ℕ, ◌/◌, ◌%◌, ◌^◌, ◌≤◌, ◌<◌}
 use native.Mathlib.{Nat.mod-lt, Omega.arith}
-use lib.{Pow.pow_pos, ListN.length, ListN.get_or, Dec.ltb, Dec.eqb}
-use borrow.Author.Tests.{eqb-true, eq-eqb, ltb-true, ltb-false, le-leb}
+use lib.{Pow.pow_pos, ListN.length, ListN.get_or, Dec.ltb}
+use borrow.Author.Tests.{ltb-true, ltb-false, le-leb}
 use Rattle.base.specs.{Choice.pick, Answer.Answer, Answer.value, Answer.refusal}
-use Rattle.base.proofs.Bools.{both_true}
+use Rattle.std.proofs.lemmas.Bool.{and_parts}
 use Rattle.text.proofs.Same.{same_true}
 use Rattle.text.proofs.Same.{same_refl}
 use Rattle.readback.proofs.Canonical.{plan-in, gives-in, back_in}
-use Rattle.readback.proofs.Unique.{readback-one}
+use Rattle.readback.proofs.{Accepting.none-held, Unique.readback-one}
 use Rattle.config.specs.declared.{ClockConfig.ClockConfig, RoscConfig.RoscConfig}
 use Rattle.config.specs.declared.ChipConfig.{ChipConfig}
 use Rattle.config.specs.declared.ChipConfig.TheVariants.{Rp2040 as on2040, Rp235x as on235x}
@@ -28,7 +28,9 @@ use Rattle.refusals.specs.Refusals.{Accepted}
 use Rattle.step.specs.declared.Step.{Step}
 use Rattle.step.proofs.Sheets.{length-encoded}
 use Rattle.sheet_steps.specs.Steps.{mark_steps, head_part, steps_of}
-use Rattle.step.specs.{Sheet.encoded, Steps.pack_of, Layout.rows, Layout.width, Layout.widths, Bytes.bytes8}
+use Rattle.step.specs.{Sheet.encoded, Steps.pack_of, Layout.widths, Bytes.bytes8}
+use Rattle.step.specs.Kinds.{kinds, kind_of, is}
+use Rattle.step.specs.declared.kind.Kind.TheVariants as kind
 use Rattle.sheet.specs.{Writer.sheet_bytes, Writer.refusal_in}
 use Rattle.readback.specs.Cut.{cut_ring, cut_crystal, cut_rtc, cut_chip, cut_settings}
 use Rattle.settings.specs.LeastPlan.{xosc_for, plan_of}
@@ -74,16 +76,16 @@ module _ (sheet : List ℕ) (reading : ℕ) where
   gives-true : (p : ClockConfig) → Typed (settings_of p reading) → gives sheet reading p ≡ true → Gives sheet reading p
   unfolding gives
   gives-true p t e =
-      let both = both_true _ _ e in
+      let both = and_parts _ _ e in
       record {
         typed = t;
-        accepted = eqb-true (refusal_in p reading) 0 both.0;
+        accepted = none-held (refusal_in p reading) both.0;
         bytes = same_true (sheet_bytes p reading) sheet both.1;
       }
 
   true-gives : (p : ClockConfig) → Gives sheet reading p → gives sheet reading p ≡ true
   unfolding gives
-  true-gives p g = rw (eq-eqb _ _ g.accepted, g.bytes) (same_refl sheet)
+  true-gives p g = rw (g.accepted, g.bytes) (same_refl sheet)
 
   -- The answer meets the law.
   pub read_right : ReadBack sheet reading (read_of sheet reading)
@@ -112,8 +114,8 @@ marked Rp235x = true
 
 -- The first byte of a sheet has the kind of its first step.
 first_kind : (chip : Chip) (ys : List Step)
-    → eqb (get_or (encoded (mark_steps chip ++ (head_part chip ++ ys))) 0 0 / 4) 38 ≡ marked chip
-unfolding head_part encoded pack_of widths width rows bytes8 marked
+    → is (kind_of (get_or (encoded (mark_steps chip ++ (head_part chip ++ ys))) 0 0 / 4)) kind.ChipMark ≡ marked chip
+unfolding head_part encoded pack_of widths kinds bytes8 marked
 first_kind Rp2040 ys = refl
 first_kind Rp235x ys = refl
 

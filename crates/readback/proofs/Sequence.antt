@@ -7,6 +7,7 @@ use lib.{ListN.length, ListN.take, ListN.drop, Seq.drop-cons, Seq.take_all}
 use borrow.Author.Tests.{lt-ltb, le-ltb}
 use denote.Ref.{Bor}
 use Rattle.step.specs.declared.Step.{Step}
+use Rattle.step.specs.declared.kind.Kind.TheVariants as kind
 use Rattle.sheet_steps.specs.Steps.{step0}
 use Rattle.sheet.specs.Read.{step_at}
 use Rattle.readback.specs.declared.Reader.{Reader}
@@ -32,7 +33,7 @@ module _ (s : Bor (List ℕ)) where
 
   -- At the end nothing is given, which counts as a step of kind 0, and the reader stays.
   pub stops : (n : ℕ) → length s.now / 8 ≤ n
-      → (taken_at s.now n ≡ None) × (next_step (reader_at n) ≡ step0 0) × (moved (reader_at n) ≡ reader_at n)
+      → (taken_at s.now n ≡ None) × (next_step (reader_at n) ≡ step0 (kind.Unknown 0)) × (moved (reader_at n) ≡ reader_at n)
   stops n h =
       let over = le-ltb n (length s.now / 8) h in
       (rw over, step_past s.now n h, rw over)
@@ -42,7 +43,7 @@ module _ (s : Bor (List ℕ)) where
   from_place zero i h = refl
   from_place (suc n) i h =
       let inside : i < length steps = omega (arith, long) in
-      rw (drop-cons steps i (step0 0) inside, next-is i, moves-on i (omega arith))
+      rw (drop-cons steps i (step0 (kind.Unknown 0)) inside, next-is i, moves-on i (omega arith))
       (ap (λ (xs : List Step). step_at steps i ∷ xs) (from_place n (suc i) (omega arith)))
 
   -- From the start n calls of `next` give the first n steps, so one call for each step gives the whole sheet.

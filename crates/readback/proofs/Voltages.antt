@@ -9,7 +9,7 @@ use Rattle.std.specs.Prelude.{Result, Ok, Err}
 use Rattle.std.specs.Result.{result_unwrap_or}
 use Rattle.base.specs.declared.refusal.Refusal.{Refusal}
 use Rattle.base.specs.Answer.{answer_of}
-use Rattle.settings.specs.Codes.{value_or}
+use Rattle.config.specs.Codes.{value_or}
 use Rattle.chip.specs.Voltage.{VoltageOf, core_voltage_of}
 use Rattle.chip.proofs.Codes.{no_code}
 

@@ -3,11 +3,12 @@
 use Rattle.std.specs.Prelude.{Option, Some, None}
 use mathlib.Core.{Path.◌≡◌, Bool.◌&&◌, List.List}
 use Rattle.std.specs.Prelude.{ℕ, ◌/◌, ◌≤◌, ◌<◌}
-use lib.{ListN.length, ListN.get_or, Dec.leb, Dec.eqb}
+use lib.{ListN.length, ListN.get_or, Dec.leb}
 use Rattle.base.specs.{Choice.pick, Answer.Answer, Answer.value, Answer.refusal}
 use Rattle.chip.specs.declared.{Chip.Chip, Chip.TheVariants.Rp2040, Chip.TheVariants.Rp235x}
 use Rattle.chip.specs.Chips.{facts_of}
-use Rattle.step.specs.Kinds as kind
+use Rattle.step.specs.Kinds.{kind_of, is}
+use Rattle.step.specs.declared.kind.Kind.TheVariants as kind
 use Rattle.config.specs.declared.{ClockConfig.ClockConfig, XoscConfig.XoscConfig}
 use Rattle.config.specs.Board.{board_of}
 use Rattle.settings.specs.{Settings.settling_time, Settings.settings_of, Typed.Typed}
@@ -17,7 +18,7 @@ use Rattle.sheet.specs.Writer.{sheet_bytes}
 -- The chip of a sheet: a first step of kind 38 means the RP235x, anything else the RP2040. A step has 8 bytes, and its kind is
 -- the first six bits of the first byte, whatever bits follow.
 abbrev pub chip_in : List ℕ → Chip
-chip_in sheet = pick (leb 8 (length sheet) && eqb (get_or sheet 0 0 / 4) kind.chip_mark) Rp235x Rp2040
+chip_in sheet = pick (leb 8 (length sheet) && is (kind_of (get_or sheet 0 0 / 4)) kind.ChipMark) Rp235x Rp2040
 
 -- The greatest reading of that chip, 15 or 31.
 unfoldable pub top_reading : List ℕ → ℕ
@@ -39,7 +40,7 @@ multiplier_of p = multiplier_in p.xosc
 
 -- The settling time of a plan, given or the voltage's default.
 abbrev pub time_of : ClockConfig → ℕ
-time_of p = settling_time p.voltage_stabilization_delay_us (board_of p.chip).settling_us
+time_of p = settling_time p.voltage_stabilization_delay_us (board_of p.chip).volts.settling_us
 
 -- The plan that is answered gives the bytes, with the smallest multiplier and the smallest time of all plans that do. Its time is
 -- given, and it is 0 where there is no settling step.

@@ -10,12 +10,12 @@ use Rattle.pll.specs.declared.PllConfig.{PllConfig}
 use Rattle.config.specs.declared.RefClkConfig.{RefClkConfig}
 use Rattle.settings.specs.declared.Crystal.{Crystal}
 use Rattle.chip.specs.Chips.{facts_of}
-use Rattle.step.specs.Kinds as kind
+use Rattle.step.specs.declared.kind.Kind.TheVariants as kind
 use Rattle.readback.specs.{Steps.value_in, Steps.rest_in}
 use Rattle.readback.specs.declared.{oscillators.Voltage.Voltage as VoltageRead, clocks.Sys.Sys as SysRead}
 use denote.Ref.{Bor}
 use Rattle.step.specs.declared.Step.{Step}
-use Rattle.settings.specs.Codes.{range_from}
+use Rattle.config.specs.Codes.{range_from}
 use Rattle.sheet.specs.Read.{Part, part, Voltage, Sys, read_chip, read_ring, read_voltage, read_crystal, read_ref, past_tick}
 use Rattle.sheet.specs.Read.{read_sys, read_peri, read_aux}
 
@@ -81,7 +81,7 @@ unfoldable pub peri_taken : ℕ → List Step → Part (Option PeriClkSrc)
 peri_taken reading xs = read_peri (rest_in (sys_taken reading xs))
 
 unfoldable pub usb_taken : ℕ → List Step → Part (Option AuxClkConfig)
-usb_taken reading xs = read_aux kind.usb_divider (rest_in (peri_taken reading xs))
+usb_taken reading xs = read_aux kind.UsbDivider (rest_in (peri_taken reading xs))
 
 unfoldable pub adc_taken : ℕ → List Step → Part (Option AuxClkConfig)
-adc_taken reading xs = read_aux kind.adc_divider (rest_in (usb_taken reading xs))
+adc_taken reading xs = read_aux kind.AdcDivider (rest_in (usb_taken reading xs))

@@ -1,7 +1,7 @@
 -- The answer of reading a sheet back, as the code finds it: the plan of the settings in the bytes, if its sheet is these bytes.
 -- `read_right` shows that this is the answer that the law states.
 use mathlib.Core.{Bool.Bool, Bool.◌&&◌, List.List}
-use Rattle.std.specs.Prelude.{ℕ, eqb, ltb}
+use Rattle.std.specs.{Prelude.ℕ, Prelude.ltb, Option.is_none}
 use Rattle.base.specs.{Choice.pick, Answer.Answer, Answer.value, Answer.refusal}
 use Rattle.text.specs.Ascii.{same}
 use Rattle.config.specs.declared.ClockConfig.{ClockConfig}
@@ -15,7 +15,7 @@ plan_in sheet reading = plan_of (cut_settings (settings_from reading (steps_read
 
 -- The plan is accepted, and its sheet is these bytes.
 unfoldable pub gives : List ℕ → ℕ → ClockConfig → Bool
-gives sheet reading p = eqb (refusal_in p reading) 0 && same (sheet_bytes p reading) sheet
+gives sheet reading p = is_none (refusal_in p reading) && same (sheet_bytes p reading) sheet
 
 -- 18 for a reading over the greatest of the chip, then 26 where that plan does not give the bytes.
 unfoldable pub read_of : List ℕ → ℕ → Answer ClockConfig

@@ -5,6 +5,7 @@ use lib.{ListN.length, ListN.take, Dec.ltb}
 use Rattle.base.specs.{Answer.Answer, Answer.value, Answer.refusal, Answer.answer_in, Choice.pick}
 use Rattle.base.specs.declared.refusal.Refusal.{Refusal}
 use Rattle.step.specs.declared.Step.{Step}
+use Rattle.step.specs.declared.kind.Kind.TheVariants as kind
 use Rattle.step.specs.Access.{read_at}
 use Rattle.sheet_steps.specs.Steps.{step0}
 use Rattle.step.specs.Sheet.{max_steps}
@@ -14,7 +15,7 @@ use Rattle.readback.specs.declared.Reader.{Reader}
 -- The step of an answer; a refusal gives a step of kind 0, which no sheet has.
 abbrev pub step_or : Answer Step → Step
 step_or (value s) = s
-step_or (refusal n) = step0 0
+step_or (refusal n) = step0 (kind.Unknown 0)
 
 -- The n steps from step i.
 abbrev pub steps_from : List ℕ → ℕ → ℕ → List Step
@@ -32,7 +33,7 @@ taken_at sheet at = pick (ltb at (length sheet / 8)) (Some (read_at sheet (8 * a
 -- The step of such an answer; at the end too it is a step of kind 0.
 abbrev pub step_in : Option (Answer Step) → Step
 step_in (Some a) = step_or a
-step_in None = step0 0
+step_in None = step0 (kind.Unknown 0)
 
 -- The next step of a reader, and the reader after it; at the end the step has kind 0, and the reader stays.
 abbrev pub next_step : Reader → Step

@@ -1,6 +1,6 @@
 // Reads the clocks and the chip-specific part of a plan from the steps of a sheet.
 ghost use Rattle.std.specs.Prelude.{◌≡◌};
-ghost use Rattle.settings.specs.Codes.{chip_from};
+ghost use Rattle.config.specs.Codes.{chip_from};
 ghost use Rattle.sheet.specs.Read.{read_ref, read_sys, read_peri, read_aux, read_rtc};
 ghost use Rattle.readback.specs.Cut.{cut_ref, cut_aux, cut_rtc, cut_chip};
 ghost use Rattle.readback.specs.Parse.{Reads, ticks, sys_at};
@@ -10,10 +10,10 @@ use crate::held::{ahead, past};
 use chip::Chip;
 use chip::voltage::{CoreVoltage, CoreVoltage235};
 use config::{
-    AuxClkConfig, ChipConfig, PeriClkSrc, RefClkConfig, Rp235xConfig, Rp2040Config, RtcClkConfig,
-    SysClkSrc,
+    AuxClkConfig, AuxClkSrc, ChipConfig, PeriClkSrc, RefClkConfig, RefClkSrc, Rp235xConfig,
+    Rp2040Config, RtcClkConfig, SysClkSrc,
 };
-use step::{Step, kind};
+use step::{Kind, Step};
 
 // The source and the divider of the system clock.
 #[derive(Clone, Copy)]
@@ -28,7 +28,7 @@ pub(crate) fn read_ref(s: &[Step]) -> (RefClkConfig, &[Step])
     ensures { Reads read_ref cut_ref s.now result }
 {
     let reference = RefClkConfig {
-        src: settings::ref_from(ahead(s, 1).f0),
+        src: RefClkSrc::from(ahead(s, 1).f0),
         div: codes::div_from(ahead(s, 3).f0),
     };
     (reference, past(s, 4))
@@ -49,7 +49,7 @@ pub(crate) fn read_sys(s: &[Step]) -> (Sys, &[Step])
     ensures { Reads read_sys (λ s. s) s.now (sys_at result.0, result.1) }
 {
     let fourth = ahead(s, 3);
-    if fourth.kind != kind::SYS_CONTROL {
+    if fourth.kind != Kind::SysControl {
         let sys = Sys {
             src: SysClkSrc::Ref,
             whole: fourth.f0,
@@ -59,7 +59,7 @@ pub(crate) fn read_sys(s: &[Step]) -> (Sys, &[Step])
     }
     let divider = ahead(s, 5);
     let sys = Sys {
-        src: settings::sys_from(fourth.f0),
+        src: SysClkSrc::from_aux(fourth.f0),
         whole: divider.f0,
         fraction: divider.f1,
     };
@@ -71,14 +71,14 @@ pub(crate) fn read_peri(s: &[Step]) -> (Option<PeriClkSrc>, &[Step])
     ensures { Reads read_peri (λ p. p) s.now result }
 {
     let control = ahead(s, 0);
-    if control.kind != kind::PERI_CONTROL {
+    if control.kind != Kind::PeriControl {
         return (None, past(s, 1));
     }
-    (Some(settings::peri_from(control.f0)), past(s, 2))
+    (Some(PeriClkSrc::from(control.f0)), past(s, 2))
 }
 
 // The USB or the ADC clock, selected by the kind of its divider step; without that step it is absent.
-pub(crate) fn read_aux(s: &[Step], divider_kind: u8) -> (Option<AuxClkConfig>, &[Step])
+pub(crate) fn read_aux(s: &[Step], divider_kind: Kind) -> (Option<AuxClkConfig>, &[Step])
     ensures { Reads (read_aux divider_kind) cut_aux s.now result }
 {
     let divider = ahead(s, 0);
@@ -87,7 +87,7 @@ pub(crate) fn read_aux(s: &[Step], divider_kind: u8) -> (Option<AuxClkConfig>, &
     }
     let control = ahead(s, 1);
     let aux = AuxClkConfig {
-        src: settings::aux_from(control.f1),
+        src: AuxClkSrc::from(control.f1),
         div: codes::div_from(divider.f0),
         phase: codes::cut8(control.f0),
     };
@@ -98,12 +98,12 @@ fn read_rtc(s: &[Step]) -> Option<RtcClkConfig>
     ensures { result ≡ cut_rtc (read_rtc s.now) }
 {
     let divider = ahead(s, 0);
-    if divider.kind != kind::RTC_DIVIDER {
+    if divider.kind != Kind::RtcDivider {
         return None;
     }
     let control = ahead(s, 1);
     Some(RtcClkConfig {
-        src: settings::aux_from(control.f1),
+        src: AuxClkSrc::from(control.f1),
         div_int: codes::cut32(divider.f0),
         div_frac: codes::cut8(divider.f1),
         phase: codes::cut8(control.f0),

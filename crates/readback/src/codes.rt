@@ -1,8 +1,9 @@
-// Decodes voltages and dividers, and truncates numbers to their types.
+// Decodes voltages and dividers, and truncates numbers to their types. A cast that loses bits is not allowed, so each type has its
+// own remainder: one function over the three types would need a trait with an impl for each, which is longer than the three.
 ghost use Rattle.std.specs.Prelude.{◌≡◌, ◌%◌, ◌^◌, min, Result};
 ghost use Rattle.std.specs.Result.{result_unwrap_or};
 ghost use Rattle.base.specs.declared.refusal.Refusal.{Refusal};
-ghost use Rattle.settings.specs.Codes.{div_from};
+ghost use Rattle.config.specs.Codes.{div_from};
 
 use base::Refusal;
 
@@ -27,7 +28,7 @@ pub(crate) fn cut32(x: u64) -> u32
     (x % 4294967296) as u32
 }
 
-// Decodes a divider; a field of two bits holds 4 as 0.
+// Decodes a divider; a field of two bits holds 4 as 0. A divider is a plain number, so there is no type for a `From`.
 pub(crate) fn div_from(code: u64) -> u8
     ensures { result ≡ div_from code % 2 ^ 8 }
 {

@@ -18,7 +18,7 @@ use base::Refusal;
 use chip::Chip;
 use config::ClockConfig;
 pub use held::Steps;
-use step::{MAX_BYTES, MAX_STEPS, Step, kind};
+use step::{Kind, MAX_BYTES, MAX_STEPS, Step};
 
 // The bytes of a sheet, and the position of the next step, counted in steps.
 #[derive(Drop)]
@@ -57,7 +57,7 @@ impl<'a> Iterator for Reader<'a> {
 pub fn steps_of(sheet: &[u8]) -> Steps
     ensures { result ≡ steps_read sheet.now }
 {
-    let mut steps = Steps::new();
+    let mut steps = Steps::new(NO_STEP);
     for step in (Reader { sheet, at: 0 }).take(MAX_STEPS) {
         steps.push(step.unwrap_or(NO_STEP));
     }
@@ -79,7 +79,7 @@ fn gives(sheet: &[u8], reading: u8, plan: ClockConfig) -> bool
 pub fn chip_in(sheet: &[u8]) -> Chip
     ensures { result ≡ chip_in sheet.now }
 {
-    if sheet.len() >= 8 && sheet[0] / 4 == kind::CHIP_MARK {
+    if sheet.len() >= 8 && Kind::from(sheet[0] / 4) == Kind::ChipMark {
         Chip::Rp235x
     } else {
         Chip::Rp2040

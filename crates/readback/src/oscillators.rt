@@ -7,10 +7,10 @@ ghost use Rattle.readback.specs.Parse.{Reads, ring_from, pll_from, voltage_at};
 use crate::codes;
 use crate::held::{ahead, past};
 use chip::Chip;
-use config::{DriveStrength, RoscConfig};
+use config::{DriveStrength, RoscConfig, RoscRange};
 use pll::PllConfig;
 use settings::Crystal;
-use step::{Step, kind};
+use step::{Kind, Step};
 
 // The voltage code and the settling cycles.
 #[derive(Clone, Copy)]
@@ -23,7 +23,7 @@ pub struct Voltage {
 pub(crate) fn read_chip(s: &[Step]) -> (Chip, &[Step])
     ensures { Reads read_chip (λ c. c) s.now result }
 {
-    if ahead(s, 0).kind == kind::CHIP_MARK {
+    if ahead(s, 0).kind == Kind::ChipMark {
         (Chip::Rp235x, past(s, 1))
     } else {
         (Chip::Rp2040, s)
@@ -54,7 +54,7 @@ fn ring_of(
     let div = divider.f0.saturating_sub(u64::from(pass));
     Some(RoscConfig {
         hz: codes::cut32(store.f1),
-        range: settings::range_from(range.f0),
+        range: RoscRange::from(range.f0),
         drive_strength,
         div: codes::cut16(div),
     })
@@ -64,7 +64,7 @@ pub(crate) fn read_ring(s: &[Step], pass: u16) -> (Option<RoscConfig>, &[Step])
     ensures { Reads (read_ring pass) cut_ring s.now result }
 {
     let low = ahead(s, 0);
-    if low.kind != kind::STRENGTHS_0_3 {
+    if low.kind != Kind::Strengths0To3 {
         return (None, past(s, 1));
     }
     let rosc = ring_of(
@@ -79,7 +79,7 @@ pub(crate) fn read_ring(s: &[Step], pass: u16) -> (Option<RoscConfig>, &[Step])
 }
 
 // The voltage; without a voltage step the code is the reading. `voltage` is the chip's kind.
-pub(crate) fn read_voltage(s: &[Step], voltage: u8, reading: u8) -> (Voltage, &[Step])
+pub(crate) fn read_voltage(s: &[Step], voltage: Kind, reading: u8) -> (Voltage, &[Step])
     ensures { Reads (read_voltage voltage reading) (λ v. v) s.now (voltage_at result.0, result.1) }
 {
     let set = ahead(s, 0);
@@ -91,7 +91,7 @@ pub(crate) fn read_voltage(s: &[Step], voltage: u8, reading: u8) -> (Voltage, &[
         return (kept, s);
     }
     let delay = ahead(s, 1);
-    if delay.kind != kind::DELAY {
+    if delay.kind != Kind::Delay {
         let at_once = Voltage {
             code: set.f0,
             settling: None,
@@ -122,7 +122,7 @@ fn read_pll(s: &[Step], which: u64) -> (Option<PllConfig>, &[Step])
     ensures { Reads (read_pll which) cut_pll s.now result }
 {
     let power = ahead(s, 0);
-    if power.kind == kind::PLL_POWER && power.f0 == which {
+    if power.kind == Kind::PllPower && power.f0 == which {
         return (pll_of(ahead(s, 2), ahead(s, 3), ahead(s, 6)), past(s, 9));
     }
     (None, s)
@@ -133,7 +133,7 @@ pub(crate) fn read_crystal(s: &[Step]) -> (Option<Crystal>, &[Step])
     ensures { Reads read_crystal cut_crystal s.now result }
 {
     let startup = ahead(s, 0);
-    if startup.kind != kind::STARTUP {
+    if startup.kind != Kind::Startup {
         return (None, s);
     }
     let (sys, rest) = read_pll(past(s, 3), 0);

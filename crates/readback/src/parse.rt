@@ -7,7 +7,7 @@ ghost use Rattle.readback.specs.Cut.{cut_settings};
 use crate::held::past;
 use crate::{clocks, oscillators};
 use settings::Settings;
-use step::{Step, kind};
+use step::{Kind, Step};
 
 // The settings of the steps; the nine steps of the head, the stores of `xosc`, `pll_sys` and `pll_usb` and the tick are skipped.
 pub(crate) fn settings_in(steps: &[Step], reading: u8) -> Settings
@@ -21,8 +21,8 @@ pub(crate) fn settings_in(steps: &[Step], reading: u8) -> Settings
     let (reference, rest) = clocks::read_ref(past(rest, 3));
     let (sys, rest) = clocks::read_sys(past(rest, clocks::ticks(on)));
     let (peri, rest) = clocks::read_peri(rest);
-    let (usb, rest) = clocks::read_aux(rest, kind::USB_DIVIDER);
-    let (adc, rest) = clocks::read_aux(rest, kind::ADC_DIVIDER);
+    let (usb, rest) = clocks::read_aux(rest, Kind::UsbDivider);
+    let (adc, rest) = clocks::read_aux(rest, Kind::AdcDivider);
     let chip = clocks::read_config(rest, on, voltage.code, sys);
     Settings {
         chip,

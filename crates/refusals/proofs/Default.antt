@@ -1,20 +1,20 @@
 -- The default plan is refused with 8 at every reading that its chip can have, as its reference clock has 0 Hz.
-use Rattle.std.specs.Prelude.{Option}
+use Rattle.std.specs.Prelude.{Option, Some, None}
 use mathlib.Core.{Path.◌≡◌, Path.refl, Bool.Bool, Bool.true, Bool.false}
 use Prim.Native.Nat.{ℕ, ◌≤◌}
 use lib.Dec.{eqb}
 use borrow.Author.Tests.{le-ltb}
+use Rattle.base.specs.declared.refusal.Refusal.TheVariants as why
 use Rattle.base.specs.Choice.{pick}
 use Rattle.chip.specs.declared.{Chip.Chip, Chip.TheVariants.Rp2040, Chip.TheVariants.Rp235x}
 use Rattle.chip.specs.Chips.{facts_of}
 use Rattle.config.specs.Presets.{default_plan}
-use Rattle.std.specs.Prelude.{None as no_cycles}
 use Rattle.settings.specs.{Settings.settling_step, Settings.settings_of, Frequencies.sources_of, Frequencies.ref_hz}
 use Rattle.refusals.specs.Rules.{strengths_over, ring_divider_over, settling_over, startup_over, sys_pll_invalid, usb_pll_invalid}
 use Rattle.refusals.specs.Rules.{divider_bad, reference_bad}
 use Rattle.refusals.specs.Refusals.{refusal_of}
 
-calmly : (b : Bool) → settling_over (pick {A = Option ℕ} b no_cycles no_cycles) ≡ false
+calmly : (b : Bool) → settling_over (pick {A = Option ℕ} b None None) ≡ false
 unfolding settling_over
 calmly true = refl
 calmly false = refl
@@ -26,7 +26,7 @@ calm Rp2040 reading = calmly (eqb 11 reading)
 calm Rp235x reading = calmly (eqb 11 reading)
 
 pub default-refused : (chip : Chip) (reading : ℕ) → reading ≤ (facts_of chip).top_reading
-    → refusal_of (settings_of (default_plan chip) reading) reading ≡ 8
+    → refusal_of (settings_of (default_plan chip) reading) reading ≡ Some why.RefClock
 unfolding strengths_over ring_divider_over startup_over sys_pll_invalid usb_pll_invalid divider_bad reference_bad refusal_of ref_hz sources_of
 default-refused Rp2040 reading h = rw (le-ltb 15 reading h, calm Rp2040 reading)
 default-refused Rp235x reading h = rw (le-ltb 31 reading h, calm Rp235x reading)

@@ -1,11 +1,13 @@
 -- A plan with the PLLs that the searches find is never refused with 5 or 6, and its USB clock has 48 MHz.
-use mathlib.Core.{Path.◌≡◌, Path.refl, Path.sym, Path.subst, Bool.Bool, Bool.true, Bool.false, Bool.◌&&◌, Bool.◌||◌}
+use mathlib.Core.{Path.◌≡◌, Path.refl, Path.sym, Path.subst, Path.ap, Bool.Bool, Bool.true, Bool.false, Bool.◌&&◌, Bool.◌||◌}
 use mathlib.Core.List.{List, [], ◌∷◌}
-use Prim.Native.Nat.{ℕ, ◌≤◌}
-use native.Mathlib.Omega.{arith}
+use Rattle.std.specs.Prelude.{Some}
+use Prim.Native.Nat.{ℕ}
 use lib.Dec.{eqb}
 use borrow.Author.Tests.{eq-eqb}
-use Rattle.base.specs.Answer.{value}
+use Rattle.base.specs.declared.refusal.Refusal.{Refusal}
+use Rattle.base.specs.declared.refusal.Refusal.TheVariants as why
+use Rattle.base.specs.{Answer.value, Refusals.number_of}
 use Rattle.chip.specs.declared.Chip.{Chip}
 use Rattle.pll.specs.Setting.{valid_of}
 use Rattle.pll.proofs.{Inputs.found-valid, UsbRight.usb-found, UsbRight.usb-output}
@@ -17,15 +19,15 @@ use Rattle.settings.specs.{Settings.settings_of, Frequencies.pll_hz, Frequencies
 use Rattle.refusals.specs.Rules.{sys_pll_invalid, usb_pll_invalid}
 use Rattle.refusals.specs.Refusals.{tests_of, first, refusal_of}
 
--- A test with this number holds.
-abbrev holds_at : ℕ → List (ℕ × Bool) → Bool
-holds_at n [] = false
-holds_at n ((number, test) ∷ rest) = (eqb n number && test) || holds_at n rest
+-- A test of this refusal holds.
+abbrev holds_for : Refusal → List (Refusal × Bool) → Bool
+holds_for reason [] = false
+holds_for reason ((tested, test) ∷ rest) = (eqb (number_of reason) (number_of tested) && test) || holds_for reason rest
 
-first_holds : (n : ℕ) (tests : List (ℕ × Bool)) → 1 ≤ n → first tests ≡ n → holds_at n tests ≡ true
-first_holds n [] l e = absurd (omega arith)
-first_holds n ((number, true) ∷ rest) l e = rw (eq-eqb n number (sym e))
-first_holds n ((number, false) ∷ rest) l e = go (eqb n number) (first_holds n rest l e)
+first_holds : (reason : Refusal) (tests : List (Refusal × Bool)) → first tests ≡ Some reason → holds_for reason tests ≡ true
+first_holds reason [] e = absurd cc
+first_holds reason ((tested, true) ∷ rest) e = let same : reason ≡ tested = cc in rw (eq-eqb _ _ (ap number_of same))
+first_holds reason ((tested, false) ∷ rest) e = go (eqb (number_of reason) (number_of tested)) (first_holds reason rest e)
   where
     go : (b : Bool) {h : Bool} → h ≡ true → ((b && false) || h) ≡ true
     go true e = e
@@ -46,24 +48,23 @@ module _ (chip : Chip) (from hz reading : ℕ) (p : ClockConfig) (planned : syst
   abbrev set : Settings
   set = settings_of plan reading
 
-  never : (n : ℕ) → 1 ≤ n → holds_at n (tests_of set (frequencies_of set) reading) ≡ false
-      → refusal_of (settings_of p reading) reading ≡ n → ⊥
+  never : (reason : Refusal) → holds_for reason (tests_of set (frequencies_of set) reading) ≡ false
+      → refusal_of (settings_of p reading) reading ≡ Some reason → ⊥
   unfolding refusal_of
-  never n l none e =
-      let here : refusal_of (settings_of plan reading) reading ≡ n
-      = subst (λ q. refusal_of (settings_of q reading) reading ≡ n) made.is e in
-      let held = first_holds n (tests_of set (frequencies_of set) reading) l here in
-      let z : ◌≡◌ {A = ℕ} 0 1 = cc (held, none) in
-      omega arith
+  never reason none e =
+      let here : refusal_of (settings_of plan reading) reading ≡ Some reason
+      = subst (λ q. refusal_of (settings_of q reading) reading ≡ Some reason) made.is e in
+      let held = first_holds reason (tests_of set (frequencies_of set) reading) here in
+      cc (held, none)
 
   -- This holds at any reading.
-  pub system-from-never-5 : refusal_of (settings_of p reading) reading ≡ 5 → ⊥
+  pub system-from-never-5 : refusal_of (settings_of p reading) reading ≡ Some why.SysPll → ⊥
   unfolding sys_pll_invalid
-  system-from-never-5 = never 5 (omega arith) (rw (found-valid from hz made.sys made.sys-found))
+  system-from-never-5 = never why.SysPll (rw (found-valid from hz made.sys made.sys-found))
 
-  pub system-from-never-6 : refusal_of (settings_of p reading) reading ≡ 6 → ⊥
+  pub system-from-never-6 : refusal_of (settings_of p reading) reading ≡ Some why.UsbPll → ⊥
   unfolding usb_pll_invalid
-  system-from-never-6 = never 6 (omega arith) (rw usb-valid)
+  system-from-never-6 = never why.UsbPll (rw usb-valid)
 
   -- The stored frequencies of the USB PLL, the USB and the ADC clock are 48 MHz.
   pub system-from-usb :

@@ -1,15 +1,14 @@
 -- Every frequency that the sheet of an accepted plan stores fits in 32 bits, and the RTC's in 16.
-use Rattle.std.specs.Prelude.{Option}
+use Rattle.std.specs.Prelude.{Option, Some, None}
 use mathlib.Core.{Path.◌≡◌, Bool.false, Bool.◌||◌, List.List, List.[], List.◌∷◌}
 use Prim.Native.Nat.{ℕ, ◌≤◌}
 use native.Mathlib.Omega.{arith}
 use lib.Dec.{eqb, ltb}
 use borrow.Author.Tests.{ltb-false}
-use Rattle.base.proofs.Bools.{both_false}
+use Rattle.std.proofs.lemmas.Bool.{or_parts}
 use Rattle.chip.specs.declared.{Chip.Chip, Chip.TheVariants.Rp2040, Chip.TheVariants.Rp235x}
 use Rattle.chip.specs.Chips.{facts_of}
 use Rattle.config.specs.declared.RtcClkConfig.{RtcClkConfig}
-use Rattle.std.specs.Prelude.{Some as rtc, None as no_rtc}
 use Rattle.settings.specs.declared.{Sources.Sources, Settings.Settings, Frequencies.Frequencies}
 use Rattle.settings.specs.Frequencies.{rtc_hz, sources_in, ref_in, sys_in, frequencies_of, tenth_of, stored_of, ten_of}
 use Rattle.settings.specs.Typed.{Typed}
@@ -21,12 +20,12 @@ use Rattle.refusals.proofs.Accepted.{accepted-by, whole-good}
 -- The frequency of an accepted RTC fits in 16 bits.
 rtc-small : (source : ℕ) (f : Sources) (o : Option RtcClkConfig) → rtc_bad source (rtc_hz f o) o ≡ false → rtc_hz f o ≤ 65535
 unfolding rtc_bad
-rtc-small source f (rtc r) e =
-    ltb-false 65535 (rtc_hz f (rtc r))
-    (both_false
+rtc-small source f (Some r) e =
+    ltb-false 65535 (rtc_hz f (Some r))
+    (or_parts
     (eqb source 0 || whole_bad 16777215 r.div_int || ltb 3 r.phase)
-    (ltb 65535 (rtc_hz f (rtc r))) e).1
-rtc-small source f no_rtc e = omega arith
+    (ltb 65535 (rtc_hz f (Some r))) e).1
+rtc-small source f None e = omega arith
 
 pub record Stored (f : Frequencies) : Type 0 where
   pub sources : AllHz f.sources
@@ -37,7 +36,7 @@ pub record Stored (f : Frequencies) : Type 0 where
   pub adc : Hz f.adc
   pub rtc : f.rtc ≤ 65535
 
-pub stored : (s : Settings) (reading : ℕ) → Typed s → refusal_of s reading ≡ 0 → Stored (frequencies_of s)
+pub stored : (s : Settings) (reading : ℕ) → Typed s → refusal_of s reading ≡ None → Stored (frequencies_of s)
 stored s reading t e =
     let a = accepted-by s reading e in
     let h = sources-hz s t in
@@ -62,7 +61,7 @@ tenth-small : (chip : Chip) (hz : ℕ) → Hz hz → EachHz (tenth_of chip hz)
 tenth-small Rp2040 hz h = (h, tt)
 tenth-small Rp235x hz h = tt
 
-pub stored-small : (s : Settings) (reading : ℕ) → Typed s → refusal_of s reading ≡ 0 → EachHz (stored_of s)
+pub stored-small : (s : Settings) (reading : ℕ) → Typed s → refusal_of s reading ≡ None → EachHz (stored_of s)
 unfolding stored_of
 stored-small s reading t e =
     let h = stored s reading t e in
@@ -70,6 +69,6 @@ stored-small s reading t e =
     let tenth = tenth-small s.board.chip (frequencies_of s).rtc (omega (arith, h.rtc)) in
     (f.rosc, (f.xosc, (f.pll-sys, (f.pll-usb, (h.reference, (h.sys, (h.peri, (h.usb, (h.adc, tenth)))))))))
 
-pub ten-small : (s : Settings) (reading : ℕ) → Typed s → refusal_of s reading ≡ 0 → EachHz (ten_of s)
+pub ten-small : (s : Settings) (reading : ℕ) → Typed s → refusal_of s reading ≡ None → EachHz (ten_of s)
 unfolding ten_of
 ten-small s reading t e = let h = stored s reading t e in let f = h.sources in omega arith

@@ -9,8 +9,7 @@ use Rattle.chip.specs.declared.Chip.TheVariants.{Rp2040, Rp235x}
 use Rattle.chip.specs.Chips.{facts_of}
 use Rattle.divider.specs.Delay.{startup_sum, delay_of, settling_cycles}
 use Rattle.config.specs.declared.{XoscConfig.XoscConfig}
-use Rattle.std.specs.Prelude.{Some as xosc}
-use Rattle.std.specs.Prelude.{Some as cycles, None as no_cycles}
+use Rattle.std.specs.Prelude.{Some, None}
 use Rattle.settings.specs.Settings.{crystal_of, settling_step}
 use Rattle.refusals.specs.Rules.{settling_over, startup_over, whole_bad}
 
@@ -21,7 +20,7 @@ unfolding settling_over settling_step settling_cycles
 settling-worded reading code time hz = go (eqb code reading) (eqb time 0) refl
   where
     go : (same still : Bool) → eqb time 0 ≡ still
-        → settling_over (pick same no_cycles (pick still no_cycles (cycles (settling_cycles time hz))))
+        → settling_over (pick same None (pick still None (Some (settling_cycles time hz))))
         ≡ (not same && ltb 4294967295 (settling_cycles time hz))
     go true still e = refl
     go false true e =
@@ -30,7 +29,7 @@ settling-worded reading code time hz = go (eqb code reading) (eqb time 0) refl
 
 -- Refusal 4: the startup sum is over 32 bits or the delay over 16383.
 pub startup-worded : (x : XoscConfig)
-    → startup_over (crystal_of (xosc x))
+    → startup_over (crystal_of (Some x))
     ≡ (ltb 4294967295 (startup_sum x.hz x.delay_multiplier) || ltb 16383 (delay_of x.hz x.delay_multiplier))
 unfolding startup_over
 startup-worded x =

@@ -1,7 +1,6 @@
 -- The rules of refusals 1 to 9 and 11 to 14, one test for each (docs/FORMAT.md, Refusals). Absent parts pass.
-use Rattle.std.specs.Prelude.{Option, Some, None}
+use Rattle.std.specs.Prelude.{Option, Some, None, Bool, false, ◌||◌, not, ℕ, ◌+◌, ltb, leb, eqb}
 use Rattle.config.specs.declared.RoscConfig.{RoscConfig}
-use Rattle.std.specs.Prelude.{Bool, false, ◌||◌, not, ℕ, ◌+◌, ltb, leb, eqb}
 use Rattle.base.specs.Choice.{in_range}
 use Rattle.pll.specs.Setting.{valid_of}
 use Rattle.config.specs.declared.{DriveStrength.DriveStrength}

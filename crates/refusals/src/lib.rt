@@ -3,14 +3,14 @@
 
 mod rules;
 
-ghost use Rattle.std.specs.Prelude.{◌≡◌, ℕ, Option};
+ghost use Rattle.std.specs.Prelude.{◌≡◌, ℕ, Option, Some};
 ghost use Rattle.config.specs.declared.RoscConfig.{RoscConfig};
 ghost use Rattle.settings.specs.Frequencies.{pll_hz, sources_of, frequencies_of};
 ghost use Rattle.config.specs.Board.{FractionFits};
 ghost use Rattle.settings.specs.Typed.{Typed};
 ghost use Rattle.refusals.specs.Rules.{pll_invalid, sys_pll_invalid, usb_pll_invalid};
-ghost use Rattle.refusals.specs.Refusals.{number_in, refusal_of, examined_of};
-ghost use Rattle.base.specs.{Answer.answer_of, Choice.pick, Refusals.number_of};
+ghost use Rattle.refusals.specs.Refusals.{refusal_of, examined_of};
+ghost use Rattle.base.specs.Choice.{pick};
 
 use base::Refusal;
 use pll::PllConfig;
@@ -23,7 +23,7 @@ fn pll_invalid(pll: Option<PllConfig>, known_hz: u32) -> bool
     pll.is_some() && known_hz == 0
 }
 
-// Whether a crystal's system PLL is invalid, and whether its USB PLL is.
+// Whether a crystal's system PLL is invalid, and whether its USB PLL is. The promise is for each case, so `map_or` is no plainer.
 fn plls_invalid(crystal: Option<Crystal>, f: Sources) -> (bool, bool)
     ensures { (ring : Option RoscConfig) → f ≡ sources_of ring crystal → (result.0 ≡ sys_pll_invalid crystal) × (result.1 ≡ usb_pll_invalid crystal) }
 {
@@ -36,16 +36,16 @@ fn plls_invalid(crystal: Option<Crystal>, f: Sources) -> (bool, bool)
     }
 }
 
-// This refusal if its test holds, else that of the tests after it.
+// This refusal if its test holds, else that of the tests after it. The calls read better with a name than `then_some` and `or`.
 fn refused_if(test: bool, why: Refusal, rest: Option<Refusal>) -> Option<Refusal>
-    ensures { number_in result ≡ pick test (number_of why) (number_in rest) }
+    ensures { result ≡ pick test (Some why) rest }
 {
     if test { Some(why) } else { rest }
 }
 
 // The first refusal that holds, tested in the order 18, then 1 to 14.
 fn refusal_of(s: Settings, f: Frequencies, reading: u8) -> Option<Refusal>
-    ensures { f ≡ frequencies_of s → number_in result ≡ refusal_of s reading }
+    ensures { f ≡ frequencies_of s → result ≡ refusal_of s reading }
 {
     let on = s.board.chip.facts();
     let over = on.top_reading < reading;
@@ -82,7 +82,7 @@ fn refusal_of(s: Settings, f: Frequencies, reading: u8) -> Option<Refusal>
 
 // Tests settings at a reading and answers their frequencies; 18, then 1 to 14. The contract carries the types' bounds.
 pub fn examine(s: Settings, reading: u8) -> Result<Frequencies, Refusal>
-    ensures { (answer_of result ≡ examined_of s reading) × (FractionFits s.board → Typed s) }
+    ensures { (result ≡ examined_of s reading) × (FractionFits s.board → Typed s) }
 {
     let frequencies = settings::frequencies_of(s);
     match refusal_of(s, frequencies, reading) {

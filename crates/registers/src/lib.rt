@@ -11,12 +11,12 @@ ghost use Rattle.base.specs.Answer.{answer_of};
 
 use base::Refusal;
 use chip::Chip;
-use step::{Step, kind};
+use step::{Kind, Step};
 
 // All bits of a register.
 pub(crate) const WHOLE: u32 = 0xFFFFFFFF;
 
-// An access to a register.
+// An access to a register. Its fields have no names, which would make the 43 rows of row.rt much longer.
 #[derive(Clone, Copy, PartialEq, Eq)]
 pub enum Access {
     Nothing,
@@ -58,23 +58,32 @@ impl Access {
 
 // Whether the chip has this kind of step.
 #[tactic(auto, unfolding(crate::specs::Access::has))]
-fn has(chip: Chip, kind: u8) -> bool
+fn has(chip: Chip, kind: Kind) -> bool
     ensures { result ≡ has chip kind }
 {
     match chip {
-        Chip::Rp2040 => (1..=kind::STORE).contains(&kind),
-        Chip::Rp235x => {
-            (1..=kind::SYS_DIVIDER_235).contains(&kind)
-                && !matches!(
-                    kind,
-                    kind::VOLTAGE
-                        | kind::BROWNOUT
-                        | kind::TICK
-                        | kind::SYS_DIVIDER
-                        | kind::RTC_DIVIDER
-                        | kind::RTC_CONTROL
-                )
-        }
+        Chip::Rp2040 => !matches!(
+            kind,
+            Kind::ChipMark
+                | Kind::TimerCycles
+                | Kind::TimerOn
+                | Kind::WatchdogCycles
+                | Kind::WatchdogOn
+                | Kind::Voltage235
+                | Kind::Brownout235
+                | Kind::SysDivider235
+                | Kind::Unknown(_)
+        ),
+        Chip::Rp235x => !matches!(
+            kind,
+            Kind::Voltage
+                | Kind::Brownout
+                | Kind::Tick
+                | Kind::SysDivider
+                | Kind::RtcDivider
+                | Kind::RtcControl
+                | Kind::Unknown(_)
+        ),
     }
 }
 

@@ -1,17 +1,14 @@
 -- The example of docs/PROGRAMS.md, Program clocks: the report of `125000000`.
 use mathlib.Core.{List.List, List.[], List.◌∷◌, List.◌++◌, Path.◌≡◌}
 use Prim.Native.{Nat.ℕ, String.String}
-use borrow.Author.Tests.{eq-eqb}
 use lib.Count.{ones, ones-ones}
 use Rattle.text.specs.{Ascii.ascii, Decimal.decimal_of, Decimal.value_of, Decimal.is_number, Decimal.number_of}
 use Rattle.divider.specs.Clock.{divided_hz}
-use Rattle.chip.specs.declared.Chip.TheVariants.{Rp2040}
-use Rattle.config.specs.Presets.{crystal_plan, system_plan}
+use Rattle.config.specs.Presets.{system_plan}
 use Rattle.settings.specs.Frequencies.{pll_hz, sources_of, ref_hz, sys_hz, ten_of}
-use Rattle.sheet.specs.Writer.{refusal_in}
 use Rattle.sheet_steps.specs.Steps.{release_mask}
 use Rattle.sheet.proofs.Examples.{crystal-steps}
-use Rattle.report.specs.{Lines.line_of, Report.reading, Report.plan_report, Report.report_of}
+use Rattle.report.specs.{Lines.line_of, Report.plan_report, Report.report_of}
 
 -- the texts, each followed by a newline
 abbrev pub texts : List String → List ℕ
@@ -37,4 +34,4 @@ pub example : report_of (texts ("125000000" ∷ []))
     ∷ [])
 unfolding line_of decimal_of report_of number_of is_number value_of system_plan plan_report
     divided_hz pll_hz sources_of ref_hz sys_hz ten_of release_mask
-example = rw (eq-eqb (refusal_in (crystal_plan Rp2040 12000000) reading) 0 crystal-steps.accepted, all-released)
+example = rw (crystal-steps.accepted, all-released)

@@ -4,7 +4,6 @@ use mathlib.Core.{Bool.Bool, Bool.true, Bool.false, List.List, List.[], List.◌
 use mathlib.Core.{Logic.◌⊎◌, Logic.inl, Logic.inr, Path.◌≡◌, Path.refl, Path.ap, Path.◌∙◌}
 use Prim.Native.{Nat.ℕ, Nat.◌+◌, Nat.◌≤◌, String.String}
 use native.Mathlib.Omega.{arith}
-use borrow.Author.Tests.{eq-eqb}
 use lib.{Count.ones, Count.ones-le, ListN.length, ListN.take, ListN.length-append}
 use Rattle.base.specs.Answer.{value}
 use Rattle.text.specs.{Ascii.ascii, Decimal.value_of, Decimal.is_number, Decimal.number_of, Words.up_to, Words.line_number_of}
@@ -46,7 +45,7 @@ report-cases input = go (is_number (up_to 10 input)) refl
           plan = s.0;
           read = read;
           served = s.1;
-          lines = ap target_report read ∙ ap planned_report s.1.planned ∙ rw (eq-eqb _ _ s.1.accepted);
+          lines = ap target_report read ∙ ap planned_report s.1.planned ∙ rw s.1.accepted;
         })
 
 -- 11 bytes of the input are enough to read

@@ -3,12 +3,12 @@ use mathlib.Core.{Bool.Bool, Bool.true, Bool.false, List.List, List.[], List.◌
 use mathlib.Core.Path.{◌≡◌, refl, sym, ap, ◌∙◌}
 use Prim.Native.Nat.{ℕ, zero, suc, ◌-◌, ◌/◌, ◌≤◌, ◌<◌}
 use native.Mathlib.{Numerals.add-one, Omega.arith}
-use borrow.Author.Tests.{eqb-true}
-use lib.{Dec.eqb, ListN.length, ListN.take, ListN.replicate, ListN.length-map, Seq.take-append_seam}
+use lib.{ListN.length, ListN.take, ListN.replicate, ListN.length-map, Seq.take-append_seam}
 use Rattle.base.specs.Answer.{Answer}
 use Rattle.step.specs.declared.Step.{Step}
-use Rattle.step.specs.Kinds as kind
-use Rattle.step.proofs.Sheets.{length-encoded}
+use Rattle.step.specs.Kinds.{is}
+use Rattle.step.specs.declared.kind.Kind.TheVariants as kind
+use Rattle.step.proofs.{Numbers.is-true, Sheets.length-encoded}
 use Rattle.config.specs.declared.ClockConfig.{ClockConfig}
 use Rattle.settings.specs.declared.Settings.{Settings}
 use Rattle.settings.specs.{Settings.settings_of, Frequencies.ten_of, Typed.Typed}
@@ -61,14 +61,14 @@ last-release reading s mask = simp releases-append
 -- a wait is no release
 ready-releases : (step : Step) (mask : ℕ) → released_by (ready_answer step) mask ≡ released_in step mask
 unfolding released_in
-ready-releases step mask = go (is_wait step.kind) (eqb step.kind kind.release) refl refl
+ready-releases step mask = go (is_wait step.kind) (is step.kind kind.Release) refl refl
   where
-    go : (w b : Bool) → is_wait step.kind ≡ w → eqb step.kind kind.release ≡ b
+    go : (w b : Bool) → is_wait step.kind ≡ w → is step.kind kind.Release ≡ b
         → released_by (ready_answer step) mask ≡ released_in step mask
     go false b e k = simp e
     go true false e k = simp (e, k)
     go true true e k =
-        let waits : is_wait kind.release ≡ true = rw (eqb-true step.kind kind.release k) at e in
+        let waits : is_wait kind.Release ≡ true = rw (is-true step.kind kind.Release k) at e in
         let z : ◌≡◌ {A = ℕ} 0 1 = cc in
         absurd (omega arith)
 

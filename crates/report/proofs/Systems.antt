@@ -6,7 +6,7 @@ use lib.Dec.{eqb, ltb}
 use Rattle.base.specs.{Choice.pick, Answer.value}
 use Rattle.chip.specs.declared.voltage.CoreVoltage.{CoreVoltage, TheVariants.V1_10, TheVariants.V1_15}
 use Rattle.config.specs.declared.{RoscRange.TheVariants.Medium}
-use Rattle.std.specs.Prelude.{Some as pll}
+use Rattle.std.specs.Prelude.{Some}
 use Rattle.config.specs.declared.ClockConfig.{ClockConfig}
 use Rattle.divider.specs.{Clock.divided_hz, Delay.startup_sum, Delay.cycles_per_us, Delay.settling_cycles}
 use Rattle.pll.specs.declared.PllConfig.{PllConfig}
@@ -40,7 +40,7 @@ module _ (c : PllConfig) (v : CoreVoltage) where
   sounds : valid_of c 12000000 ≡ true → eqb (sys_in set) 0 ≡ false
   unfolding sys_hz sources_of
   sounds ok =
-      ap (λ (hz : ℕ). eqb hz 0) (undivided (pll_hz 12000000 (pll c))) ∙ pll-silent 12000000 c ∙ ap not ok
+      ap (λ (hz : ℕ). eqb hz 0) (undivided (pll_hz 12000000 (Some c))) ∙ pll-silent 12000000 c ∙ ap not ok
 
   plan-accepted : valid_of c 12000000 ≡ true → settling_over set.settling ≡ false → Accepted plan reading
   unfolding startup_sum divided_hz pll_hz sources_of ref_hz strengths_over ring_divider_over startup_over sys_pll_invalid

@@ -1,7 +1,8 @@
 -- The whole output of the program `clocks` for its input (docs/PROGRAMS.md, Program clocks).
-use Rattle.std.specs.Prelude.{List, [], ◌∷◌, ◌++◌, ℕ}
-use lib.{Count.ones, Dec.eqb}
-use Rattle.base.specs.{Answer.Answer, Answer.value, Answer.refusal, Choice.pick}
+use Rattle.std.specs.Prelude.{Option, Some, None, List, [], ◌∷◌, ◌++◌, ℕ}
+use lib.Count.{ones}
+use Rattle.base.specs.declared.refusal.Refusal.{Refusal}
+use Rattle.base.specs.{Answer.Answer, Answer.value, Answer.refusal, Refusals.number_of}
 use Rattle.text.specs.Words.{line_number_of}
 use Rattle.chip.specs.declared.Chip.TheVariants.{Rp2040}
 use Rattle.config.specs.declared.ClockConfig.{ClockConfig}
@@ -21,11 +22,15 @@ reading = 11
 abbrev pub printed_numbers : Settings → List ℕ
 printed_numbers s = ten_of s ++ (ones (release_mask s.board.chip s.peri s.usb s.adc s.board.rtc) ∷ [])
 
+-- the line of a refusal, or these lines where there is none
+abbrev pub unless_refused : Option Refusal → List ℕ → List ℕ
+unless_refused (Some reason) lines = refused_line (number_of reason)
+unless_refused None lines = lines
+
 -- the report of a plan: its eleven lines, or the line of its refusal at the reading
 unfoldable pub plan_report : ClockConfig → List ℕ
 plan_report p =
-    pick (eqb (refusal_in p reading) 0) (lines_of report_names (printed_numbers (settings_of p reading)))
-    (refused_line (refusal_in p reading))
+    unless_refused (refusal_in p reading) (lines_of report_names (printed_numbers (settings_of p reading)))
 
 abbrev pub planned_report : Answer ClockConfig → List ℕ
 planned_report (value p) = plan_report p

@@ -4,11 +4,13 @@ use mathlib.Core.{Bool.Bool, Bool.true, Bool.false, Bool.◌||◌, Bool.not, Lis
 use Prim.Native.Nat.{ℕ, ◌+◌, ◌*◌, ◌<◌, ◌≤◌}
 use borrow.Author.Tests.{le-leb, lt-leb, ltb-false}
 use native.Mathlib.Omega.{arith}
-use lib.{Dec.eqb, Dec.ltb, Dec.leb, ListN.length, ListN.take}
+use lib.{Dec.ltb, Dec.leb, ListN.length, ListN.take}
 use Rattle.base.specs.{Answer.Answer, Answer.value, Answer.refusal, Choice.pick}
-use Rattle.base.proofs.Bools.{both_false}
+use Rattle.std.proofs.lemmas.Bool.{or_parts}
 use Rattle.step.specs.declared.Step.{Step}
-use Rattle.step.specs.Kinds as kind
+use Rattle.step.specs.Kinds.{is}
+use Rattle.step.specs.declared.kind.Kind.{Kind}
+use Rattle.step.specs.declared.kind.Kind.TheVariants as kind
 use Rattle.step.specs.{Access.read_at, Sheet.max_steps, Sheet.max_bytes}
 use Rattle.step.proofs.Sizes.{size_fits}
 use Rattle.runner.specs.declared.State.{State}
@@ -24,11 +26,11 @@ use Rattle.step.specs.Size.{bad_size}
 module _ (s : State) (len : ℕ) (o : outside s len ≡ false) where
   ranged : ((ltb max_steps s.position || ltb 999999 s.lock_polls) ≡ false) × (bad_size len ≡ false)
   unfolding outside
-  ranged = both_false (ltb max_steps s.position || ltb 999999 s.lock_polls) (bad_size len) o
+  ranged = or_parts (ltb max_steps s.position || ltb 999999 s.lock_polls) (bad_size len) o
 
   pub inside : (s.position ≤ max_steps) × (s.lock_polls < 1000000)
   inside =
-      let both = both_false (ltb max_steps s.position) (ltb 999999 s.lock_polls) ranged.0 in
+      let both = or_parts (ltb max_steps s.position) (ltb 999999 s.lock_polls) ranged.0 in
       (ltb-false max_steps s.position both.0, omega (arith, ltb-false 999999 s.lock_polls both.1))
 
   pub len_fits : len ≤ max_bytes
@@ -65,10 +67,10 @@ module _ (P : Outcome State → Type 0) (s : State) (len : ℕ) (kept sheet : Li
     (stays : (polls : ℕ) → P (waits s polls)) (stops : P (outcome (refusal 22) (polled s s.lock_polls true)))
     (hands : (step : Step) → read_at sheet (8 * s.position) ≡ value step
     → P (outcome (value (Handed step)) (moved_on s s.lock_polls))) where
-  polls : (wait : ℕ) → P (unready s wait)
+  polls : (wait : Kind) → P (unready s wait)
   unfolding unready
   polls wait =
-      both P (not (eqb wait kind.wait_lock)) _ _ (stays _)
+      both P (not (is wait kind.WaitLock)) _ _ (stays _)
       (both P (ltb (s.lock_polls + 1) 1000000) _ _ (stays _) stops)
 
   reads : (a : Answer Step) → read_at sheet (8 * s.position) ≡ a → P (take_read s a ready)

@@ -2,10 +2,11 @@
 use mathlib.Core.{Bool.Bool, Bool.true, Bool.false, Bool.not, List.List, Logic.◌⊎◌, Logic.inl, Logic.inr}
 use mathlib.Core.Path.{◌≡◌, refl}
 use Prim.Native.Nat.{ℕ, ◌+◌, ◌*◌}
-use lib.{Dec.eqb, Dec.ltb, Dec.leb, ListN.length, ListN.take}
+use lib.{Dec.ltb, Dec.leb, ListN.length, ListN.take}
 use Rattle.base.specs.{Answer.Answer, Answer.value, Answer.refusal, Choice.pick}
 use Rattle.step.specs.declared.Step.{Step}
-use Rattle.step.specs.Kinds as kind
+use Rattle.step.specs.Kinds.{is}
+use Rattle.step.specs.declared.kind.Kind.TheVariants as kind
 use Rattle.step.specs.Access.{read_at}
 use Rattle.runner.specs.declared.{State.State, Runner.Runner}
 use Rattle.runner.specs.declared.Reply.{Reply}
@@ -28,7 +29,7 @@ not-at-step s (value step) ready =
     let N : Outcome State → Type 0 = λ x. NotDone x.answer in
     both N (is_wait step.kind) _ _
     (both N ready _ _ tt
-    (both N (not (eqb step.kind kind.wait_lock)) _ _ tt (both N (ltb (s.lock_polls + 1) 1000000) _ _ tt tt)))
+    (both N (not (is step.kind kind.WaitLock)) _ _ tt (both N (ltb (s.lock_polls + 1) 1000000) _ _ tt tt)))
     tt
 not-at-step s (refusal n) ready = tt
 

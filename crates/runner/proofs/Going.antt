@@ -2,11 +2,12 @@
 use Prim.Native.Nat.{ℕ, ◌+◌, ◌*◌, ◌%◌, ◌≤◌, ◌<◌}
 use native.Mathlib.Omega.{arith}
 use mathlib.Core.{Bool.Bool, Bool.true, Bool.false, List.List, Path.◌≡◌, Path.refl, Path.sym, Path.◌∙◌}
-use borrow.Author.Tests.{lt-ltb, le-ltb, eq-eqb, eqb-true}
-use lib.{Dec.eqb, ListN.length}
+use borrow.Author.Tests.{lt-ltb, le-ltb, eq-eqb}
+use lib.ListN.{length}
 use Rattle.base.specs.Answer.{value}
 use Rattle.step.specs.declared.Step.{Step}
-use Rattle.step.specs.Kinds as kind
+use Rattle.step.specs.Kinds.{is}
+use Rattle.step.specs.declared.kind.Kind.TheVariants as kind
 use Rattle.step.specs.{Access.read_at, Sheet.max_steps, Sheet.max_bytes}
 use Rattle.runner.specs.declared.{State.State, Runner.Runner}
 use Rattle.runner.specs.declared.Reply.TheVariants.{Done, Handed, Passed, Waiting}
@@ -14,6 +15,7 @@ use Rattle.runner.specs.Run.{Outcome, outcome, is_wait, one_more, moved_on, unre
 use Rattle.runner.specs.Run.{take_step, take_read, outside, padded, with_stepper, started_with, onward_of, turn_of}
 use Rattle.runner.specs.Run.{stored_by, joined, in_runner, stepper_of, advance_of}
 use Rattle.step.specs.Size.{bad_size}
+use Rattle.step.proofs.Numbers.{is-true}
 use Rattle.text.proofs.Same.{same_refl}
 use Rattle.runner.proofs.{Starts.kept-sheet, Calls.onward-done, Calls.onward-read, Calls.call-goes}
 
@@ -28,11 +30,11 @@ standing sheet p polls total freqs =
 -- a wait is no store
 pub wait-stores : (step : Step) (freqs : List ℕ) → is_wait step.kind ≡ true → stored_by step freqs ≡ freqs
 unfolding stored_by
-wait-stores step freqs w = go (eqb step.kind kind.store) refl
+wait-stores step freqs w = go (is step.kind kind.Store) refl
   where
-    go : (b : Bool) → eqb step.kind kind.store ≡ b → stored_by step freqs ≡ freqs
+    go : (b : Bool) → is step.kind kind.Store ≡ b → stored_by step freqs ≡ freqs
     go true k =
-        let waits : is_wait kind.store ≡ true = rw (eqb-true step.kind kind.store k) at w in
+        let waits : is_wait kind.Store ≡ true = rw (is-true step.kind kind.Store k) at w in
         let z : ◌≡◌ {A = ℕ} 0 1 = cc in
         absurd (omega arith)
     go false k = simp k
@@ -62,9 +64,9 @@ at-unready s step w = simp w
 pub polls-on : (p polls total : ℕ) (step : Step) → is_wait step.kind ≡ true → polls < 999999
     → Polled p polls total step
 unfolding unready
-polls-on p polls total step w h = go (eqb step.kind kind.wait_lock) refl
+polls-on p polls total step w h = go (is step.kind kind.WaitLock) refl
   where
-    go : (b : Bool) → eqb step.kind kind.wait_lock ≡ b → Polled p polls total step
+    go : (b : Bool) → is step.kind kind.WaitLock ≡ b → Polled p polls total step
     go true e =
         record {
           now = polls + 1;

@@ -6,9 +6,11 @@ use native.Mathlib.Omega.{arith}
 use borrow.Author.Tests.{leb-false, ltb-true, eqb-true, le-ltb, not-false}
 use lib.{Dec.eqb, Dec.ltb, Dec.leb, ListN.length, ListN.take, ListN.length-take}
 use Rattle.base.specs.{Answer.Answer, Answer.value, Answer.refusal, Choice.pick}
-use Rattle.base.proofs.Bools.{both_false}
+use Rattle.std.proofs.lemmas.Bool.{or_parts}
 use Rattle.step.specs.declared.Step.{Step}
-use Rattle.step.specs.Kinds as kind
+use Rattle.step.specs.Kinds.{is}
+use Rattle.step.specs.declared.kind.Kind.{Kind}
+use Rattle.step.specs.declared.kind.Kind.TheVariants as kind
 use Rattle.step.specs.{Access.read_at, Sheet.max_steps, Sheet.max_bytes}
 use Rattle.text.specs.Ascii.{same}
 use Rattle.text.proofs.Same.{same_length}
@@ -30,7 +32,7 @@ InRange len s = (8 * s.position ≤ len) × (s.lock_polls < 1000000)
 
 whole-steps : (len : ℕ) → bad_size len ≡ false → len % 8 ≡ 0
 whole-steps len e =
-    eqb-true (len % 8) 0 (not-false (eqb (len % 8) 0) (both_false (ltb max_bytes len) (not (eqb (len % 8) 0)) e).1)
+    eqb-true (len % 8) 0 (not-false (eqb (len % 8) 0) (or_parts (ltb max_bytes len) (not (eqb (len % 8) 0)) e).1)
 
 in-range : (s : State) (len : ℕ) → bad_size len ≡ false → InRange len s → outside s len ≡ false
 unfolding outside
@@ -43,10 +45,10 @@ module _ (s : State) (len : ℕ) (kept sheet : List ℕ) (ready : Bool) (good : 
   abbrev Stays : Outcome State → Type 0
   Stays x = InRange len x.next
 
-  unready-in : (wait : ℕ) → Stays (unready s wait)
+  unready-in : (wait : Kind) → Stays (unready s wait)
   unfolding unready
   unready-in wait =
-      both Stays (not (eqb wait kind.wait_lock)) _ _ ranged
+      both Stays (not (is wait kind.WaitLock)) _ _ ranged
       (either Stays (ltb (s.lock_polls + 1) 1000000) _ _ (λ e. (ranged.0, ltb-true _ _ e)) (λ e. ranged))
 
   read-in : 8 * s.position + 8 ≤ len → (a : Answer Step) → Stays (take_read s a ready)

@@ -7,6 +7,7 @@ use native.Mathlib.{Nat.add-zero, Nat.zero-add, Numerals.add-one, Omega.arith}
 use lib.ListN.{length, get_or, replicate}
 use Rattle.base.specs.Answer.{Answer, value}
 use Rattle.step.specs.declared.Step.{Step}
+use Rattle.step.specs.declared.kind.Kind.TheVariants as kind
 use Rattle.step.specs.{Access.read_at, Sheet.max_steps, Sheet.encoded, Sheet.AllFormed}
 use Rattle.step.proofs.Sheets.{length-encoded, read-encoded}
 use Rattle.runner.specs.declared.Runner.{Runner}
@@ -63,7 +64,7 @@ module _ (sheet : List ℕ) (n : ℕ) (few : n ≤ max_steps) (size : length she
 all : (xs : List Step) (f : AllFormed xs) (few : length xs ≤ max_steps)
     → Through (encoded xs) (length xs) few (length-encoded xs) 0 (replicate 10 0) xs
 all xs f few =
-    let none : Step = record { kind = 0; f0 = 0; f1 = 0; f2 = 0; f3 = 0; f4 = 0 } in
+    let none : Step = record { kind = kind.Unknown 0; f0 = 0; f1 = 0; f2 = 0; f3 = 0; f4 = 0 } in
     through (encoded xs) (length xs) few (length-encoded xs) none xs 0 (replicate 10 0) (omega arith)
     (λ i h. simp zero-add (read-encoded xs none i f h))
 

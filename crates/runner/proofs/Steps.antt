@@ -5,8 +5,8 @@ use native.Mathlib.Omega.{arith}
 use lib.Dec.{T, leb, leb→le}
 use Rattle.base.specs.Answer.{value}
 use Rattle.step.specs.declared.Step.{Step}
-use Rattle.step.specs.Kinds as kind
-use Rattle.step.specs.{Access.read_at, Layout.rows, Layout.width, Layout.widths, Steps.storable, Steps.WellFormed}
+use Rattle.step.specs.declared.kind.Kind.TheVariants as kind
+use Rattle.step.specs.{Access.read_at, Layout.widths, Steps.storable, Steps.WellFormed}
 use Rattle.step.proofs.Accesses.{read-sound}
 use Rattle.runner.specs.declared.State.{State}
 use Rattle.runner.specs.Run.{Outcome, HandsFormed, turn_of}
@@ -20,11 +20,11 @@ left true b t = tt
 left false b t = t
 
 -- a store names one of the ten clocks, and its Hz fit 32 bits
-pub store_fits : (s : Step) → WellFormed s → s.kind ≡ kind.store → (s.f0 < 10) × (s.f1 < 4294967296)
-unfolding rows width widths storable
+pub store_fits : (s : Step) → WellFormed s → s.kind ≡ kind.Store → (s.f0 < 10) × (s.f1 < 4294967296)
+unfolding widths storable
 store_fits s w k =
     let fill = rw k at w.fill in
-    let stores : T (storable kind.store s.f0 s.f1) = rw k at w.stores in
+    let stores : T (storable kind.Store s.f0 s.f1) = rw k at w.stores in
     (omega (arith, leb→le s.f0 9 (left (leb s.f0 9) _ stores)), fill.1.1.0)
 
 pub turn_formed : (s : State) (len : ℕ) (kept sheet : List ℕ) (ready : Bool)

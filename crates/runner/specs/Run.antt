@@ -2,11 +2,13 @@
 -- runner, sheet and ready flag.
 use Rattle.std.specs.Prelude.{ℕ, ◌+◌, ◌-◌, ◌*◌}
 use mathlib.Core.{Bool.Bool, Bool.true, Bool.false, Bool.◌||◌, Bool.not, List.List, List.◌++◌}
-use lib.{Dec.eqb, Dec.ltb, Dec.leb, ListN.length, ListN.get_or, ListN.set, ListN.take, ListN.replicate}
+use lib.{Dec.ltb, Dec.leb, ListN.length, ListN.get_or, ListN.set, ListN.take, ListN.replicate}
 use Rattle.base.specs.{Answer.Answer, Answer.value, Answer.refusal, Choice.pick}
 use Rattle.text.specs.Ascii.{same}
 use Rattle.step.specs.declared.Step.{Step}
-use Rattle.step.specs.Kinds as kind
+use Rattle.step.specs.Kinds.{is}
+use Rattle.step.specs.declared.kind.Kind.{Kind}
+use Rattle.step.specs.declared.kind.Kind.TheVariants as kind
 use Rattle.step.specs.{Access.read_at, Sheet.max_steps, Sheet.max_bytes, Steps.WellFormed}
 use Rattle.step.specs.Size.{bad_size}
 use Rattle.runner.specs.declared.{Reply.Reply, State.State, Stepper.Stepper, Runner.Runner}
@@ -44,9 +46,9 @@ abbrev pub freq_of : Runner → ℕ → ℕ
 freq_of r clock = get_or r.stepper.freqs clock 0
 
 -- the waits
-abbrev pub is_wait : ℕ → Bool
+abbrev pub is_wait : Kind → Bool
 is_wait of =
-    eqb of kind.wait_released || eqb of kind.wait_sys || eqb of kind.wait_ref || eqb of kind.wait_stable || eqb of kind.wait_lock
+    is of kind.WaitReleased || is of kind.WaitSys || is of kind.WaitRef || is of kind.WaitStable || is of kind.WaitLock
 
 -- plus one, saturating at 32 bits
 unfoldable pub one_more : ℕ → ℕ
@@ -67,9 +69,9 @@ waits s polls = outcome (value Waiting) (polled s polls s.stopped)
 
 -- rule 8 of a call: unready is waiting, and at the wait for lock adds one lock poll; the 1000000th of these is
 -- refused with 22 and stops the runner
-unfoldable pub unready : State → ℕ → Outcome State
+unfoldable pub unready : State → Kind → Outcome State
 unready s wait =
-    pick (not (eqb wait kind.wait_lock)) (waits s s.lock_polls)
+    pick (not (is wait kind.WaitLock)) (waits s s.lock_polls)
     (pick (ltb (s.lock_polls + 1) 1000000) (waits s (s.lock_polls + 1))
     (outcome (refusal 22) (polled s s.lock_polls true)))
 
@@ -105,7 +107,7 @@ turn_of s len kept sheet ready =
 
 -- the ten frequencies after a step: a store sets the frequency of its clock
 unfoldable pub stored_by : Step → List ℕ → List ℕ
-stored_by step freqs = pick (eqb step.kind kind.store) (set freqs step.f0 step.f1) freqs
+stored_by step freqs = pick (is step.kind kind.Store) (set freqs step.f0 step.f1) freqs
 
 -- the ten frequencies after an answer: a step stores when it is handed out
 abbrev pub freqs_after : Answer Reply → List ℕ → List ℕ

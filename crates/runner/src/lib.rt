@@ -2,18 +2,17 @@
 // `Stepper::poll` on the stepping part, `Runner::poll` on a whole runner; `Runner::start` takes a sheet.
 #![tactic(auto)]
 
-mod clock;
 mod stepping;
 
 ghost use Rattle.std.specs.Prelude.{◌≡◌, ◌≤◌, length};
 ghost use Rattle.base.specs.Answer.{answer_of};
 ghost use Rattle.step.specs.Sheet.{max_bytes};
-ghost use Rattle.runner.specs.Clocks.{number_of};
+ghost use Rattle.step.specs.Clocks.{clock_number};
 ghost use Rattle.runner.specs.Run.{outcome, turn_of, stepper_of, advance_of, start_of};
 ghost use Rattle.runner.specs.Run.{fresh_stepper, fresh, freq_of, padded};
 
 use base::Refusal;
-pub use clock::Clock;
+pub use step::Clock;
 use step::{MAX_BYTES, MAX_STEPS, Step};
 pub use stepping::store;
 
@@ -33,12 +32,21 @@ pub struct Stepper {
     pub freqs: [u32; 10],
 }
 
-// A stepper and the sheet that it was started with: `len` bytes, followed by zeros.
+// A stepper and the sheet that it was started with: `len` bytes, followed by zeros. The two are fields of their own, as C lends a
+// runner as numbers and may write any length.
 #[derive(Clone, Copy)]
 pub struct Runner {
     pub kept: [u8; MAX_BYTES],
     pub len: usize,
     pub stepper: Stepper,
+}
+
+// The kept bytes, and how many of them are the sheet. Any length may stand here, as it comes from C; `turn` refuses one that no
+// sheet has.
+#[derive(Clone, Copy)]
+pub struct Kept<'a> {
+    pub bytes: &'a [u8; MAX_BYTES],
+    pub len: usize,
 }
 
 // The answer of a call that is not refused: done, a step to carry out, a wait passed, or a wait not ready.
@@ -51,25 +59,20 @@ pub enum Reply {
 }
 
 impl State {
-    // One call on the state, with the first `len` kept bytes as the sheet; refuses with 21, 22, 27 or 20, in this order,
+    // One call on the state with a kept sheet; refuses with 21, 22, 27 or 20, in this order,
     // and with 22 at the lock timeout.
     #[tactic(auto, using(crate::proofs::Calls::inside, crate::proofs::Calls::len_fits), unfolding(crate::specs::Run::turn_of, crate::specs::Run::outside))]
-    pub fn turn(
-        &mut self,
-        len: usize,
-        kept: &[u8; MAX_BYTES],
-        sheet: &[u8],
-        ready: bool,
-    ) -> Result<Reply, Refusal>
-        ensures { outcome (answer_of result) self.new ≡ turn_of self.old len kept.now sheet.now ready }
+    pub fn turn(&mut self, kept: Kept<'_>, sheet: &[u8], ready: bool) -> Result<Reply, Refusal>
+        ensures { outcome (answer_of result) self.new ≡ turn_of self.old kept.entry.len kept.entry.bytes.now sheet.now ready }
     {
-        if ((self.position > MAX_STEPS) | (self.lock_polls > 999999)) | step::bad_size(len) {
+        if ((self.position > MAX_STEPS) | (self.lock_polls > 999999)) | step::bad_size(kept.len) {
             return Err(Refusal::NotARunner);
         }
         if self.stopped {
             return Err(Refusal::LockTimeout);
         }
-        if !text::same_bytes(&kept[..len], sheet) {
+        let bytes = kept.bytes;
+        if !text::same_bytes(&bytes[..kept.len], sheet) {
             return Err(Refusal::OtherSheet);
         }
         self.onward(sheet, ready)
@@ -95,16 +98,11 @@ impl Stepper {
     // One call on a stepper with a kept sheet; refuses with 21, 22, 27 or 20, as `turn` does. A store that is handed out sets
     // the frequency of its clock.
     #[tactic(auto, using(crate::proofs::Steps::turn_formed), unfolding(crate::specs::Run::stepper_of))]
-    pub fn poll(
-        &mut self,
-        len: usize,
-        kept: &[u8; MAX_BYTES],
-        sheet: &[u8],
-        ready: bool,
-    ) -> Result<Reply, Refusal>
-        ensures { outcome (answer_of result) self.new ≡ stepper_of self.old len kept.now sheet.now ready }
+    pub fn poll(&mut self, kept: Kept<'_>, sheet: &[u8], ready: bool) -> Result<Reply, Refusal>
+        ensures { outcome (answer_of result) self.new
+            ≡ stepper_of self.old kept.entry.len kept.entry.bytes.now sheet.now ready }
     {
-        let reply = self.state.turn(len, kept, sheet, ready)?;
+        let reply = self.state.turn(kept, sheet, ready)?;
         if let Reply::Handed(step) = reply {
             store(step, &mut self.freqs);
         }
@@ -129,10 +127,15 @@ impl Runner {
     pub fn poll(&mut self, sheet: &[u8], ready: bool) -> Result<Reply, Refusal>
         ensures { outcome (answer_of result) self.new ≡ advance_of self.old sheet.now ready }
     {
-        self.stepper.poll(self.len, &self.kept, sheet, ready)
+        let kept = Kept {
+            bytes: &self.kept,
+            len: self.len,
+        };
+        self.stepper.poll(kept, sheet, ready)
     }
 
-    // One call by value: its answer, and the runner after it.
+    // One call by value: its answer, and the runner after it. The calls by value stay beside those in place, as programs and
+    // theorems name them.
     pub fn advance(self, sheet: &[u8], ready: bool) -> (Result<Reply, Refusal>, Self)
         ensures { outcome (answer_of result.0) result.1 ≡ advance_of self sheet.now ready }
     {
@@ -166,7 +169,7 @@ impl Runner {
 
     // The frequency in Hz that the runner holds for a clock. That of the RTC is 0 on the RP235x, which has no RTC clock.
     pub fn freq(&self, clock: Clock) -> u32
-        ensures { result ≡ freq_of self.now (number_of clock) }
+        ensures { result ≡ freq_of self.now (clock_number clock) }
     {
         self.stepper.freqs[clock as usize]
     }

@@ -7,27 +7,28 @@ ghost use Rattle.runner.specs.Run.{outcome, is_wait, unready, take_step, onward_
 
 use crate::{Reply, State};
 use base::Refusal;
-use step::{Step, kind};
+use step::{Kind, Step};
 
 // Whether a kind of step is a wait.
-fn is_wait(of: u8) -> bool
+fn is_wait(of: Kind) -> bool
     ensures { result ≡ is_wait of }
 {
     matches!(
         of,
-        kind::WAIT_RELEASED | kind::WAIT_SYS | kind::WAIT_REF | kind::WAIT_STABLE | kind::WAIT_LOCK
+        Kind::WaitReleased | Kind::WaitSys | Kind::WaitRef | Kind::WaitStable | Kind::WaitLock
     )
 }
 
+// A state comes from C with any numbers, so its bounds are no ghost field: `turn` tests them, and these methods ask for them.
 impl State {
     // A wait that is not ready: waiting, or at the last lock poll refusal 22, which stops the runner.
     #[tactic(auto, using(std::proofs::lemmas::Bool::Decides::nat_tests, crate::proofs::Calls::one_more_is), unfolding(crate::specs::Run::unready))]
-    fn wait_unready(&mut self, wait: u8) -> Result<Reply, Refusal>
+    fn wait_unready(&mut self, wait: Kind) -> Result<Reply, Refusal>
         requires { self.old.lock_polls < 1000000 }
         ensures { outcome (answer_of result) self.new ≡ unready self.old wait }
     {
         self.total = self.total.saturating_add(1);
-        if wait != kind::WAIT_LOCK {
+        if wait != Kind::WaitLock {
             return Ok(Reply::Waiting);
         }
         if self.lock_polls < 999999 {
@@ -78,7 +79,7 @@ pub fn store(step: Step, freqs: &mut [u32])
     requires ten { length freqs.old ≡ 10 }
     ensures { freqs.new ≡ stored_by step freqs.old }
 {
-    if step.kind != kind::STORE {
+    if step.kind != Kind::Store {
         return;
     }
     freqs[step.f0 as usize] = step.f1 as u32;

@@ -1,5 +1,5 @@
 -- Each code of a range or a source decodes to the range or the source that it was made of, and fits the bits of its field.
-use Rattle.std.specs.Prelude.{Option}
+use Rattle.std.specs.Prelude.{Option, Some, None}
 use mathlib.Core.{Path.◌≡◌, Path.refl, Bool.Bool, Bool.true, Bool.false}
 use Prim.Native.Nat.{ℕ, ◌%◌, ◌≤◌, ◌<◌}
 use native.Mathlib.Omega.{arith}
@@ -23,10 +23,9 @@ use Rattle.config.specs.declared.PeriClkSrc.TheVariants.{Rosc as peri_rosc, Xosc
 use Rattle.config.specs.declared.AuxClkSrc.{AuxClkSrc}
 use Rattle.config.specs.declared.AuxClkSrc.TheVariants.{PllUsb as aux_pll_usb, PllSys as aux_pll_sys, Rosc as aux_rosc, Xosc as aux_xosc}
 use Rattle.config.specs.declared.AuxClkConfig.{AuxClkConfig}
-use Rattle.std.specs.Prelude.{Some as aux, None as no_aux}
 use Rattle.config.specs.Board.{board_of}
-use Rattle.settings.specs.Codes.{range_code, ref_code, sys_select, sys_aux, peri_aux, aux_code, range_from, ref_from}
-use Rattle.settings.specs.Codes.{peri_from, aux_from, div_from, chip_from}
+use Rattle.config.specs.Codes.{range_code, ref_code, sys_select, sys_aux, peri_aux, aux_code, range_from, ref_from}
+use Rattle.config.specs.Codes.{peri_from, aux_from, div_from, chip_from}
 
 pub range-code : (x : RoscRange) → (range_from (range_code x) ≡ x) × (range_code x < 4)
 range-code Low = (refl, omega arith)
@@ -61,11 +60,11 @@ sys-code sys_xosc = omega arith
 
 -- The chip-specific part of a plan is read back from the board's numbers: its voltage code is known.
 pub chip-back : (c : ChipConfig)
-    → chip_from (board_of c).chip (board_of c).code (board_of c).whole (board_of c).fraction (board_of c).rtc ≡ c
+    → chip_from (board_of c).chip (board_of c).volts.code (board_of c).whole (board_of c).fraction (board_of c).rtc ≡ c
 chip-back (on2040 c) = rw (core-voltage-code Rp2040 c.core_voltage)
 chip-back (on235x c) = rw (core-voltage-code Rp235x c.core_voltage)
 
-pub board-small : (c : ChipConfig) → ((board_of c).code < 16) × ((board_of c).brownout < 16)
+pub board-small : (c : ChipConfig) → ((board_of c).volts.code < 16) × ((board_of c).volts.brownout < 16)
 board-small (on2040 c) = (code-small Rp2040 c.core_voltage, bod-small Rp2040 c.core_voltage)
 board-small (on235x c) = (code-small Rp235x c.core_voltage, bod-small Rp235x c.core_voltage)
 
@@ -74,8 +73,8 @@ abbrev pub Small : ℕ → Type 0
 Small d = (1 ≤ d) × (d ≤ 4)
 
 abbrev pub AuxSmall : Option AuxClkConfig → Type 0
-AuxSmall (aux a) = Small a.div
-AuxSmall no_aux = Unit {0}
+AuxSmall (Some a) = Small a.div
+AuxSmall None = Unit {0}
 
 pub div-back : (d : ℕ) → Small d → div_from (d % 4) ≡ d
 div-back d h = go (eqb (d % 4) 0) refl

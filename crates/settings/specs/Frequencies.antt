@@ -1,8 +1,7 @@
 -- The frequency of each clock in Hz, 0 where it is absent (docs/FORMAT.md, Frequencies and delays).
 -- These are the ten values that a sheet stores.
-use Rattle.std.specs.Prelude.{Option, Some, None}
+use Rattle.std.specs.Prelude.{Option, Some, None, ℕ, ◌/◌, List, [], ◌∷◌, ◌++◌}
 use Rattle.config.specs.declared.RoscConfig.{RoscConfig}
-use Rattle.std.specs.Prelude.{ℕ, ◌/◌, List, [], ◌∷◌, ◌++◌}
 use Rattle.chip.specs.declared.{Chip.Chip, Chip.TheVariants.Rp2040, Chip.TheVariants.Rp235x}
 use Rattle.chip.specs.Chips.{facts_of}
 use Rattle.divider.specs.Clock.{divided_hz}

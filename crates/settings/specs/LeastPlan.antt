@@ -1,14 +1,9 @@
 -- The plan with these settings whose delay multiplier and settling time are the smallest (docs/FORMAT.md, Reading a sheet back).
-use Rattle.std.specs.Prelude.{Option}
-use Rattle.std.specs.Prelude.{ℕ, ◌+◌, ◌-◌, ◌*◌, ◌/◌, ◌%◌, ◌^◌}
+use Rattle.std.specs.Prelude.{Option, Some, None, ℕ, ◌+◌, ◌-◌, ◌*◌, ◌/◌, ◌%◌, ◌^◌}
 use Rattle.divider.specs.Delay.{cycles_per_us}
 use Rattle.config.specs.declared.XoscConfig.{XoscConfig}
-use Rattle.std.specs.Prelude.{Some as xosc, None as no_xosc}
 use Rattle.config.specs.declared.{ClockConfig.ClockConfig}
-use Rattle.std.specs.Prelude.{Some as given}
 use Rattle.settings.specs.declared.Crystal.{Crystal}
-use Rattle.std.specs.Prelude.{Some as crystal, None as no_crystal}
-use Rattle.std.specs.Prelude.{Some as cycles, None as no_cycles}
 use Rattle.settings.specs.declared.Settings.{Settings}
 use Rattle.settings.specs.Settings.{ring_hz}
 
@@ -18,20 +13,20 @@ multiplier_for hz delay = (256 * delay - 128 + (hz / 1000 - 1)) / (hz / 1000)
 
 -- A startup delay has 14 bits.
 abbrev pub xosc_for : Option Crystal → Option XoscConfig
-xosc_for (crystal x) =
-    xosc
+xosc_for (Some x) =
+    Some
     (record {
       hz = x.hz;
       sys_pll = x.sys;
       usb_pll = x.usb;
       delay_multiplier = multiplier_for x.hz (x.delay % 2 ^ 14);
     })
-xosc_for no_crystal = no_xosc
+xosc_for None = None
 
 -- The settling cycles, which have 32 bits, over the cycles of a microsecond.
 unfoldable pub time_for : ℕ → Option ℕ → ℕ
-time_for hz (cycles n) = n % 2 ^ 32 / cycles_per_us hz
-time_for hz no_cycles = 0
+time_for hz (Some n) = n % 2 ^ 32 / cycles_per_us hz
+time_for hz None = 0
 
 -- The plan with these settings, this crystal and this settling time.
 abbrev pub plan_with : Settings → Option XoscConfig → Option ℕ → ClockConfig
@@ -50,4 +45,4 @@ plan_with s x time =
 
 -- The settling time is always given, 0 where there is no settling step.
 unfoldable pub plan_of : Settings → ClockConfig
-plan_of s = plan_with s (xosc_for s.xosc) (given (time_for (ring_hz s.rosc) s.settling))
+plan_of s = plan_with s (xosc_for s.xosc) (Some (time_for (ring_hz s.rosc) s.settling))

@@ -1,7 +1,6 @@
 -- The settings of a plan at a reading, which demand 3 compares (docs/FORMAT.md, Settings that count). Each part that may be
 -- absent also says whether it is present.
-use Rattle.std.specs.Prelude.{Option, Some, None}
-use Rattle.std.specs.Prelude.{ℕ, eqb}
+use Rattle.std.specs.Prelude.{Option, Some, None, ℕ, eqb}
 use Rattle.base.specs.Choice.{pick}
 use Rattle.divider.specs.Delay.{delay_of, settling_cycles}
 use Rattle.config.specs.declared.{RoscConfig.RoscConfig, XoscConfig.XoscConfig}
@@ -35,13 +34,13 @@ settling_step reading code time hz =
 abbrev pub settings_of : ClockConfig → ℕ → Settings
 settings_of p reading =
     let b = board_of p.chip in
-    let time = settling_time p.voltage_stabilization_delay_us b.settling_us in
+    let time = settling_time p.voltage_stabilization_delay_us b.volts.settling_us in
     record {
       chip = p.chip;
       board = b;
       rosc = p.rosc;
       xosc = crystal_of p.xosc;
-      settling = settling_step reading b.code time (ring_hz p.rosc);
+      settling = settling_step reading b.volts.code time (ring_hz p.rosc);
       reference = p.ref_clk;
       sys = p.sys_clk_src;
       peri = p.peri_clk_src;

@@ -1,6 +1,5 @@
 -- The bounds that the number types of the code give to settings: 32 bits for a frequency, the chip's scale for a fraction.
-use Rattle.std.specs.Prelude.{Option, Some, None}
-use Rattle.std.specs.Prelude.{◌<◌, ◌^◌}
+use Rattle.std.specs.Prelude.{Option, Some, None, ◌<◌, ◌^◌}
 use Rattle.config.specs.declared.RtcClkConfig.{RtcClkConfig}
 use Rattle.config.specs.Board.{FractionFits}
 use Rattle.settings.specs.declared.Settings.{Settings}

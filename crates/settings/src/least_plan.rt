@@ -14,9 +14,11 @@ fn multiplier_for(hz: u32, delay: u64) -> u32
 {
     let khz = u64::from(hz / 1000);
     let least = (256 * (delay % 16384)).saturating_sub(128);
-    (least + khz.saturating_sub(1))
-        .checked_div(khz)
-        .unwrap_or(0) as u32
+    if khz == 0 {
+        0
+    } else {
+        least.div_ceil(khz) as u32
+    }
 }
 
 // The microseconds of these settling cycles, which have 32 bits, beside a ring of this frequency.

@@ -1,10 +1,10 @@
 -- Demand 3 is shown for the definitions, then for any two calls of the writer from its contract alone. The settings of an
 -- accepted plan are read back from its steps, and its steps from its bytes.
-use Rattle.std.specs.Prelude.{Result}
+use Rattle.std.specs.Prelude.{Option, Some, None, Result}
 use Rattle.base.specs.declared.refusal.Refusal.{Refusal}
-use mathlib.Core.{Path.◌≡◌, Path.sym, Path.ap, Path.◌∙◌, Logic.◌↔◌, List.List, List.◌++◌}
+use mathlib.Core.{Path.◌≡◌, Path.refl, Path.sym, Path.ap, Path.◌∙◌, Logic.◌↔◌, List.List, List.◌++◌}
 use Prim.Native.Nat.{ℕ, ◌≤◌, ◌<◌}
-use native.Mathlib.{Omega.arith, Nat.lt_of_not-le, Decide.dec_le, Decide.ℕ_discrete}
+use native.Mathlib.{Omega.arith, Nat.lt_of_not-le, Decide.dec_le}
 use lib.{ListN.length, ListN.drop, ListN.get_or, ListN.get_or-append, Seq.ext_get_or}
 use Rattle.base.specs.Answer.{Answer, value, refusal, answer_of}
 use Rattle.step.specs.Sheet.{encoded}
@@ -36,7 +36,7 @@ same-sheets p q reading tp tq ep eq = (
 
 -- So the bytes of a sheet determine its chip.
 pub one-chip : (p q : ClockConfig) (reading : ℕ) → Typed (settings_of p reading) → Typed (settings_of q reading)
-    → refusal_in p reading ≡ 0 → refusal_in q reading ≡ 0
+    → refusal_in p reading ≡ None → refusal_in q reading ≡ None
     → sheet_bytes p reading ≡ sheet_bytes q reading → (board_of p.chip).chip ≡ (board_of q.chip).chip
 one-chip p q reading tp tq ep eq e =
     ap (λ (s : Settings). s.board.chip) ((same-sheets p q reading tp tq ep eq).0 e)
@@ -44,7 +44,7 @@ one-chip p q reading tp tq ep eq e =
 -- ---- calls of the writer
 
 never : {m n : ℕ} → ◌≡◌ {A = Answer ℕ} (refusal m) (value n) → ⊥
-never {m} {n} e = let z : ◌≡◌ {A = ℕ} 0 1 = cc in omega arith
+never e = cc
 
 -- After a call that answers a length the plan is accepted, the length is the sheet's, and the buffer starts with the sheet.
 pub record Answered (p : ClockConfig) (reading : ℕ) (before : List ℕ) (n : ℕ) (after : List ℕ) : Type 0 where
@@ -53,16 +53,14 @@ pub record Answered (p : ClockConfig) (reading : ℕ) (before : List ℕ) (n : �
   pub count : n ≡ length (sheet_bytes p reading)
   pub bytes : after ≡ sheet_bytes p reading ++ drop n before
 
-module _ (p : ClockConfig) (reading : ℕ) (b b' : List ℕ) (r : (Result ℕ Refusal)) (o : InitCall p reading b r b') where
+module _ (p : ClockConfig) (reading : ℕ) (b b' : List ℕ) (r : Result ℕ Refusal) (o : InitCall p reading b r b') where
   -- A call with an accepted plan and room for its sheet answers the length.
   pub answers : Accepted p reading → length (sheet_bytes p reading) ≤ length b
       → answer_of r ≡ value (length (sheet_bytes p reading))
   answers h l = o.answer ∙ sym (accepted p reading b o.typed h l).answer
 
   pub answered : (n : ℕ) → answer_of r ≡ value n → Answered p reading b n b'
-  answered n e =
-      elim (ℕ_discrete (refusal_in p reading) 0)
-      [ yes h ↦ fits h | no h ↦ absurd (unlike (refused-answer p reading b o.typed h)) ]
+  answered n e = go (refusal_in p reading) refl
     where
       -- A refusal answers no length.
       unlike : {k : ℕ} → init_answer p reading b ≡ refusal k → ⊥
@@ -78,6 +76,10 @@ module _ (p : ClockConfig) (reading : ℕ) (b b' : List ℕ) (r : (Result ℕ Re
       fits h =
           elim (dec_le (length (sheet_bytes p reading)) (length b))
           [ yes l ↦ written h l | no l ↦ absurd (unlike (short-answer p reading b o.typed h (lt_of_not-le l))) ]
+
+      go : (found : Option Refusal) → refusal_in p reading ≡ found → Answered p reading b n b'
+      go None h = fits h
+      go (Some reason) h = absurd (unlike (refused-answer p reading b o.typed h))
 
 -- Byte i of the buffer after such a call is byte i of the sheet.
 byte_at : {p : ClockConfig} {reading : ℕ} {b : List ℕ} {n : ℕ} {b' : List ℕ} → Answered p reading b n b'

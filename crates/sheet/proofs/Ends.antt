@@ -1,17 +1,16 @@
 -- The collected words of an accepted plan are ready to be copied, and each of the writer's three ends meets its contract.
-use Rattle.base.specs.{Answer.Answer, Answer.value, Answer.refusal, Refusals.number_of}
+use Rattle.base.specs.{Answer.value, Answer.refusal, Choice.pick, Refusals.number_of}
 use Rattle.base.specs.declared.refusal.Refusal.{Refusal}
-use Rattle.base.specs.declared.refusal.Refusal.TheVariants as why
-use mathlib.Core.{Bool.true, Bool.false, Path.◌≡◌, Path.refl, Path.sym, Path.ap, Path.◌∙◌}
+use mathlib.Core.{Bool.Bool, Bool.true, Bool.false, Path.◌≡◌, Path.refl, Path.sym, Path.ap, Path.◌∙◌}
 use mathlib.Core.List.{List, [], ◌++◌, map}
 use Prim.Native.Nat.{ℕ, ◌*◌, ◌≤◌, ◌<◌}
 use lib.ListN.{length, take, drop, replicate, length-map}
-use borrow.Author.Tests.{eq-eqb, ne_eqb, lt-ltb, le-ltb, leb-true, leb-false}
+use borrow.Author.Tests.{lt-ltb, le-ltb, leb-true, leb-false}
 use native.Mathlib.Omega.{arith}
-use Rattle.std.specs.Prelude.{Ok, Err}
+use Rattle.std.specs.Prelude.{Some, Result, Ok, Err}
 use Rattle.step.specs.declared.Step.{Step}
 use Rattle.step.specs.{Bytes.turned_of, Bytes.bytes_of, Sheet.max_steps, Sheet.max_bytes, Sheet.encoded}
-use Rattle.step.specs.Access.{room_for, copied}
+use Rattle.step.specs.Access.{room_for, copy_of, copied}
 use Rattle.step.proofs.Sheets.{length-encoded}
 use Rattle.config.specs.declared.ClockConfig.{ClockConfig}
 use Rattle.settings.specs.{Settings.settings_of, Frequencies.frequencies_of, Typed.Typed}
@@ -53,18 +52,26 @@ module _ (g : Gathered) (bytes b : List ℕ) (y : Ready g bytes) where
   abbrev words : List ℕ
   words = take g.len g.words
 
-  pub copy-short : room_for words b ≡ false → (length b < length bytes) × (copied words b ≡ b)
+  pub copy-short : {n : ℕ} → refusal n ≡ copy_of words b → (n ≡ 19) × (length b < length bytes) × (copied words b ≡ b)
   unfolding copied
-  copy-short e =
-      (omega (arith, leb-false (8 * length words) (length b) e, y.count, y.size), rw e)
+  copy-short {n} = go (room_for words b) refl
+    where
+      go : (test : Bool) → room_for words b ≡ test → refusal n ≡ pick test (value (tt {0})) (refusal 19)
+          → (n ≡ 19) × (length b < length bytes) × (pick test (bytes_of (map turned_of words) ++ drop (8 * length words) b) b ≡ b)
+      go true e same = absurd cc
+      go false e same = (cc, omega (arith, leb-false (8 * length words) (length b) e, y.count, y.size), refl)
 
-  pub copy-whole : room_for words b ≡ true
+  pub copy-whole : {x : Unit {0}} → value x ≡ copy_of words b
       → (length bytes ≤ length b) × (copied words b ≡ bytes ++ drop (length bytes) b)
   unfolding copied
-  copy-whole e = (
-    omega (arith, leb-true (8 * length words) (length b) e, y.count, y.size),
-    rw (e, y.content, y.count, y.size),
-  )
+  copy-whole {x} = go (room_for words b) refl
+    where
+      go : (test : Bool) → room_for words b ≡ test → value x ≡ pick test (value (tt {0})) (refusal 19)
+          → (length bytes ≤ length b)
+          × (pick test (bytes_of (map turned_of words) ++ drop (8 * length words) b) b ≡ bytes ++ drop (length bytes) b)
+      go true e same =
+          (omega (arith, leb-true (8 * length words) (length b) e, y.count, y.size), rw (y.content, y.count, y.size) refl)
+      go false e same = absurd cc
 
 -- The facts about a plan before its steps are collected.
 pub record Looked (p : ClockConfig) (reading : ℕ) (s : Settings) (f : Frequencies) : Type 0 where
@@ -74,11 +81,11 @@ pub record Looked (p : ClockConfig) (reading : ℕ) (s : Settings) (f : Frequenc
   pub typed : Typed (settings_of p reading)
 
 -- What is known of settings that `examine` answered.
-abbrev pub Told : ClockConfig → ℕ → Settings → Answer Frequencies → Type 0
-Told p reading s a =
-    ((s ≡ settings_of p reading) × FractionFits s.board) × ((a ≡ examined_of s reading) × (FractionFits s.board → Typed s))
+abbrev pub Told : ClockConfig → ℕ → Settings → Result Frequencies Refusal → Type 0
+Told p reading s r =
+    ((s ≡ settings_of p reading) × FractionFits s.board) × ((r ≡ examined_of s reading) × (FractionFits s.board → Typed s))
 
-pub looked : (p : ClockConfig) (reading : ℕ) {s : Settings} {f : Frequencies} → Told p reading s (value f) → Looked p reading s f
+pub looked : (p : ClockConfig) (reading : ℕ) {s : Settings} {f : Frequencies} → Told p reading s (Ok f) → Looked p reading s f
 looked p reading {s} {f} t =
     let found = examined-accepted s reading f t.1.0 in
     record {
@@ -89,18 +96,14 @@ looked p reading {s} {f} t =
     }
 
 -- The facts about a plan that `examine` refused.
-pub record Turned (p : ClockConfig) (reading n : ℕ) : Type 0 where
-  pub refused : Accepted p reading → ⊥
-  pub number_is : n ≡ refusal_in p reading
+pub record Turned (p : ClockConfig) (reading : ℕ) (reason : Refusal) : Type 0 where
+  pub reason_is : refusal_in p reading ≡ Some reason
   pub typed : Typed (settings_of p reading)
 
-pub turned : (p : ClockConfig) (reading : ℕ) {s : Settings} {n : ℕ} → Told p reading s (refusal n) → Turned p reading n
-turned p reading {s} {n} t =
-    let found = examined-refused s reading n t.1.0 in
-    let same = ap (λ (s : Settings). refusal_of s reading) t.0.0 in
+pub turned : (p : ClockConfig) (reading : ℕ) {s : Settings} {reason : Refusal} → Told p reading s (Err reason) → Turned p reading reason
+turned p reading {s} {reason} t =
     record {
-      refused = λ e. found.0 (same ∙ e);
-      number_is = found.1 ∙ same;
+      reason_is = ap (λ (s : Settings). refusal_of s reading) (sym t.0.0) ∙ examined-refused s reading reason t.1.0;
       typed = rw t.0.0 at (t.1.1 t.0.1);
     }
 
@@ -119,27 +122,25 @@ sheet-most p reading =
     omega (arith, length-encoded xs, steps-few reading (settings_of p reading))
 
 module _ (p : ClockConfig) (reading : ℕ) (b : List ℕ) (t : Typed (settings_of p reading)) where
-  pub refused-answer : (Accepted p reading → ⊥) → init_answer p reading b ≡ refusal (refusal_in p reading)
+  pub refused-answer : {reason : Refusal} → refusal_in p reading ≡ Some reason → init_answer p reading b ≡ refusal (number_of reason)
   unfolding init_answer
-  refused-answer h = rw (ne_eqb _ _ h) refl
+  refused-answer e = rw e refl
 
-  pub refused : (Accepted p reading → ⊥) → {reason : Refusal} → number_of reason ≡ refusal_in p reading
-      → InitCall p reading b (Err reason) b
+  pub refused : {reason : Refusal} → refusal_in p reading ≡ Some reason → InitCall p reading b (Err reason) b
   unfolding init_answer init_buffer
-  refused h same = record { answer = rw (ne_eqb _ _ h, same) refl; bytes = rw (ne_eqb _ _ h) refl; typed = t }
+  refused e = record { answer = rw e refl; bytes = rw e refl; typed = t }
 
   pub short-answer : Accepted p reading → length b < length (sheet_bytes p reading) → init_answer p reading b ≡ refusal 19
   unfolding init_answer
-  short-answer h few = rw (eq-eqb _ _ h, lt-ltb _ _ few) refl
+  short-answer h few = rw (h, lt-ltb _ _ few) refl
 
-  pub too_short : Accepted p reading → length b < length (sheet_bytes p reading) → InitCall p reading b (Err why.ShortBuffer) b
+  pub too_short : Accepted p reading → length b < length (sheet_bytes p reading) → {reason : Refusal} → number_of reason ≡ 19
+      → InitCall p reading b (Err reason) b
   unfolding init_answer init_buffer
-  too_short h few =
-      record { answer = rw (eq-eqb _ _ h, lt-ltb _ _ few); bytes = rw (eq-eqb _ _ h, lt-ltb _ _ few); typed = t }
+  too_short h few same = record { answer = rw (h, lt-ltb _ _ few, same); bytes = rw (h, lt-ltb _ _ few); typed = t }
 
   pub accepted : Accepted p reading → length (sheet_bytes p reading) ≤ length b
       → InitCall p reading b (Ok (length (sheet_bytes p reading)))
       (sheet_bytes p reading ++ drop (length (sheet_bytes p reading)) b)
   unfolding init_answer init_buffer
-  accepted h room =
-      record { answer = rw (eq-eqb _ _ h, le-ltb _ _ room); bytes = rw (eq-eqb _ _ h, le-ltb _ _ room); typed = t }
+  accepted h room = record { answer = rw (h, le-ltb _ _ room); bytes = rw (h, le-ltb _ _ room); typed = t }

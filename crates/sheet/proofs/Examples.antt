@@ -4,6 +4,7 @@ use mathlib.Core.{Path.◌≡◌, Path.refl, List.[], List.◌∷◌, List.map}
 use Prim.Native.Nat.{ℕ}
 use lib.ListN.{length, get_or}
 use Rattle.step.specs.declared.Step.{Step}
+use Rattle.step.specs.declared.kind.Kind.TheVariants as kind
 use native.Mathlib.Omega.{arith}
 use Rattle.chip.specs.declared.Chip.TheVariants.{Rp2040, Rp235x}
 use Rattle.chip.specs.declared.voltage.{CoreVoltage.TheVariants.V1_15, CoreVoltage235.TheVariants.V1_15 as volts115}
@@ -96,11 +97,22 @@ system-235 = refl
 
 -- The kinds of the steps of the RP235x's crystal preset in their order, and its masks and dividers.
 pub crystal-kinds-235 : map (λ (x : Step). x.kind) (steps_of 11 (settings_of (crystal_plan Rp235x 12000000) 11))
-    ≡ 38 ∷ 1 ∷ 4 ∷ 5 ∷ 6 ∷ 7 ∷ 8 ∷ 1 ∷ 2 ∷ 3 ∷ 9 ∷ 10 ∷ 11 ∷ 12 ∷ 37 ∷ 16 ∷ 17 ∷ 18
-    ∷ 19 ∷ 14 ∷ 20 ∷ 21 ∷ 19 ∷ 22 ∷ 23 ∷ 24 ∷ 14
-    ∷ 19 ∷ 14 ∷ 20 ∷ 21 ∷ 19 ∷ 22 ∷ 23 ∷ 24 ∷ 14
-    ∷ 37 ∷ 37 ∷ 37 ∷ 37 ∷ 25 ∷ 8 ∷ 26 ∷ 39 ∷ 40 ∷ 41 ∷ 42 ∷ 37 ∷ 28 ∷ 6 ∷ 28 ∷ 6 ∷ 45
-    ∷ 30 ∷ 37 ∷ 31 ∷ 32 ∷ 37 ∷ 33 ∷ 34 ∷ 37 ∷ 2 ∷ 3 ∷ []
+    ≡ kind.ChipMark
+    ∷ kind.Reset ∷ kind.ResusOff ∷ kind.SysSource ∷ kind.WaitSys ∷ kind.RefSource ∷ kind.WaitRef
+    ∷ kind.Reset ∷ kind.Release ∷ kind.WaitReleased
+    ∷ kind.Strengths0To3 ∷ kind.Strengths4To7 ∷ kind.RingDivider ∷ kind.RingOn ∷ kind.Store
+    ∷ kind.Startup ∷ kind.CrystalOn ∷ kind.WaitStable
+    ∷ kind.PllPower ∷ kind.Delay ∷ kind.PllReference ∷ kind.PllFeedback ∷ kind.PllPower ∷ kind.WaitLock
+    ∷ kind.PllPosts ∷ kind.PllPostOn ∷ kind.Delay
+    ∷ kind.PllPower ∷ kind.Delay ∷ kind.PllReference ∷ kind.PllFeedback ∷ kind.PllPower ∷ kind.WaitLock
+    ∷ kind.PllPosts ∷ kind.PllPostOn ∷ kind.Delay
+    ∷ kind.Store ∷ kind.Store ∷ kind.Store ∷ kind.Store ∷ kind.RefControl ∷ kind.WaitRef ∷ kind.RefDivider
+    ∷ kind.TimerCycles ∷ kind.TimerOn ∷ kind.WatchdogCycles ∷ kind.WatchdogOn
+    ∷ kind.Store ∷ kind.SysControl ∷ kind.WaitSys ∷ kind.SysControl ∷ kind.WaitSys ∷ kind.SysDivider235
+    ∷ kind.PeriControl ∷ kind.Store
+    ∷ kind.UsbDivider ∷ kind.UsbControl ∷ kind.Store
+    ∷ kind.AdcDivider ∷ kind.AdcControl ∷ kind.Store
+    ∷ kind.Release ∷ kind.WaitReleased ∷ []
 unfolding startup_sum cycles_per_us settling_cycles divided_hz settling_step pll_hz sources_of ref_hz sys_hz strengths_over
     ring_divider_over settling_over startup_over sys_pll_invalid usb_pll_invalid divider_bad reference_bad whole_bad peri_bad aux_bad rtc_bad
     refusal_of head_part ring_part voltage_part crystal_part switch_steps
@@ -108,10 +120,13 @@ unfolding startup_sum cycles_per_us settling_cycles divided_hz settling_step pll
 crystal-kinds-235 = refl
 
 abbrev pub at : ℕ → Step
-at i = get_or (steps_of 11 (settings_of (crystal_plan Rp235x 12000000) 11)) i (step0 0)
+at i = get_or (steps_of 11 (settings_of (crystal_plan Rp235x 12000000) 11)) i (step0 (kind.Unknown 0))
 
 pub crystal-fields-235 :
-    (at 1 ≡ step1 1 0x1EF3B7F) × (at 8 ≡ step1 2 0xC000) × (at 12 ≡ step1 11 0xAA10) × (at 62 ≡ step1 3 0x1FFFFF7)
+    (at 1 ≡ step1 kind.Reset 0x1EF3B7F)
+    × (at 8 ≡ step1 kind.Release 0xC000)
+    × (at 12 ≡ step1 kind.RingDivider 0xAA10)
+    × (at 62 ≡ step1 kind.WaitReleased 0x1FFFFF7)
 unfolding release_mask startup_sum cycles_per_us settling_cycles divided_hz settling_step pll_hz sources_of ref_hz sys_hz strengths_over
     ring_divider_over settling_over startup_over sys_pll_invalid usb_pll_invalid divider_bad reference_bad whole_bad peri_bad aux_bad rtc_bad
     refusal_of head_part ring_part voltage_part crystal_part switch_steps

@@ -1,14 +1,12 @@
 -- Bounds for the numbers of a plan that the refusals do not exclude.
-use Rattle.std.specs.Prelude.{Option}
+use Rattle.std.specs.Prelude.{Option, Some, None}
 use mathlib.Core.{Path.◌≡◌, Bool.Bool, Bool.false, Bool.◌||◌}
 use Prim.Native.Nat.{ℕ, ◌≤◌, ◌<◌}
 use native.Mathlib.Omega.{arith}
 use lib.Dec.{eqb, ltb}
 use borrow.Author.Tests.{ltb-false, eq-eqb}
-use Rattle.base.proofs.Bools.{both_false}
+use Rattle.std.proofs.lemmas.Bool.{or_parts}
 use Rattle.config.specs.declared.AuxClkConfig.{AuxClkConfig}
-use Rattle.std.specs.Prelude.{Some as aux, None as no_aux}
-use Rattle.std.specs.Prelude.{None as no_cycles}
 use Rattle.settings.specs.Settings.{settling_step}
 use Rattle.refusals.specs.Rules.{divider_bad, aux_bad}
 use Rattle.refusals.proofs.Accepted.{divider-good}
@@ -16,25 +14,25 @@ use Rattle.settings.proofs.Decoded.{Small, AuxSmall}
 
 -- Where none of a row of tests holds, the last one does not hold and no earlier one does.
 pub none_more : (row : Bool) (l x : ℕ) → row || ltb l x ≡ false → (row ≡ false) × (x ≤ l)
-none_more row l x e = let h = both_false row (ltb l x) e in (h.0, ltb-false l x h.1)
+none_more row l x e = let h = or_parts row (ltb l x) e in (h.0, ltb-false l x h.1)
 
 -- The divider and the phase of a present clock fit their fields.
 abbrev pub AuxFits : Option AuxClkConfig → Type 0
-AuxFits (aux a) = Small a.div × (a.phase < 4)
-AuxFits no_aux = Unit {0}
+AuxFits (Some a) = Small a.div × (a.phase < 4)
+AuxFits None = Unit {0}
 
 pub aux-fits : (source : ℕ) (o : Option AuxClkConfig) → aux_bad source o ≡ false → AuxFits o
 unfolding aux_bad
-aux-fits source (aux a) e =
+aux-fits source (Some a) e =
     let h = none_more (eqb source 0 || divider_bad a.div) 3 a.phase e in
-    (divider-good a.div (both_false (eqb source 0) (divider_bad a.div) h.0).1, omega (arith, h.1))
-aux-fits source no_aux e = tt
+    (divider-good a.div (or_parts (eqb source 0) (divider_bad a.div) h.0).1, omega (arith, h.1))
+aux-fits source None e = tt
 
 pub aux-divider : (o : Option AuxClkConfig) → AuxFits o → AuxSmall o
-aux-divider (aux a) h = h.0
-aux-divider no_aux h = tt
+aux-divider (Some a) h = h.0
+aux-divider None h = tt
 
 -- There is no settling step where the voltage stays.
-pub settling-none : (reading code time hz : ℕ) → code ≡ reading → settling_step reading code time hz ≡ no_cycles
+pub settling-none : (reading code time hz : ℕ) → code ≡ reading → settling_step reading code time hz ≡ None
 unfolding settling_step
 settling-none reading code time hz e = rw (eq-eqb code reading e)

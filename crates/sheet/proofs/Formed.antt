@@ -1,35 +1,29 @@
 -- The steps of an accepted plan are well formed: their kinds are known, and every field fits its bits.
-use Rattle.std.specs.Prelude.{Option}
+use Rattle.std.specs.Prelude.{Option, Some, None}
 use mathlib.Core.{Path.◌≡◌, Bool.Bool, Bool.true, Bool.false, Bool.◌||◌, List.List, List.[], List.◌∷◌, List.◌++◌}
 use Prim.Native.Nat.{ℕ, ◌+◌, ◌/◌, ◌≤◌, ◌<◌, ◌^◌}
 use native.Mathlib.Omega.{arith}
 use lib.Dec.{T, eqb, ltb, le→leb}
 use borrow.Author.Tests.{ltb-false, not-false}
 use Rattle.base.specs.Choice.{pick}
-use Rattle.base.proofs.Bools.{both_false}
+use Rattle.std.proofs.lemmas.Bool.{or_parts}
 use Rattle.chip.specs.declared.{Chip.Chip, Chip.TheVariants.Rp2040, Chip.TheVariants.Rp235x}
 use Rattle.chip.specs.Chips.{facts_of}
 use Rattle.pll.specs.Setting.{valid_of}
 use Rattle.pll.proofs.Valid.{valid}
 use Rattle.step.specs.declared.Step.{Step}
-use Rattle.step.specs.Kinds as kind
-use Rattle.step.specs.{Fields.Fill, Layout.rows, Layout.width, Layout.widths, Steps.values, Steps.known, Steps.storable}
+use Rattle.step.specs.declared.kind.Kind.TheVariants as kind
+use Rattle.step.specs.{Fields.Fill, Kinds.known, Layout.widths, Steps.values, Steps.storable}
 use Rattle.step.specs.Sheet.{AllFormed}
 use Rattle.config.specs.declared.{RefClkConfig.RefClkConfig, SysClkSrc.SysClkSrc, Board.Board, RoscConfig.RoscConfig}
-use Rattle.std.specs.Prelude.{Some as ring, None as no_ring}
 use Rattle.pll.specs.declared.PllConfig.{PllConfig}
-use Rattle.std.specs.Prelude.{Some as pll, None as no_pll}
 use Rattle.config.specs.declared.PeriClkSrc.{PeriClkSrc}
-use Rattle.std.specs.Prelude.{Some as peri, None as no_peri}
 use Rattle.config.specs.declared.AuxClkConfig.{AuxClkConfig}
-use Rattle.std.specs.Prelude.{Some as aux, None as no_aux}
 use Rattle.config.specs.declared.RtcClkConfig.{RtcClkConfig}
-use Rattle.std.specs.Prelude.{Some as rtc, None as no_rtc}
 use Rattle.settings.specs.declared.Crystal.{Crystal}
-use Rattle.std.specs.Prelude.{Some as crystal, None as no_crystal}
-use Rattle.std.specs.Prelude.{Some as cycles, None as no_cycles}
 use Rattle.settings.specs.declared.Sources.{Sources}
-use Rattle.settings.specs.{Codes.sys_select, Settings.ring_hz, Typed.RtcTyped}
+use Rattle.config.specs.Codes.{sys_select}
+use Rattle.settings.specs.{Settings.ring_hz, Typed.RtcTyped}
 use Rattle.settings.proofs.Small.{Hz, AllHz}
 use Rattle.settings.proofs.Decoded.{range-code, ref-code, sys-code, peri-code, aux-code}
 use Rattle.refusals.specs.Rules.{strengths_over, ring_divider_over, settling_over, startup_over, pll_invalid, sys_pll_invalid}
@@ -75,33 +69,33 @@ masks Rp2040 = omega arith
 masks Rp235x = omega arith
 
 voltage-step : (chip : Chip) (n : ℕ) → n < 16 → Good (step1 (facts_of chip).voltage n)
-unfolding known widths width rows storable
+unfolding widths storable
 voltage-step Rp2040 n h = omega arith
 voltage-step Rp235x n h = omega arith
 
 brownout-step : (chip : Chip) (n : ℕ) → n < 16 → Good (step1 (facts_of chip).brownout n)
-unfolding known widths width rows storable
+unfolding widths storable
 brownout-step Rp2040 n h = omega arith
 brownout-step Rp235x n h = omega arith
 
 divider-step : (chip : Chip) (w f : ℕ) → w ≤ (facts_of chip).top_whole → f < (facts_of chip).scale
     → Good (step2 (facts_of chip).divider w f)
-unfolding known widths width rows storable
+unfolding widths storable
 divider-step Rp2040 w f h g = omega arith
 divider-step Rp235x w f h g = omega arith
 
 tick-good : (chip : Chip) (n : ℕ) → n < 512 → AllGood (tick_steps chip n)
-unfolding known widths width rows storable
+unfolding widths storable
 tick-good Rp2040 n h = omega arith
 tick-good Rp235x n h = (omega arith, (omega arith, omega arith))
 
 pub mark-good : (chip : Chip) → GoodSteps (mark_steps chip)
-unfolding known widths width rows storable
+unfolding widths storable
 mark-good Rp2040 = record { each = tt }
 mark-good Rp235x = record { each = omega arith }
 
 pub head-good : (chip : Chip) → GoodSteps (head_part chip)
-unfolding head_part known widths width rows storable
+unfolding head_part widths storable
 head-good chip =
     let m = masks chip in
     record {
@@ -110,72 +104,72 @@ head-good chip =
 
 pub ring-good : (pass : ℕ) (o : Option RoscConfig) → Hz (ring_hz o) → strengths_over o ≡ false → ring_divider_over pass o ≡ false
     → GoodSteps (ring_part pass o)
-unfolding ring_part strengths_over ring_divider_over known widths width rows storable
-ring-good pass (ring r) t s d =
+unfolding ring_part strengths_over ring_divider_over widths storable
+ring-good pass (Some r) t s d =
     let few = strengths-few r.drive_strength s in
     let d' = ltb-false 65535 (r.div + pass) d in
     record { each = (omega arith, (omega arith, omega (arith, (range-code r.range).1))) }
-ring-good pass no_ring t s d = record { each = omega arith }
+ring-good pass None t s d = record { each = omega arith }
 
 settling-good : (o : Option ℕ) → settling_over o ≡ false → AllGood (settling_steps o)
-unfolding settling_over known widths width rows storable
-settling-good no_cycles e = tt
-settling-good (cycles n) e = omega (arith, ltb-false 4294967295 n e)
+unfolding settling_over widths storable
+settling-good None e = tt
+settling-good (Some n) e = omega (arith, ltb-false 4294967295 n e)
 
-pub voltage-good : (reading : ℕ) (b : Board) (o : Option ℕ) → (b.code < 16) × (b.brownout < 16)
+pub voltage-good : (reading : ℕ) (b : Board) (o : Option ℕ) → (b.volts.code < 16) × (b.volts.brownout < 16)
     → settling_over o ≡ false → GoodSteps (voltage_part reading b o)
 unfolding voltage_part
-voltage-good reading b o small h = record { each = go (eqb b.code reading) }
+voltage-good reading b o small h = record { each = go (eqb b.volts.code reading) }
   where
     end : List Step
-    end = step1 (facts_of b.chip).brownout b.brownout ∷ []
+    end = step1 (facts_of b.chip).brownout b.volts.brownout ∷ []
 
-    go : (same : Bool) → AllGood (pick same [] (step1 (facts_of b.chip).voltage b.code ∷ (settling_steps o ++ end)))
+    go : (same : Bool) → AllGood (pick same [] (step1 (facts_of b.chip).voltage b.volts.code ∷ (settling_steps o ++ end)))
     go true = tt
     go false = (
-      voltage-step b.chip b.code small.0,
-      good-append (settling_steps o) end (settling-good o h) (brownout-step b.chip b.brownout small.1, tt),
+      voltage-step b.chip b.volts.code small.0,
+      good-append (settling_steps o) end (settling-good o h) (brownout-step b.chip b.volts.brownout small.1, tt),
     )
 
 pll-good : (which hz : ℕ) → which < 2 → (o : Option PllConfig) → pll_invalid hz o ≡ false → AllGood (pll_steps which o)
-unfolding known widths width rows storable
-pll-good which hz w (pll p) e =
+unfolding widths storable
+pll-good which hz w (Some p) e =
     let v = valid p hz (not-false (valid_of p hz) e) in
     (omega arith, (omega arith, (omega arith, (omega arith, (omega arith, (omega arith, omega arith))))))
-pll-good which hz w no_pll e = tt
+pll-good which hz w None e = tt
 
 pub crystal-good : (o : Option Crystal) → startup_over o ≡ false → sys_pll_invalid o ≡ false → usb_pll_invalid o ≡ false
     → GoodSteps (crystal_part o)
-unfolding crystal_part startup_over sys_pll_invalid usb_pll_invalid known widths width rows storable
-crystal-good (crystal x) d e u =
+unfolding crystal_part startup_over sys_pll_invalid usb_pll_invalid widths storable
+crystal-good (Some x) d e u =
     let plls : AllGood (pll_steps 0 x.sys ++ pll_steps 1 x.usb) =
     good-append (pll_steps 0 x.sys) (pll_steps 1 x.usb)
     (pll-good 0 x.hz (omega arith) x.sys e)
     (pll-good 1 x.hz (omega arith) x.usb u) in
     record { each = (omega (arith, ltb-false 16383 x.delay d), (omega arith, (omega arith, plls))) }
-crystal-good no_crystal d e u = record { each = tt }
+crystal-good None d e u = record { each = tt }
 
 pub source-good : (f : Sources) → AllHz f → GoodSteps (source_part f)
-unfolding known widths width rows storable
+unfolding widths storable
 source-good f h = record { each = omega arith }
 
 pub ref-good : (chip : Chip) (hz : ℕ) (c : RefClkConfig) → hz < 512000000 → GoodSteps (ref_part chip hz c)
-unfolding known widths width rows storable
+unfolding widths storable
 ref-good chip hz c h =
     let s = (ref-code c.src).1 in
     record { each = (omega arith, (omega arith, (omega arith, (omega arith, tick-good chip (hz / 1000000) (omega arith))))) }
 
 switch-good : (select : ℕ) → AllGood (switch_steps select)
-unfolding switch_steps known widths width rows storable
+unfolding switch_steps widths storable
 switch-good select = go (eqb select 0)
   where
-    go : (b : Bool) → AllGood (pick b [] (step2 kind.sys_control 0 0 ∷ step1 kind.wait_sys 0 ∷ []))
+    go : (b : Bool) → AllGood (pick b [] (step2 kind.SysControl 0 0 ∷ step1 kind.WaitSys 0 ∷ []))
     go true = tt
     go false = omega arith
 
 pub sys-good : (b : Board) (hz : ℕ) (src : SysClkSrc) → Hz hz → b.whole ≤ (facts_of b.chip).top_whole
     → b.fraction < (facts_of b.chip).scale → GoodSteps (sys_part b hz src)
-unfolding sys_part known widths width rows storable
+unfolding sys_part widths storable
 sys-good b hz src h w f =
     let select : ℕ = sys_select src in
     let codes = sys-code src in
@@ -188,35 +182,35 @@ sys-good b hz src h w f =
     }
 
 pub peri-good : (hz : ℕ) → Hz hz → (o : Option PeriClkSrc) → GoodSteps (peri_part hz o)
-unfolding peri_part known widths width rows storable
-peri-good hz h (peri src) = record { each = omega (arith, (peri-code src).1) }
-peri-good hz h no_peri = record { each = omega arith }
+unfolding peri_part widths storable
+peri-good hz h (Some src) = record { each = omega (arith, (peri-code src).1) }
+peri-good hz h None = record { each = omega arith }
 
 -- The part of the USB clock where `usb` is true, else of the ADC clock.
 pub aux-good : (usb : Bool) (hz : ℕ) → Hz hz → (o : Option AuxClkConfig) → AuxFits o
     → GoodSteps
-    (aux_part (pick usb kind.usb_divider kind.adc_divider) (pick usb kind.usb_control kind.adc_control) (pick usb 7 8) hz o)
-unfolding aux_part known widths width rows storable
-aux-good true hz h (aux a) d = record { each = omega (arith, (aux-code a.src).1) }
-aux-good false hz h (aux a) d = record { each = omega (arith, (aux-code a.src).1) }
-aux-good true hz h no_aux d = record { each = omega arith }
-aux-good false hz h no_aux d = record { each = omega arith }
+    (aux_part (pick usb kind.UsbDivider kind.AdcDivider) (pick usb kind.UsbControl kind.AdcControl) (pick usb 7 8) hz o)
+unfolding aux_part widths storable
+aux-good true hz h (Some a) d = record { each = omega (arith, (aux-code a.src).1) }
+aux-good false hz h (Some a) d = record { each = omega (arith, (aux-code a.src).1) }
+aux-good true hz h None d = record { each = omega arith }
+aux-good false hz h None d = record { each = omega arith }
 
 pub rtc-good : (chip : Chip) (source hz : ℕ) → hz ≤ 65535 → (o : Option RtcClkConfig) → RtcTyped o → rtc_bad source hz o ≡ false
     → GoodSteps (rtc_part chip hz o)
-unfolding rtc_part rtc_bad known widths width rows storable
-rtc-good Rp2040 source hz few (rtc r) t e =
+unfolding rtc_part rtc_bad widths storable
+rtc-good Rp2040 source hz few (Some r) t e =
     let still : Bool = eqb source 0 in
     let h3 = none_more (still || whole_bad 16777215 r.div_int || ltb 3 r.phase) 65535 hz e in
     let h2 = none_more (still || whole_bad 16777215 r.div_int) 3 r.phase h3.0 in
-    let w = whole-good 16777215 r.div_int (both_false still (whole_bad 16777215 r.div_int) h2.0).1 in
+    let w = whole-good 16777215 r.div_int (or_parts still (whole_bad 16777215 r.div_int) h2.0).1 in
     let turn : r.phase ≤ 3 = h2.1 in
     let held : Good (store_step 9 hz) = (tt, omega (arith, few), le→leb hz 65535 few) in
     record { each = (omega (arith, w), (omega (arith, (aux-code r.src).1), (held, tt))) }
-rtc-good Rp2040 source hz few no_rtc t e = record { each = ((tt, omega (arith, few), le→leb hz 65535 few), tt) }
+rtc-good Rp2040 source hz few None t e = record { each = ((tt, omega (arith, few), le→leb hz 65535 few), tt) }
 rtc-good Rp235x source hz few o t e = record { each = tt }
 
 pub last-good : (chip : Chip) (p : Option PeriClkSrc) (u a : Option AuxClkConfig) (r : Option RtcClkConfig)
     → GoodSteps (last_part (release_mask chip p u a r))
-unfolding release_mask known widths width rows storable
+unfolding release_mask widths storable
 last-good chip p u a r = record { each = omega (arith, (masks chip).2) }

@@ -23,7 +23,7 @@ settings-back p reading ok =
     let a = accepted-by s reading ok in
     readable-back reading p
     (record {
-      still = settling-none reading (board_of p.chip).code _ _;
+      still = settling-none reading (board_of p.chip).volts.code _ _;
       reference = divider-good p.ref_clk.div (a 7);
       usb = aux-divider s.usb (aux-fits _ _ (a 12));
       adc = aux-divider s.adc (aux-fits _ _ (a 13));

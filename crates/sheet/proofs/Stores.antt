@@ -1,5 +1,5 @@
 -- A sheet stores the frequencies of the settings, one for each clock in the order of the clocks: ten, on the RP235x nine.
-use Rattle.std.specs.Prelude.{Option}
+use Rattle.std.specs.Prelude.{Option, Some, None}
 use mathlib.Core.{Path.◌≡◌, Path.refl, Path.ap, Bool.Bool, Bool.true, Bool.false, List.List, List.[], List.◌∷◌, List.◌++◌}
 use Prim.Native.Nat.{ℕ}
 use lib.Dec.{eqb}
@@ -7,22 +7,18 @@ use Rattle.base.specs.Choice.{pick}
 use Rattle.chip.specs.declared.{Chip.Chip, Chip.TheVariants.Rp2040, Chip.TheVariants.Rp235x}
 use Rattle.chip.specs.Chips.{facts_of}
 use Rattle.config.specs.declared.{Board.Board, SysClkSrc.SysClkSrc, RefClkConfig.RefClkConfig, RoscConfig.RoscConfig}
-use Rattle.std.specs.Prelude.{Some as ring, None as no_ring}
 use Rattle.pll.specs.declared.PllConfig.{PllConfig}
-use Rattle.std.specs.Prelude.{Some as pll, None as no_pll}
 use Rattle.config.specs.declared.PeriClkSrc.{PeriClkSrc}
-use Rattle.std.specs.Prelude.{Some as peri, None as no_peri}
 use Rattle.config.specs.declared.AuxClkConfig.{AuxClkConfig}
-use Rattle.std.specs.Prelude.{Some as aux, None as no_aux}
 use Rattle.config.specs.declared.RtcClkConfig.{RtcClkConfig}
-use Rattle.std.specs.Prelude.{Some as rtc, None as no_rtc}
 use Rattle.step.specs.declared.Step.{Step}
-use Rattle.step.specs.Kinds as kind
+use Rattle.step.specs.Kinds.{is}
+use Rattle.step.specs.declared.kind.Kind.{Kind}
+use Rattle.step.specs.declared.kind.Kind.TheVariants as kind
 use Rattle.settings.specs.declared.Crystal.{Crystal}
-use Rattle.std.specs.Prelude.{Some as crystal, None as no_crystal}
-use Rattle.std.specs.Prelude.{Some as cycles, None as no_cycles}
 use Rattle.settings.specs.declared.Settings.{Settings}
-use Rattle.settings.specs.{Codes.sys_select, Codes.sys_aux, Settings.ring_hz}
+use Rattle.config.specs.Codes.{sys_select, sys_aux}
+use Rattle.settings.specs.Settings.{ring_hz}
 use Rattle.settings.specs.Frequencies.{sources_of, tenth_of, stored_of}
 use Rattle.sheet_steps.specs.Steps.{step1, step2, store_step, mark_steps, head_part, ring_part, settling_steps, voltage_part}
 use Rattle.sheet_steps.specs.Steps.{pll_steps, crystal_part, ref_part, switch_steps, sys_part, peri_part, aux_part, rtc_part}
@@ -36,36 +32,36 @@ mark-stores Rp235x ys = refl
 ring-stores : (pass : ℕ) (o : Option RoscConfig) (ys : List Step)
     → stores_in (ring_part pass o ++ ys) ≡ store_step 0 (ring_hz o) ∷ stores_in ys
 unfolding ring_part
-ring-stores pass (ring r) ys = refl
-ring-stores pass no_ring ys = refl
+ring-stores pass (Some r) ys = refl
+ring-stores pass None ys = refl
 
 voltage-stores : (reading : ℕ) (b : Board) (o : Option ℕ) (ys : List Step)
     → stores_in (voltage_part reading b o ++ ys) ≡ stores_in ys
 unfolding voltage_part
-voltage-stores reading b o ys = go b.chip (eqb b.code reading) o
+voltage-stores reading b o ys = go b.chip (eqb b.volts.code reading) o
   where
     changing : Chip → Option ℕ → List Step
     changing chip o =
-        step1 (facts_of chip).voltage b.code
-        ∷ (settling_steps o ++ (step1 (facts_of chip).brownout b.brownout ∷ []))
+        step1 (facts_of chip).voltage b.volts.code
+        ∷ (settling_steps o ++ (step1 (facts_of chip).brownout b.volts.brownout ∷ []))
 
     go : (chip : Chip) (same : Bool) (o : Option ℕ) → stores_in (pick same [] (changing chip o) ++ ys) ≡ stores_in ys
     go chip true o = refl
-    go Rp2040 false no_cycles = refl
-    go Rp2040 false (cycles n) = refl
-    go Rp235x false no_cycles = refl
-    go Rp235x false (cycles n) = refl
+    go Rp2040 false None = refl
+    go Rp2040 false (Some n) = refl
+    go Rp235x false None = refl
+    go Rp235x false (Some n) = refl
 
 crystal-stores : (o : Option Crystal) (ys : List Step) → stores_in (crystal_part o ++ ys) ≡ stores_in ys
 unfolding crystal_part
-crystal-stores no_crystal ys = refl
-crystal-stores (crystal x) ys = go x.sys x.usb
+crystal-stores None ys = refl
+crystal-stores (Some x) ys = go x.sys x.usb
   where
     go : (s u : Option PllConfig) → stores_in ((pll_steps 0 s ++ pll_steps 1 u) ++ ys) ≡ stores_in ys
-    go (pll p) (pll q) = refl
-    go (pll p) no_pll = refl
-    go no_pll (pll q) = refl
-    go no_pll no_pll = refl
+    go (Some p) (Some q) = refl
+    go (Some p) None = refl
+    go None (Some q) = refl
+    go None None = refl
 
 ref-stores : (chip : Chip) (hz : ℕ) (c : RefClkConfig) (ys : List Step)
     → stores_in (ref_part chip hz c ++ ys) ≡ store_step 4 hz ∷ stores_in ys
@@ -79,13 +75,13 @@ sys-stores b hz src ys = ap (λ (l : List Step). store_step 5 hz ∷ l) (go b.ch
   where
     end : Chip → List Step
     end chip =
-        step2 kind.sys_control (sys_aux src) (sys_select src)
-        ∷ step1 kind.wait_sys (sys_select src)
+        step2 kind.SysControl (sys_aux src) (sys_select src)
+        ∷ step1 kind.WaitSys (sys_select src)
         ∷ step2 (facts_of chip).divider b.whole b.fraction
         ∷ []
 
     go : (chip : Chip) (same : Bool)
-        → stores_in ((pick same [] (step2 kind.sys_control 0 0 ∷ step1 kind.wait_sys 0 ∷ []) ++ end chip) ++ ys) ≡ stores_in ys
+        → stores_in ((pick same [] (step2 kind.SysControl 0 0 ∷ step1 kind.WaitSys 0 ∷ []) ++ end chip) ++ ys) ≡ stores_in ys
     go Rp2040 true = refl
     go Rp2040 false = refl
     go Rp235x true = refl
@@ -93,27 +89,27 @@ sys-stores b hz src ys = ap (λ (l : List Step). store_step 5 hz ∷ l) (go b.ch
 
 peri-stores : (hz : ℕ) (o : Option PeriClkSrc) (ys : List Step) → stores_in (peri_part hz o ++ ys) ≡ store_step 6 hz ∷ stores_in ys
 unfolding peri_part
-peri-stores hz (peri src) ys = refl
-peri-stores hz no_peri ys = refl
+peri-stores hz (Some src) ys = refl
+peri-stores hz None ys = refl
 
-aux-stores : (divider control clock hz : ℕ) (o : Option AuxClkConfig) (ys : List Step)
-    → eqb divider kind.store ≡ false → eqb control kind.store ≡ false
+aux-stores : (divider control : Kind) (clock hz : ℕ) (o : Option AuxClkConfig) (ys : List Step)
+    → is divider kind.Store ≡ false → is control kind.Store ≡ false
     → stores_in (aux_part divider control clock hz o ++ ys) ≡ store_step clock hz ∷ stores_in ys
 unfolding aux_part
-aux-stores divider control clock hz (aux a) ys d c = rw (d, c)
-aux-stores divider control clock hz no_aux ys d c = refl
+aux-stores divider control clock hz (Some a) ys d c = rw (d, c)
+aux-stores divider control clock hz None ys d c = refl
 
 rtc-stores : (chip : Chip) (hz : ℕ) (o : Option RtcClkConfig) (mask : ℕ)
     → stores_in (rtc_part chip hz o ++ last_part mask) ≡ stores_from 9 (tenth_of chip hz)
 unfolding rtc_part
-rtc-stores Rp2040 hz (rtc r) mask = refl
-rtc-stores Rp2040 hz no_rtc mask = refl
+rtc-stores Rp2040 hz (Some r) mask = refl
+rtc-stores Rp2040 hz None mask = refl
 rtc-stores Rp235x hz o mask = refl
 
 pub ring-source : (r : Option RoscConfig) (o : Option Crystal) → (sources_of r o).rosc ≡ ring_hz r
 unfolding sources_of
-ring-source r (crystal x) = refl
-ring-source r no_crystal = refl
+ring-source r (Some x) = refl
+ring-source r None = refl
 
 pub sheet-stores : (reading : ℕ) (s : Settings) → stores_in (steps_of reading s) ≡ stores_from 0 (stored_of s)
 unfolding steps_of head_part clocks_part stored_of
@@ -127,8 +123,8 @@ sheet-stores reading s =
       ref-stores b.chip _ s.reference,
       sys-stores b _ s.sys,
       peri-stores _ s.peri,
-      aux-stores kind.usb_divider kind.usb_control 7 _ s.usb _ refl refl,
-      aux-stores kind.adc_divider kind.adc_control 8 _ s.adc _ refl refl,
+      aux-stores kind.UsbDivider kind.UsbControl 7 _ s.usb _ refl refl,
+      aux-stores kind.AdcDivider kind.AdcControl 8 _ s.adc _ refl refl,
       rtc-stores b.chip _ b.rtc,
       ring-source s.rosc s.xosc,
     )

@@ -1,8 +1,7 @@
 -- Demand 3: two sheets are equal exactly when the plans agree in every setting (docs/FORMAT.md, Settings that count).
-use Rattle.std.specs.Prelude.{Result}
+use Rattle.std.specs.Prelude.{Result, ℕ, ◌<◌, get_or}
 use Rattle.base.specs.declared.refusal.Refusal.{Refusal}
 use mathlib.Core.{Path.◌≡◌, Logic.◌↔◌, List.List}
-use Rattle.std.specs.Prelude.{ℕ, ◌<◌, get_or}
 use Rattle.base.specs.Answer.{value, answer_of}
 use Rattle.config.specs.declared.ClockConfig.{ClockConfig}
 use Rattle.settings.specs.Settings.{settings_of}
@@ -16,7 +15,7 @@ SameUpTo n b c = (i : ℕ) → i < n → get_or b i 0 ≡ get_or c i 0
 -- to them are equal exactly when the plans agree in every setting.
 abbrev pub Demand3 : Type 0
 Demand3 =
-    (p q : ClockConfig) (reading : ℕ) (b b' c c' : List ℕ) (r s : (Result ℕ Refusal)) (m n : ℕ)
+    (p q : ClockConfig) (reading : ℕ) (b b' c c' : List ℕ) (r s : Result ℕ Refusal) (m n : ℕ)
     → InitCall p reading b r b' → answer_of r ≡ value m
     → InitCall q reading c s c' → answer_of s ≡ value n
     → ((m ≡ n) × SameUpTo m b' c') ↔ (settings_of p reading ≡ settings_of q reading)

@@ -1,22 +1,23 @@
 -- Inside: the settings of a sheet's steps, read part by part in the order of the sheet. The definitions give settings for any list of
 -- steps; for the steps of a plan these are the plan's settings, as `settings-back` shows.
-use Rattle.std.specs.Prelude.{Option, Some, None}
+use Rattle.std.specs.Prelude.{Option, Some, None, ℕ, ◌-◌}
 use Rattle.config.specs.declared.PeriClkSrc.{PeriClkSrc}
 use Rattle.config.specs.declared.AuxClkConfig.{AuxClkConfig}
 use Rattle.config.specs.declared.RtcClkConfig.{RtcClkConfig}
 use mathlib.Core.{Bool.◌&&◌, List.List}
-use Rattle.std.specs.Prelude.{ℕ, ◌-◌}
 use lib.{ListN.get_or, ListN.drop, Dec.eqb}
 use Rattle.base.specs.Choice.{pick}
 use Rattle.chip.specs.declared.{Chip.Chip, Chip.TheVariants.Rp2040, Chip.TheVariants.Rp235x}
 use Rattle.chip.specs.Chips.{facts_of}
 use Rattle.step.specs.declared.Step.{Step}
-use Rattle.step.specs.Kinds as kind
+use Rattle.step.specs.Kinds.{is}
+use Rattle.step.specs.declared.kind.Kind.{Kind}
+use Rattle.step.specs.declared.kind.Kind.TheVariants as kind
 use Rattle.config.specs.declared.{RefClkConfig.RefClkConfig, SysClkSrc.SysClkSrc, RoscConfig.RoscConfig}
 use Rattle.pll.specs.declared.PllConfig.{PllConfig}
 use Rattle.config.specs.Board.{board_of}
 use Rattle.settings.specs.declared.{Crystal.Crystal, Settings.Settings}
-use Rattle.settings.specs.Codes.{range_from, ref_from, sys_from, peri_from, aux_from, div_from, chip_from}
+use Rattle.config.specs.Codes.{range_from, ref_from, sys_from, peri_from, aux_from, div_from, chip_from}
 use Rattle.sheet_steps.specs.Steps.{step0}
 
 -- The setting that a part of a sheet gives, and the steps after the part.
@@ -30,16 +31,16 @@ part a rest then f = f a rest
 
 -- Step i of a list; past the end it is a step of kind 0, which no sheet has.
 abbrev pub step_at : List Step → ℕ → Step
-step_at xs i = get_or xs i (step0 0)
+step_at xs i = get_or xs i (step0 (kind.Unknown 0))
 
 -- A first step of kind 38 means the RP235x.
 abbrev pub read_chip : List Step → Part Chip
-read_chip xs = pick (eqb (step_at xs 0).kind kind.chip_mark) (part Rp235x (drop 1 xs)) (part Rp2040 xs)
+read_chip xs = pick (is (step_at xs 0).kind kind.ChipMark) (part Rp235x (drop 1 xs)) (part Rp2040 xs)
 
 -- With a ring the part has 9 to 12 and the store, else only the store; `pass` is the chip's pass value.
 abbrev pub read_ring : ℕ → List Step → Part (Option RoscConfig)
 read_ring pass xs =
-    pick (eqb (step_at xs 0).kind kind.strengths_0_3)
+    pick (is (step_at xs 0).kind kind.Strengths0To3)
     (part
     (Some
     (record {
@@ -67,10 +68,10 @@ pub record Voltage : Type 0 where
   pub settling : Option ℕ
 
 -- The part has 13, 14 if the voltage settles, and 15; without 13 the code is the reading. `voltage` is the chip's kind, 13 or 43.
-abbrev pub read_voltage : ℕ → ℕ → List Step → Part Voltage
+abbrev pub read_voltage : Kind → ℕ → List Step → Part Voltage
 read_voltage voltage reading xs =
-    pick (eqb (step_at xs 0).kind voltage)
-    (pick (eqb (step_at xs 1).kind kind.delay)
+    pick (is (step_at xs 0).kind voltage)
+    (pick (is (step_at xs 1).kind kind.Delay)
     (part (record { code = (step_at xs 0).f0; settling = Some (step_at xs 1).f0 }) (drop 3 xs))
     (part (record { code = (step_at xs 0).f0; settling = None }) (drop 2 xs)))
     (part (record { code = reading; settling = None }) xs)
@@ -78,7 +79,7 @@ read_voltage voltage reading xs =
 -- A PLL that is present has nine steps from 19 on; `which` is 0 for the system PLL, 1 for the USB PLL.
 abbrev pub read_pll : ℕ → List Step → Part (Option PllConfig)
 read_pll which xs =
-    pick (eqb (step_at xs 0).kind kind.pll_power && eqb (step_at xs 0).f0 which)
+    pick (is (step_at xs 0).kind kind.PllPower && eqb (step_at xs 0).f0 which)
     (part
     (Some
     (record {
@@ -93,7 +94,7 @@ read_pll which xs =
 -- The part has 16 to 18 and the PLLs. The crystal's Hz are read from the store after it, which belongs to the next part.
 abbrev pub read_crystal : List Step → Part (Option Crystal)
 read_crystal xs =
-    pick (eqb (step_at xs 0).kind kind.startup)
+    pick (is (step_at xs 0).kind kind.Startup)
     (read_pll 0 (drop 3 xs) then λ sys ys.
     read_pll 1 ys then λ usb zs.
     part (Some (record { hz = (step_at zs 0).f1; delay = (step_at xs 0).f0; sys = sys; usb = usb })) zs)
@@ -117,21 +118,21 @@ pub record Sys : Type 0 where
 -- The part has the store, 28, 6, a second 28 and 6 unless the source is the reference clock, and the divider.
 abbrev pub read_sys : List Step → Part Sys
 read_sys xs =
-    pick (eqb (step_at xs 3).kind kind.sys_control)
+    pick (is (step_at xs 3).kind kind.SysControl)
     (part (record { src = sys_from (step_at xs 3).f0; whole = (step_at xs 5).f0; fraction = (step_at xs 5).f1 }) (drop 6 xs))
     (part (record { src = SysClkSrc.Ref; whole = (step_at xs 3).f0; fraction = (step_at xs 3).f1 }) (drop 4 xs))
 
 -- A peripheral clock that is present has 30 and the store, an absent one only the store.
 abbrev pub read_peri : List Step → Part (Option PeriClkSrc)
 read_peri xs =
-    pick (eqb (step_at xs 0).kind kind.peri_control)
+    pick (is (step_at xs 0).kind kind.PeriControl)
     (part (Some (peri_from (step_at xs 0).f0)) (drop 2 xs))
     (part None (drop 1 xs))
 
 -- USB has 31 and 32, ADC 33 and 34, and the store; an absent clock has only the store.
-abbrev pub read_aux : ℕ → List Step → Part (Option AuxClkConfig)
+abbrev pub read_aux : Kind → List Step → Part (Option AuxClkConfig)
 read_aux divider xs =
-    pick (eqb (step_at xs 0).kind divider)
+    pick (is (step_at xs 0).kind divider)
     (part
     (Some (record { src = aux_from (step_at xs 1).f1; div = div_from (step_at xs 0).f0; phase = (step_at xs 1).f0 }))
     (drop 3 xs))
@@ -140,7 +141,7 @@ read_aux divider xs =
 -- An RTC that is present has 35 and 36.
 abbrev pub read_rtc : List Step → Option RtcClkConfig
 read_rtc xs =
-    pick (eqb (step_at xs 0).kind kind.rtc_divider)
+    pick (is (step_at xs 0).kind kind.RtcDivider)
     (Some
     (record {
       src = aux_from (step_at xs 1).f1;
@@ -160,8 +161,8 @@ settings_from reading xs =
     read_ref (drop 3 xs) then λ reference xs.
     read_sys (past_tick chip xs) then λ sys xs.
     read_peri xs then λ peri xs.
-    read_aux kind.usb_divider xs then λ usb xs.
-    read_aux kind.adc_divider xs then λ adc xs.
+    read_aux kind.UsbDivider xs then λ usb xs.
+    read_aux kind.AdcDivider xs then λ adc xs.
     let on = chip_from chip v.code sys.whole sys.fraction (read_rtc xs) in
     record {
       chip = on;

@@ -1,14 +1,15 @@
 -- Inside: the stores of a sheet, which only the proofs of this crate use.
-use Rattle.std.specs.Prelude.{ℕ, ◌+◌, List, [], ◌∷◌, eqb}
+use Rattle.std.specs.Prelude.{ℕ, ◌+◌, List, [], ◌∷◌}
 use Rattle.base.specs.Choice.{pick}
 use Rattle.step.specs.declared.Step.{Step}
-use Rattle.step.specs.Kinds as kind
+use Rattle.step.specs.Kinds.{is}
+use Rattle.step.specs.declared.kind.Kind.TheVariants as kind
 use Rattle.sheet_steps.specs.Steps.{store_step}
 
 -- The stores among steps, in their order.
 abbrev pub stores_in : List Step → List Step
 stores_in [] = []
-stores_in (x ∷ xs) = pick (eqb x.kind kind.store) (x ∷ stores_in xs) (stores_in xs)
+stores_in (x ∷ xs) = pick (is x.kind kind.Store) (x ∷ stores_in xs) (stores_in xs)
 
 -- A store for each frequency; the clock numbers rise from `clock`.
 abbrev pub stores_from : ℕ → List ℕ → List Step

@@ -1,9 +1,9 @@
 -- The answer of `init` and the caller's bytes after the call (docs/FORMAT.md, Sheet writer).
-use mathlib.Core.{Path.◌≡◌, Bool.not, List.List, List.◌++◌}
-use Rattle.std.specs.Prelude.{ℕ, Result}
+use mathlib.Core.{Path.◌≡◌, List.List, List.◌++◌}
+use Rattle.std.specs.Prelude.{Option, Some, None, Result, ℕ}
 use Rattle.base.specs.declared.refusal.Refusal.{Refusal}
-use lib.{Dec.eqb, Dec.ltb, ListN.length, ListN.drop}
-use Rattle.base.specs.{Choice.pick, Answer.Answer, Answer.value, Answer.refusal, Answer.answer_of}
+use lib.{Dec.ltb, ListN.length, ListN.drop}
+use Rattle.base.specs.{Choice.pick, Answer.Answer, Answer.value, Answer.refusal, Answer.answer_of, Refusals.number_of}
 use Rattle.step.specs.Sheet.{encoded}
 use Rattle.config.specs.declared.ClockConfig.{ClockConfig}
 use Rattle.settings.specs.{Settings.settings_of, Typed.Typed}
@@ -14,14 +14,19 @@ use Rattle.sheet_steps.specs.Steps.{steps_of}
 unfoldable pub sheet_bytes : ClockConfig → ℕ → List ℕ
 sheet_bytes p reading = encoded (steps_of reading (settings_of p reading))
 
--- The refusal of a plan at a reading, 0 where it is accepted.
-abbrev pub refusal_in : ClockConfig → ℕ → ℕ
+-- The refusal of a plan at a reading, none where it is accepted.
+abbrev pub refusal_in : ClockConfig → ℕ → Option Refusal
 refusal_in p reading = refusal_of (settings_of p reading) reading
+
+-- A refusal by its number, or the answer where there is none.
+abbrev pub refused_or : {A : Type 0} → Option Refusal → Answer A → Answer A
+refused_or (Some reason) answer = refusal (number_of reason)
+refused_or None answer = answer
 
 -- The refusals 18 and 1 to 14 come first, then 19 where the buffer is shorter than the sheet, else the number of bytes written.
 unfoldable pub init_answer : ClockConfig → ℕ → List ℕ → Answer ℕ
 init_answer p reading buffer =
-    pick (not (eqb (refusal_in p reading) 0)) (refusal (refusal_in p reading))
+    refused_or (refusal_in p reading)
     (pick (ltb (length buffer) (length (sheet_bytes p reading))) (refusal 19)
     (value (length (sheet_bytes p reading))))
 

@@ -34,8 +34,6 @@ pub fn init(config: ClockConfig, reading: u8, sheet: &mut [u8]) -> Result<usize,
     let f = refusals::examine(s, reading)?;
     let mut words = [0u64; step::MAX_STEPS];
     let count = gather(&mut words, s, f, reading);
-    if !step::copy_turned(&words[..count], sheet) {
-        return Err(Refusal::ShortBuffer);
-    }
+    step::copy_turned(&words[..count], sheet)?;
     Ok(8 * count)
 }

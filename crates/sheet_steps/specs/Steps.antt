@@ -1,76 +1,76 @@
 -- The steps of a sheet, part by part (docs/FORMAT.md, Order of a sheet). The numbers in the comments are kinds of steps.
-use Rattle.std.specs.Prelude.{Option, Some, None}
+use Rattle.std.specs.Prelude.{Option, Some, None, ℕ, ◌+◌, ◌-◌, ◌/◌, ◌%◌, List, [], ◌∷◌, ◌++◌, eqb, get_or}
 use Rattle.config.specs.declared.RoscConfig.{RoscConfig}
-use Rattle.std.specs.Prelude.{ℕ, ◌+◌, ◌-◌, ◌/◌, ◌%◌, List, [], ◌∷◌, ◌++◌, eqb, get_or}
 use Rattle.base.specs.Choice.{pick}
 use Rattle.chip.specs.declared.{Chip.Chip, Chip.TheVariants.Rp2040, Chip.TheVariants.Rp235x}
 use Rattle.chip.specs.Chips.{facts_of}
 use Rattle.step.specs.declared.Step.{Step}
 use Rattle.step.specs.{Steps.step_of, Sheet.max_steps}
-use Rattle.step.specs.Kinds as kind
+use Rattle.step.specs.declared.kind.Kind.{Kind}
+use Rattle.step.specs.declared.kind.Kind.TheVariants as kind
 use Rattle.config.specs.declared.{RefClkConfig.RefClkConfig}
 use Rattle.pll.specs.declared.PllConfig.{PllConfig}
 use Rattle.config.specs.declared.{SysClkSrc.SysClkSrc, Board.Board, PeriClkSrc.PeriClkSrc, AuxClkConfig.AuxClkConfig}
 use Rattle.config.specs.declared.RtcClkConfig.{RtcClkConfig}
 use Rattle.settings.specs.declared.{Crystal.Crystal, Settings.Settings}
 use Rattle.settings.specs.declared.{Sources.Sources, Frequencies.Frequencies}
-use Rattle.settings.specs.Codes.{range_code, ref_code, sys_select, sys_aux, peri_aux, aux_code}
+use Rattle.config.specs.Codes.{range_code, ref_code, sys_select, sys_aux, peri_aux, aux_code}
 use Rattle.settings.specs.{Settings.ring_hz, Frequencies.frequencies_of}
 
 -- A step of a kind with these fields, of which it has up to five.
-abbrev pub step_with : ℕ → List ℕ → Step
+abbrev pub step_with : Kind → List ℕ → Step
 step_with k fields =
     step_of k (get_or fields 0 0) (get_or fields 1 0) (get_or fields 2 0) (get_or fields 3 0) (get_or fields 4 0)
 
 -- A step of a kind with fewer than five fields.
-abbrev pub step4 : ℕ → ℕ → ℕ → ℕ → ℕ → Step
+abbrev pub step4 : Kind → ℕ → ℕ → ℕ → ℕ → Step
 step4 k a b c d = step_of k a b c d 0
 
-abbrev pub step3 : ℕ → ℕ → ℕ → ℕ → Step
+abbrev pub step3 : Kind → ℕ → ℕ → ℕ → Step
 step3 k a b c = step_of k a b c 0 0
 
-abbrev pub step2 : ℕ → ℕ → ℕ → Step
+abbrev pub step2 : Kind → ℕ → ℕ → Step
 step2 k a b = step_of k a b 0 0 0
 
-abbrev pub step1 : ℕ → ℕ → Step
+abbrev pub step1 : Kind → ℕ → Step
 step1 k a = step_of k a 0 0 0 0
 
-abbrev pub step0 : ℕ → Step
+abbrev pub step0 : Kind → Step
 step0 k = step_of k 0 0 0 0 0
 
 -- Stores the frequency of a clock.
 abbrev pub store_step : ℕ → ℕ → Step
-store_step clock hz = step2 kind.store clock hz
+store_step clock hz = step2 kind.Store clock hz
 
 -- A sheet of the RP235x starts with 38.
 abbrev pub mark_steps : Chip → List Step
 mark_steps Rp2040 = []
-mark_steps Rp235x = step0 kind.chip_mark ∷ []
+mark_steps Rp235x = step0 kind.ChipMark ∷ []
 
 -- The head is 1, 4, 5(0), 6(0), 7(0), 8(0), 1, 2, 3. The first 1 has the mask of the first reset, the last three that of the
 -- PLLs.
 unfoldable pub head_part : Chip → List Step
 head_part chip =
-    step1 kind.reset (facts_of chip).first
-    ∷ step0 kind.resus_off
-    ∷ step1 kind.sys_source 0
-    ∷ step1 kind.wait_sys 0
-    ∷ step1 kind.ref_source 0
-    ∷ step1 kind.wait_ref 0
-    ∷ step1 kind.reset (facts_of chip).plls
-    ∷ step1 kind.release (facts_of chip).plls
-    ∷ step1 kind.wait_released (facts_of chip).plls
+    step1 kind.Reset (facts_of chip).first
+    ∷ step0 kind.ResusOff
+    ∷ step1 kind.SysSource 0
+    ∷ step1 kind.WaitSys 0
+    ∷ step1 kind.RefSource 0
+    ∷ step1 kind.WaitRef 0
+    ∷ step1 kind.Reset (facts_of chip).plls
+    ∷ step1 kind.Release (facts_of chip).plls
+    ∷ step1 kind.WaitReleased (facts_of chip).plls
     ∷ []
 
 -- With a ring there are 9 to 12: strengths, divider plus pass value, range.
 abbrev pub ring_steps : ℕ → Option RoscConfig → List Step
 ring_steps pass (Some r) =
-    step4 kind.strengths_0_3 r.drive_strength.s0 r.drive_strength.s1
+    step4 kind.Strengths0To3 r.drive_strength.s0 r.drive_strength.s1
     r.drive_strength.s2 r.drive_strength.s3
-    ∷ step4 kind.strengths_4_7 r.drive_strength.s4 r.drive_strength.s5
+    ∷ step4 kind.Strengths4To7 r.drive_strength.s4 r.drive_strength.s5
     r.drive_strength.s6 r.drive_strength.s7
-    ∷ step1 kind.ring_divider (r.div + pass)
-    ∷ step1 kind.ring_on (range_code r.range)
+    ∷ step1 kind.RingDivider (r.div + pass)
+    ∷ step1 kind.RingOn (range_code r.range)
     ∷ []
 ring_steps pass None = []
 
@@ -80,39 +80,39 @@ ring_part pass r = ring_steps pass r ++ (store_step 0 (ring_hz r) ∷ [])
 
 -- The settling step is 14.
 abbrev pub settling_steps : Option ℕ → List Step
-settling_steps (Some n) = step1 kind.delay n ∷ []
+settling_steps (Some n) = step1 kind.Delay n ∷ []
 settling_steps None = []
 
 -- Where the voltage code differs from the reading there is 13, then 14 unless the settling time is 0, then 15. The RP235x has 43
 -- and 44 instead of 13 and 15.
 unfoldable pub voltage_part : ℕ → Board → Option ℕ → List Step
 voltage_part reading b settling =
-    pick (eqb b.code reading) []
-    (step1 (facts_of b.chip).voltage b.code
-    ∷ (settling_steps settling ++ (step1 (facts_of b.chip).brownout b.brownout ∷ [])))
+    pick (eqb b.volts.code reading) []
+    (step1 (facts_of b.chip).voltage b.volts.code
+    ∷ (settling_steps settling ++ (step1 (facts_of b.chip).brownout b.volts.brownout ∷ [])))
 
 -- A PLL that is present has 19(W, 1, 1, 1, 1), 14(10), 20, 21, 19(W, 0, 0, 1, 1), 22, 23, 24, 14(100); W is 0 for the system PLL,
 -- 1 for the USB PLL.
 abbrev pub pll_steps : ℕ → Option PllConfig → List Step
 pll_steps which (Some p) =
-    step_of kind.pll_power which 1 1 1 1
-    ∷ step1 kind.delay 10
-    ∷ step2 kind.pll_reference which p.refdiv
-    ∷ step2 kind.pll_feedback which p.fbdiv
-    ∷ step_of kind.pll_power which 0 0 1 1
-    ∷ step1 kind.wait_lock which
-    ∷ step3 kind.pll_posts which p.post_div1 p.post_div2
-    ∷ step1 kind.pll_post_on which
-    ∷ step1 kind.delay 100
+    step_of kind.PllPower which 1 1 1 1
+    ∷ step1 kind.Delay 10
+    ∷ step2 kind.PllReference which p.refdiv
+    ∷ step2 kind.PllFeedback which p.fbdiv
+    ∷ step_of kind.PllPower which 0 0 1 1
+    ∷ step1 kind.WaitLock which
+    ∷ step3 kind.PllPosts which p.post_div1 p.post_div2
+    ∷ step1 kind.PllPostOn which
+    ∷ step1 kind.Delay 100
     ∷ []
 pll_steps which None = []
 
 -- With a crystal there are 16, 17, 18, then the PLLs, the system PLL first.
 unfoldable pub crystal_part : Option Crystal → List Step
 crystal_part (Some x) =
-    step1 kind.startup x.delay
-    ∷ step0 kind.crystal_on
-    ∷ step0 kind.wait_stable
+    step1 kind.Startup x.delay
+    ∷ step0 kind.CrystalOn
+    ∷ step0 kind.WaitStable
     ∷ (pll_steps 0 x.sys ++ pll_steps 1 x.usb)
 crystal_part None = []
 
@@ -122,12 +122,12 @@ source_part f = store_step 1 f.xosc ∷ store_step 2 f.pll_sys ∷ store_step 3 
 
 -- The tick is 27, on the RP235x 39 to 42.
 abbrev pub tick_steps : Chip → ℕ → List Step
-tick_steps Rp2040 mhz = step1 kind.tick mhz ∷ []
+tick_steps Rp2040 mhz = step1 kind.Tick mhz ∷ []
 tick_steps Rp235x mhz =
-    step1 kind.timer_cycles mhz
-    ∷ step0 kind.timer_on
-    ∷ step1 kind.watchdog_cycles mhz
-    ∷ step0 kind.watchdog_on
+    step1 kind.TimerCycles mhz
+    ∷ step0 kind.TimerOn
+    ∷ step1 kind.WatchdogCycles mhz
+    ∷ step0 kind.WatchdogOn
     ∷ []
 
 -- The store of `ref`, then 25, 8, 26 and the tick, whose cycles are the reference's MHz rounded down. The divider field has two
@@ -135,28 +135,28 @@ tick_steps Rp235x mhz =
 abbrev pub ref_part : Chip → ℕ → RefClkConfig → List Step
 ref_part chip hz c =
     store_step 4 hz
-    ∷ step1 kind.ref_control (ref_code c.src)
-    ∷ step1 kind.wait_ref (ref_code c.src)
-    ∷ step1 kind.ref_divider (c.div % 4)
+    ∷ step1 kind.RefControl (ref_code c.src)
+    ∷ step1 kind.WaitRef (ref_code c.src)
+    ∷ step1 kind.RefDivider (c.div % 4)
     ∷ tick_steps chip (hz / 1000000)
 
 -- Before the aux source changes, 28(0, 0) and 6(0) select the reference clock; they are absent where it is the source.
 unfoldable pub switch_steps : ℕ → List Step
-switch_steps select = pick (eqb select 0) [] (step2 kind.sys_control 0 0 ∷ step1 kind.wait_sys 0 ∷ [])
+switch_steps select = pick (eqb select 0) [] (step2 kind.SysControl 0 0 ∷ step1 kind.WaitSys 0 ∷ [])
 
 -- The store of `sys`, the switch, then 28, 6 and 29; the RP235x has 45 instead of 29.
 unfoldable pub sys_part : Board → ℕ → SysClkSrc → List Step
 sys_part b hz src =
     store_step 5 hz
     ∷ (switch_steps (sys_select src)
-    ++ (step2 kind.sys_control (sys_aux src) (sys_select src)
-    ∷ step1 kind.wait_sys (sys_select src)
+    ++ (step2 kind.SysControl (sys_aux src) (sys_select src)
+    ∷ step1 kind.WaitSys (sys_select src)
     ∷ step2 (facts_of b.chip).divider b.whole b.fraction
     ∷ []))
 
 -- A peripheral clock that is present has 30.
 abbrev pub peri_steps : Option PeriClkSrc → List Step
-peri_steps (Some src) = step1 kind.peri_control (peri_aux src) ∷ []
+peri_steps (Some src) = step1 kind.PeriControl (peri_aux src) ∷ []
 peri_steps None = []
 
 -- The peripheral part ends with the store of `peri`.
@@ -164,19 +164,19 @@ unfoldable pub peri_part : ℕ → Option PeriClkSrc → List Step
 peri_part hz o = peri_steps o ++ (store_step 6 hz ∷ [])
 
 -- USB and ADC each have a kind for the divider, a field of two bits, and a kind for phase and source.
-abbrev pub aux_steps : ℕ → ℕ → Option AuxClkConfig → List Step
+abbrev pub aux_steps : Kind → Kind → Option AuxClkConfig → List Step
 aux_steps divider control (Some a) = step1 divider (a.div % 4) ∷ step2 control a.phase (aux_code a.src) ∷ []
 aux_steps divider control None = []
 
 -- USB has 31, 32 and its store; ADC has 33, 34 and its store.
-unfoldable pub aux_part : ℕ → ℕ → ℕ → ℕ → Option AuxClkConfig → List Step
+unfoldable pub aux_part : Kind → Kind → ℕ → ℕ → Option AuxClkConfig → List Step
 aux_part divider control clock hz o = aux_steps divider control o ++ (store_step clock hz ∷ [])
 
 -- An RTC that is present has 35 and 36.
 abbrev pub rtc_steps : Option RtcClkConfig → List Step
 rtc_steps (Some r) =
-    step2 kind.rtc_divider r.div_int r.div_frac
-    ∷ step2 kind.rtc_control r.phase (aux_code r.src)
+    step2 kind.RtcDivider r.div_int r.div_frac
+    ∷ step2 kind.RtcControl r.phase (aux_code r.src)
     ∷ []
 rtc_steps None = []
 
@@ -198,7 +198,7 @@ release_mask chip p u a r =
 
 -- The sheet ends with 2 and 3 of this mask.
 abbrev pub last_part : ℕ → List Step
-last_part mask = step1 kind.release mask ∷ step1 kind.wait_released mask ∷ []
+last_part mask = step1 kind.Release mask ∷ step1 kind.WaitReleased mask ∷ []
 
 -- The parts from the stores of the sources on.
 unfoldable pub clocks_part : Settings → Frequencies → List Step
@@ -207,8 +207,8 @@ clocks_part s f =
     ++ (ref_part s.board.chip f.reference s.reference
     ++ (sys_part s.board f.sys s.sys
     ++ (peri_part f.peri s.peri
-    ++ (aux_part kind.usb_divider kind.usb_control 7 f.usb s.usb
-    ++ (aux_part kind.adc_divider kind.adc_control 8 f.adc s.adc
+    ++ (aux_part kind.UsbDivider kind.UsbControl 7 f.usb s.usb
+    ++ (aux_part kind.AdcDivider kind.AdcControl 8 f.adc s.adc
     ++ (rtc_part s.board.chip f.rtc s.board.rtc
     ++ last_part (release_mask s.board.chip s.peri s.usb s.adc s.board.rtc)))))))
 

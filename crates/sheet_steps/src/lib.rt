@@ -4,8 +4,11 @@
 #![tactic(auto)]
 
 ghost use Rattle.std.specs.Prelude.{◌≡◌, get_or};
-ghost use Rattle.sheet_steps.specs.Steps.{step_with};
+ghost use Rattle.step.specs.Clocks.{clock_number};
+ghost use Rattle.sheet_steps.specs.Steps.{step_with, store_step};
 ghost use Rattle.sheet_steps.specs.Gather.{held, pushed};
+
+use step::{Clock, Kind};
 
 pub type Words = [u64; step::MAX_STEPS];
 
@@ -18,7 +21,7 @@ fn field(fields: &[u64], i: usize) -> u64
 
 // Appends a step of a kind with its fields, of which it has up to five; a full array is unchanged.
 #[tactic(auto, unfolding(crate::specs::Gather::pushed))]
-pub fn add<const N: usize>(words: &mut Words, at: usize, kind: u8, fields: [u64; N]) -> usize
+pub fn add<const N: usize>(words: &mut Words, at: usize, kind: Kind, fields: [u64; N]) -> usize
     ensures { held words.new result ≡ pushed (held words.old at) (step_with kind fields.entry) }
 {
     if at < words.len() {
@@ -35,4 +38,11 @@ pub fn add<const N: usize>(words: &mut Words, at: usize, kind: u8, fields: [u64;
         return at + 1;
     }
     at
+}
+
+// Appends the store of a clock's frequency.
+pub fn store(words: &mut Words, at: usize, clock: Clock, hz: u64) -> usize
+    ensures { held words.new result ≡ pushed (held words.old at) (store_step (clock_number clock) hz) }
+{
+    add(words, at, Kind::Store, [u64::from(clock), hz])
 }

@@ -7,6 +7,7 @@ ghost use Rattle.sleep.specs.Bits.{field, with_field, pll_off, pll_runs, crystal
 pub(crate) struct Field {
     low: u32,
     size: u32,
+    ghost inside: { low + size < 32 },
 }
 
 // CLK_ADC_CTRL, CLK_USB_CTRL and CLK_PERI_CTRL: 1 enables the clock.
@@ -40,7 +41,6 @@ impl Field {
     // The field of a word.
     #[tactic(auto, using(crate::proofs::Words::one_shl, crate::proofs::Words::low_bits))]
     fn get(self, word: u32) -> u32
-        requires { (self.low < 32) × (self.size < 32) }
         ensures { result ≡ field self.low self.size word }
     {
         (word >> self.low) & ((1u32 << self.size) - 1)
@@ -49,7 +49,7 @@ impl Field {
     // The word with the field set to a value.
     #[tactic(auto, using(crate::proofs::Words::high_exact, crate::proofs::Words::value_exact, crate::proofs::Words::word_fits))]
     pub(crate) fn set(self, word: u32, value: u32) -> u32
-        requires { (self.low + self.size < 32) × (value < 2 ^ self.size) }
+        requires { value < 2 ^ self.size }
         ensures { result ≡ with_field self.low self.size value word }
     {
         let above = self.low + self.size;

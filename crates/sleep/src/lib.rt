@@ -95,7 +95,6 @@ pub fn wake(slots: &[Slot; 4], slot: u8, words: &mut [u32; 11]) -> Result<Steps,
     if !held.saved {
         return Err(Refusal::EmptySlot);
     }
-    let kept = held.words;
-    *words = kept;
+    *words = held.words;
     Ok(steps::to_wake(words))
 }

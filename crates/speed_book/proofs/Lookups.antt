@@ -179,3 +179,6 @@ module _ (t : ℕ) (fits : t < 4294967296) where
       taken a (below_in table a) above
       (subst (λ (n : ℕ). FirstFrom n (below_in table a)) (output-is (a - 1) (omega (arith, above.within)))
       (first-place (output_in (entry_at table (a - 1)))))
+
+-- what a lookup in the book is
+pub ruleset searches = lookup-searches

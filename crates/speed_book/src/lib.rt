@@ -17,7 +17,9 @@ use pll::PllConfig;
 // The number of settings at 12 MHz.
 pub const ENTRIES: usize = 1988;
 
-// The table of a book: an output and its setting as the decimal digits of one number.
+// The table of a book: an output and its setting as the decimal digits of one number. It is no struct with methods, since a
+// program in C holds an open book as numbers and hands it in: so there are `open`, `entry_in` and `lookup_in` beside `book`,
+// `entry` and `lookup`, which take no table.
 pub type Book = [u64; ENTRIES];
 
 // A line of the book: an output in whole hertz and its setting.
@@ -57,6 +59,7 @@ fn setting_in(entry: u64) -> PllConfig
 }
 
 // The line at an index of an open book, from 0; none from 1988 on.
+#[tactic(auto, unfolding(crate::specs::Book::line_in))]
 pub fn entry_in(book: &Book, k: usize) -> Option<Line>
     ensures { result ≡ line_in book.now k }
 {
@@ -114,7 +117,9 @@ fn nearer(target_hz: u32, lower: u64, upper: u64) -> u64
     }
 }
 
-// Answers the setting for a target frequency at 12 MHz from an open book, as the search does; it never refuses.
+// Answers the setting for a target frequency at 12 MHz from an open book, as the search does. It never refuses, but it answers
+// a Result, since a caller takes it in place of the search.
+#[tactic(auto, unfolding(crate::specs::Lookup::lookup_in))]
 pub fn lookup_in(book: &Book, target_hz: u32) -> Result<PllConfig, Refusal>
     ensures { answer_of result ≡ lookup_in book.now target_hz }
 {
@@ -127,6 +132,7 @@ pub fn lookup_in(book: &Book, target_hz: u32) -> Result<PllConfig, Refusal>
 }
 
 // Answers the setting for a target frequency at 12 MHz, as the search does; it never refuses.
+#[tactic(auto, using(crate::proofs::Lookups::searches))]
 pub fn lookup(target_hz: u32) -> Result<PllConfig, Refusal>
     ensures { answer_of result ≡ search_of crystal target_hz }
 {

@@ -1,11 +1,12 @@
 -- Inside: definitions that only the contracts of the crate's private functions use.
 use mathlib.Core.{Path.◌≡◌}
 use Rattle.std.specs.Prelude.{ℕ, ◌+◌, ◌≤◌}
+use Rattle.step.specs.declared.kind.Kind.{Kind}
 use Rattle.step.specs.declared.packing.Widths.{Widths}
 use Rattle.step.specs.Layout.{width}
 
 -- The widths of the five fields of kind k; they leave 6 bits for the kind.
-pub record Laid (k : ℕ) (r : Widths) : Type 0 where
+pub record Laid (k : Kind) (r : Widths) : Type 0 where
   pub at0 : r.0 ≡ width k 0
   pub at1 : r.1 ≡ width k 1
   pub at2 : r.2 ≡ width k 2

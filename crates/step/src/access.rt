@@ -3,25 +3,25 @@ ghost use Rattle.std.specs.Prelude.{◌≡◌, take, drop, Some, None};
 ghost use Rattle.base.specs.Answer.{answer_of};
 ghost use Rattle.base.specs.Choice.{pick};
 ghost use Rattle.step.specs.Bytes.{word8, turned_of};
-ghost use Rattle.step.specs.Access.{room_for, copied, has_eight, read_at, word_at};
+ghost use Rattle.step.specs.Access.{copy_of, copied, has_eight, read_at, word_at};
 
 use crate::Step;
 use crate::packing::unpack;
 use base::Refusal;
 
-// Writes byte-swapped words to the start of buf and answers whether there was room; without room it writes nothing. Bytes in the
+// Writes byte-swapped words to the start of buf; without room for all of them it refuses with 19 and writes nothing. Bytes in the
 // order of the machine compile to one plain copy.
-pub fn copy_turned(words: &[u64], buf: &mut [u8]) -> bool
-    ensures value { result ≡ room_for words.now buf.old }
+pub fn copy_turned(words: &[u64], buf: &mut [u8]) -> Result<(), Refusal>
+    ensures value { answer_of result ≡ copy_of words.now buf.old }
     ensures buf_after { buf.new ≡ copied words.now buf.old }
 {
     if buf.len() / 8 < words.len() {
-        return false;
+        return Err(Refusal::ShortBuffer);
     }
     for (i, word) in words.iter().enumerate() {
         buf[8 * i..8 * i + 8].copy_from_slice(&word.to_le_bytes());
     }
-    true
+    Ok(())
 }
 
 // The word with its bytes swapped.

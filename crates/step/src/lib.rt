@@ -2,13 +2,16 @@
 #![tactic(auto)]
 
 mod access;
-pub mod kind;
+mod clock;
+mod kind;
 mod packing;
 
 ghost use Rattle.std.specs.Prelude.{◌≡◌};
 ghost use Rattle.step.specs.Size.{bad_size};
 
 pub use access::{copy_turned, read, turned, word};
+pub use clock::{Clock, Pll};
+pub use kind::Kind;
 pub use packing::pack;
 
 // The greatest number of steps of a sheet, and of its bytes.
@@ -19,7 +22,7 @@ pub const MAX_BYTES: usize = 8 * MAX_STEPS;
 // A step: its kind and up to five fields. A field that the kind lacks is 0.
 #[derive(Clone, Copy)]
 pub struct Step {
-    pub kind: u8,
+    pub kind: Kind,
     pub f0: u64,
     pub f1: u64,
     pub f2: u64,

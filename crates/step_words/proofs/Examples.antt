@@ -3,10 +3,10 @@
 use mathlib.Core.{Path.◌≡◌, Path.refl, List.List, List.[], List.◌∷◌, List.◌++◌}
 use Prim.Native.{Nat.ℕ, String.String}
 use Rattle.text.specs.{Ascii.ascii, Decimal.decimal_of, Hex.hex_of}
-use Rattle.step.specs.{Access.read_at, Bytes.word8, Layout.rows as layout_rows, Layout.width, Layout.widths}
-use Rattle.step.specs.Steps.{known, storable, kind_in, step_in, spare_in, sound, unpack_of}
-use Rattle.registers.specs.Access.{rows as access_rows, has, access_of}
-use Rattle.meanings.specs.{Rows.row_text, Form.clock_rows, Form.clock_name, Form.mask_text, Form.piece_of, Steps.step_forms, Steps.step_text}
+use Rattle.step.specs.{Access.read_at, Bytes.word8, Layout.widths, Kinds.kinds}
+use Rattle.step.specs.Steps.{storable, kind_in, step_in, spare_in, sound, unpack_of}
+use Rattle.registers.specs.Access.{has, access_of}
+use Rattle.meanings.specs.{Rows.row_text, Form.clock_rows, Form.clock_name, Form.mask_text, Form.piece_of, Steps.step_text}
 use Rattle.step_words.specs.{Names.name_rows, Names.name_of, Does.word_text, Does.register_text, Does.does_text}
 use Rattle.step_words.specs.Steps.{line_text, found_at, line_at, lines_of, steps_text}
 
@@ -37,7 +37,7 @@ pub worked-listings :
     × (steps_text (reset_write ++ (voltage ++ reset_write)) ≡ closed (reset_line ∷ "1 ad80000000000000 no step" ∷ []))
     × (steps_text (reset_write ++ (0x10 ∷ 0 ∷ 0 ∷ [])) ≡ closed (reset_line ∷ "1 100000 no step" ∷ []))
     × (steps_text [] ≡ [])
-unfolding steps_text lines_of line_at found_at line_text does_text register_text word_text name_of name_rows step_text step_forms
-    piece_of mask_text clock_name clock_rows row_text access_of has access_rows read_at unpack_of sound known storable kind_in step_in
-    spare_in widths width layout_rows word8 hex_of decimal_of
+unfolding steps_text lines_of line_at found_at line_text does_text register_text word_text name_of name_rows step_text
+    piece_of mask_text clock_name clock_rows row_text access_of has read_at unpack_of sound storable kind_in step_in
+    spare_in widths kinds word8 hex_of decimal_of
 worked-listings = (refl, refl, refl, refl, refl)

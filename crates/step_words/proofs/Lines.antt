@@ -1,13 +1,14 @@
 -- A sheet is listed line by line: the record holds between two lines, and at the end the whole listing is put.
 use Rattle.std.specs.Prelude.{Option}
-use mathlib.Core.{Path.◌≡◌, Path.sym, Path.ap, Path.◌∙◌, Bool.Bool, Bool.true, Bool.false}
+use mathlib.Core.{Path.◌≡◌, Path.sym, Path.ap, Path.◌∙◌, Bool.true, Bool.false}
 use mathlib.Core.List.{List, [], ◌++◌}
 use Prim.Native.Nat.{ℕ, suc, ◌+◌, ◌-◌, ◌*◌, ◌≤◌, ◌<◌, min}
-use native.Mathlib.{Decide.dec_le, Numerals.add-one, Omega.arith}
+use native.Mathlib.{Decide.dec_le, Omega.arith}
 use borrow.Author.Tests.{le-leb}
 use Rattle.std.proofs.lemmas.Bool.{lt-leb}
 use Rattle.std.proofs.lemmas.List.{take_min}
-use lib.{ListN.length, ListN.take, ListN.drop, ListN.length-take, ListN.length-drop, ListN.drop_of_length-le, Seq.take_all, Seq.drop-drop, Seq.drop-append_seam, Seq.take-append_seam}
+use lib.ListN.{length, take, drop, length-take, length-drop, drop_of_length-le}
+use lib.Seq.{take_all, drop-drop, drop-append_seam, take-append_seam}
 use Rattle.base.specs.{Choice.pick, Writing.Written, Writing.puts}
 use Rattle.base.proofs.Writing.{put_more, put_none}
 use Rattle.step.specs.Access.{has_eight, read_at}
@@ -15,18 +16,6 @@ use Rattle.readback.specs.Law.{chip_in}
 use Rattle.step_words.specs.declared.Known.{Known}
 use Rattle.chip.specs.declared.Chip.{Chip}
 use Rattle.step_words.specs.Steps.{found_in, is_step, found_at, line_text, line_at, lines_from, lines_of, steps_text}
-
--- the line of a position, then those from the next position on: after a step the one after it, else the end
-line-next : (c : Chip) (sheet : List ℕ) (i lines next : ℕ) → i < lines → next ≡ pick (is_step (found_at c sheet i)) (i + 1) lines
-    → lines_from c sheet i (lines - i) ≡ line_at c sheet i ++ lines_from c sheet next (lines - next)
-line-next c sheet i lines next inside e =
-    let one : lines - i ≡ suc (lines - suc i) = omega arith in
-    rw one (ap (λ (more : List ℕ). line_at c sheet i ++ more) (go (is_step (found_at c sheet i)) e))
-  where
-    go : (b : Bool) → next ≡ pick b (i + 1) lines
-        → pick b (lines_from c sheet (suc i) (lines - suc i)) [] ≡ lines_from c sheet next (lines - next)
-    go true e = rw (e, add-one)
-    go false e = let none : lines - lines ≡ 0 = omega arith in rw (e, none)
 
 -- what is found in the eight bytes at a position
 eight-there : (sheet : List ℕ) (i : ℕ) → has_eight (take 8 (drop (8 * i) sheet)) 0 ≡ has_eight sheet (8 * i)
@@ -64,18 +53,21 @@ listed-none c sheet i size rest out e f g h =
     let all : lines_of sheet - 0 ≡ lines_of sheet = omega arith in
     record { eight = g; here = rw (f, h); text = rw (f, ← e, all) }
 
-module _ {c : Chip} {sheet : List ℕ} {i size : ℕ} {rest : List ℕ} {out whole : Written ℕ} (l : Listed c sheet i size rest out whole) where
+module _ {c : Chip} {sheet : List ℕ} {i size : ℕ} {rest : List ℕ} {out whole : Written ℕ}
+    (l : Listed c sheet i size rest out whole) where
   rest-long : length rest ≡ length sheet - 8 * i
   rest-long = ap length l.here ∙ length-drop (8 * i) sheet
 
   -- the bytes of the position
-  bytes-there : (bytes others : List ℕ) → rest ≡ bytes ++ others → length bytes ≡ min size (length rest) → bytes ≡ take 8 (drop (8 * i) sheet)
+  bytes-there : (bytes others : List ℕ) → rest ≡ bytes ++ others → length bytes ≡ min size (length rest)
+      → bytes ≡ take 8 (drop (8 * i) sheet)
   bytes-there bytes others e long =
       let n : length bytes ≡ min 8 (length rest) = omega (arith, long, l.eight) in
       sym (take-append_seam bytes others) ∙ ap (take (length bytes)) (sym e)
       ∙ ap (λ (k : ℕ). take k rest) n ∙ take_min 8 rest ∙ ap (take 8) l.here
 
-  others-there : (bytes others : List ℕ) → rest ≡ bytes ++ others → length bytes ≡ min size (length rest) → others ≡ drop (8 * suc i) sheet
+  others-there : (bytes others : List ℕ) → rest ≡ bytes ++ others → length bytes ≡ min size (length rest)
+      → others ≡ drop (8 * suc i) sheet
   others-there bytes others e long =
       let behind : others ≡ drop (length bytes) rest =
       sym (drop-append_seam bytes others) ∙ ap (drop (length bytes)) (sym e) in

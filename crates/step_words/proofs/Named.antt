@@ -9,7 +9,7 @@ use native.Mathlib.Omega.{arith}
 use borrow.Author.Tests.{leb-true}
 use lib.{Dec.eqb, Dec.leb, ListN.length}
 use Rattle.base.specs.Choice.{pick}
-use Rattle.base.proofs.Bools.{both_true}
+use Rattle.std.proofs.lemmas.Bool.{and_parts}
 use Rattle.chip.specs.declared.{Chip.Chip, Chip.TheVariants.Rp2040, Chip.TheVariants.Rp235x}
 use Rattle.text.specs.Ascii.{ascii}
 use Rattle.meanings.proofs.Tables.{all_within}
@@ -50,7 +50,7 @@ name_there Rp235x a ps t = sym (name-bytes (name_rows Rp235x) a) ∙ ap (λ (rs 
 name-within : (rows : List Row) (most a : ℕ) → all_within most (map (λ (r : Row). r.name) rows) ≡ true → length (name_in rows a) ≤ most
 name-within [] most a t = omega arith
 name-within (r ∷ rows) most a t =
-    let both = both_true (leb (length (ascii r.name)) most) (all_within most (map (λ (r : Row). r.name) rows)) t in
+    let both = and_parts (leb (length (ascii r.name)) most) (all_within most (map (λ (r : Row). r.name) rows)) t in
     go (eqb r.address a) (leb-true (length (ascii r.name)) most both.0) (name-within rows most a both.1)
   where
     go : (b : Bool) → length (ascii r.name) ≤ most → length (name_in rows a) ≤ most

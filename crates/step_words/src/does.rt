@@ -28,7 +28,7 @@ fn write_register(out: &mut Writer<'_, u8>, verb: &[u8], chip: Chip, address: u3
 }
 
 // Writes what an access does to its register.
-#[tactic(auto, using(base::proofs::Writing::put_more), unfolding(crate::specs::Does::does_text))]
+#[tactic(auto, using(base::proofs::Writing::writing), unfolding(crate::specs::Does::does_text))]
 pub(crate) fn write_does(out: &mut Writer<'_, u8>, chip: Chip, access: Access)
     ensures { Puts out.old (does_text chip access) out.new }
 {

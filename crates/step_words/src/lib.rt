@@ -6,7 +6,6 @@ mod does;
 mod names;
 
 ghost use Rattle.std.specs.Prelude.{◌≡◌};
-ghost use Rattle.base.specs.Placed.{Placed};
 ghost use Rattle.base.specs.Writing.{Puts};
 ghost use Rattle.registers.specs.Access.{access_of};
 ghost use Rattle.step.specs.Access.{read_at};
@@ -87,17 +86,4 @@ pub fn write_steps(out: &mut Writer<'_, u8>, sheet: &[u8])
             return;
         }
     }
-}
-
-// Puts the lines at an index, as `write_steps`.
-pub fn put_steps(out: &mut [u8], at: usize, sheet: &[u8]) -> usize
-    ensures { Placed out.old at (steps_text sheet.now) result out.new }
-{
-    let start = at.min(out.len());
-    let mut w = Writer {
-        buf: out,
-        at: start,
-    };
-    write_steps(&mut w, sheet);
-    w.at
 }

@@ -7,7 +7,7 @@ use native.Mathlib.{Decide.dec_lt, Nat.pow-suc, Numerals.add-one, Omega.arith}
 use borrow.Author.Tests.{lt-ltb, le-ltb, le-leb, lt-leb}
 use lib.{Dec.leb, Dec.ltb, ListN.length, ListN.drop, ListN.get_or, ListN.length-append, Seq.drop-cons}
 use Rattle.base.specs.{Answer.value, Answer.refusal, Choice.pick, Choice.in_range}
-use Rattle.base.proofs.Bools.{both_true}
+use Rattle.std.proofs.lemmas.Bool.{and_parts}
 use Rattle.text.specs.Decimal.{last_digit, digits_of, decimal_of, is_digit, all_digits, value_after, value_of, is_number, number_of}
 
 digits-small : (k n : ℕ) → n < 10 → digits_of (suc k) n ≡ last_digit n ∷ []
@@ -64,7 +64,7 @@ value-decimal n = by_digits (λ (m : ℕ) (ds : List ℕ). value_after 0 ds ≡ 
 all-last : (cs : List ℕ) (d : ℕ) → all_digits cs ≡ true → is_digit d ≡ true → all_digits (cs ++ (d ∷ [])) ≡ true
 all-last [] d h e = rw e
 all-last (c ∷ cs) d h e =
-    let p = both_true (is_digit c) (all_digits cs) h in
+    let p = and_parts (is_digit c) (all_digits cs) h in
     rw p.0 (all-last cs d p.1 e)
 
 last-is-digit : (n : ℕ) → is_digit (last_digit n) ≡ true

@@ -6,7 +6,7 @@ use Prim.Native.Nat.{ℕ, ◌+◌, ◌≤◌}
 use native.Mathlib.Omega.{arith}
 use borrow.Author.Tests.{leb-true}
 use lib.{ListN.length, ListN.take, ListN.drop, Seq.take-append_seam, Seq.length-sets, Seq.sets-eq}
-use Rattle.base.proofs.Bools.{both_true}
+use Rattle.std.proofs.lemmas.Bool.{and_parts}
 use Rattle.text.specs.Hex.{is_hex_word, pair_values, is_readable, HexReading}
 
 -- a word that is read: the first k bytes of the buffer are its bytes
@@ -25,7 +25,7 @@ module _ {w xs ys : List ℕ} {r : Option ℕ} where
       go true e =
           let a : Some k ≡ Some (length (pair_values w)) = rw (e, told) at h.answer in
           let long : k ≡ length (pair_values w) = cc in
-          let room = leb-true (length (pair_values w)) (length xs) (both_true (is_hex_word w) _ e).1 in
+          let room = leb-true (length (pair_values w)) (length xs) (and_parts (is_hex_word w) _ e).1 in
           let bytes = rw e at h.bytes in
           let size : length ys ≡ length xs = ap length bytes ∙ length-sets xs 0 (pair_values w) in
           let in-front : take k ys ≡ pair_values w = rw (bytes, sets-eq (pair_values w) xs 0 (omega arith), long)

@@ -8,7 +8,7 @@ use lib.{Dec.ltb, ListN.length, ListN.take, ListN.get_or, Pow.are_bytes, Seq.tak
 use Rattle.std.specs.{Char.is_ascii_hexdigit, List.list_all, Prelude.Some, Prelude.None}
 use Rattle.std.specs.Simd.{first_chunks}
 use Rattle.base.specs.{Choice.in_range, Placed.Placed}
-use Rattle.base.proofs.Bools.{both_true}
+use Rattle.std.proofs.lemmas.Bool.{and_parts}
 use Rattle.text.specs.Decimal.{is_digit}
 use Rattle.text.specs.Hex.{hex_digit, hex_pair, hex_digits, hex_of, hex_value, is_hex, is_pair, are_pairs, pair_values, is_hex_word}
 use Rattle.text.specs.Hex.{is_readable, HexReading}
@@ -116,7 +116,7 @@ digit-back d h = elim (dec_lt d 10) [
 pairs-back : (bs : List ℕ) → are_bytes bs ≡ true → (are_pairs (hex_digits bs) ≡ true) × (pair_values (hex_digits bs) ≡ bs)
 pairs-back [] h = (refl, refl)
 pairs-back (b ∷ bs) h =
-    let p = both_true (ltb b 256) (are_bytes bs) h in
+    let p = and_parts (ltb b 256) (are_bytes bs) h in
     let byte : b < 256 = ltb-true b 256 p.0 in
     let high = digit-back (b / 16) (omega arith) in
     let low = digit-back (b % 16) (omega arith) in

@@ -7,7 +7,7 @@ use Rattle.std.proofs.lemmas.List.Sums.{prefix_len-le-length}
 use Rattle.std.specs.List.{position_or_len}
 use mathlib.Core.{List.List, List.[], List.◌∷◌, Logic.◌⊎◌, Logic.inl, Logic.inr}
 use Prim.Native.Nat.{ℕ, zero, suc, ◌+◌, ◌-◌, ◌≤◌, ◌<◌}
-use native.Mathlib.{Decide.dec_le, Nat.add-zero, Omega.arith}
+use native.Mathlib.{Decide.dec_le, Nat.add-zero, Nat.zero-add, Omega.arith}
 use borrow.Author.Tests.{le-leb, lt-leb, ltb-false}
 use lib.{Dec.eqb, Dec.ltb, ListN.length, ListN.take, ListN.drop, ListN.length-take, ListN.length-drop, ListN.drop_of_length-le}
 use lib.Seq.{take_all}
@@ -64,6 +64,11 @@ unfolding index_from
 between s at b =
     let n : at + length (up_to b (drop at s)) - at ≡ length (up_to b (drop at s)) = omega arith in
     rw n (take-up b (drop at s))
+
+-- so a line up to its first space, byte 32, is its first word
+pub first_word : (line : List ℕ) {end : ℕ} → end ≡ index_from line 0 32 → take end line ≡ up_to 32 line
+unfolding index_from
+first_word line e = rw (e, zero-add) (take-up 32 line)
 
 pub up-take : (b n : ℕ) (s : List ℕ) → up_to b (take n s) ≡ take n (up_to b s)
 up-take b zero s = refl

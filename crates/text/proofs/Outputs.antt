@@ -21,11 +21,9 @@ whole output {before} {after} {size} room p =
 -- an output of at most `most` bytes that the first `enough` bytes of the input decide
 module _ (output_of : List ℕ → List ℕ) (enough most : ℕ) (short : (input : List ℕ) → length (output_of input) ≤ most)
     (decides : (n : ℕ) (input : List ℕ) → enough ≤ n → output_of (take n input) ≡ output_of input) where
-  pub printed : (start : List ℕ) (n : ℕ) {before after : List ℕ} {size : ℕ} → enough ≤ length start → most ≤ length before
-      → Placed before 0 (output_of (take n start)) size after → Printed output_of start n before size after
-  printed start n known room p =
-      let w = whole (output_of (take n start)) (omega (arith, short (take n start))) p in
-      record {
-        fits = w.fits;
-        prints = λ input e. rw (← decides (length start) input known, e) w;
-      }
+  pub printed : (start : List ℕ) {before after : List ℕ} {size : ℕ} → most ≤ length before
+      → Placed before 0 (output_of start) size after → Printed output_of enough start before size after
+  printed start room p =
+      let cut : (l : List ℕ) → output_of (take enough l) ≡ output_of l = λ l. decides enough l (omega arith) in
+      let w = whole (output_of start) (omega (arith, short start)) p in
+      record { fits = w.fits; prints = λ input e. rw (← cut input, e, cut start) w }

@@ -4,7 +4,7 @@ use Prim.Native.Nat.{ℕ}
 use native.Mathlib.Omega.{arith}
 use lib.{Dec.eqb, ListN.length}
 use borrow.Author.Tests.{eqb-true, eq-eqb}
-use Rattle.base.proofs.Bools.{both_true}
+use Rattle.std.proofs.lemmas.Bool.{and_parts}
 use Rattle.text.specs.Ascii.{same}
 
 pub same_true : (xs ys : List ℕ) → same xs ys ≡ true → xs ≡ ys
@@ -12,7 +12,7 @@ same_true [] [] e = refl
 same_true [] (y ∷ ys) e = let z : ◌≡◌ {A = ℕ} 0 1 = cc in absurd (omega arith)
 same_true (x ∷ xs) [] e = let z : ◌≡◌ {A = ℕ} 0 1 = cc in absurd (omega arith)
 same_true (x ∷ xs) (y ∷ ys) e =
-    let both = both_true (eqb x y) (same xs ys) e in
+    let both = and_parts (eqb x y) (same xs ys) e in
     let x-y : x ≡ y = eqb-true x y both.0 in
     let xs-ys : xs ≡ ys = same_true xs ys both.1 in
     cc

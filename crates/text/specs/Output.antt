@@ -8,7 +8,7 @@ pub record Whole (output before : List ℕ) (size : ℕ) (after : List ℕ) : Ty
   pub size_is : size ≡ length output
   pub bytes : after ≡ output ++ drop size before
 
--- a call that is given the first n bytes of start writes the output of every input that begins with them
-pub record Printed (output_of : List ℕ → List ℕ) (start : List ℕ) (n : ℕ) (before : List ℕ) (size : ℕ) (after : List ℕ) : Type 0 where
+-- a call that is given the first bytes of an input, all of them or enough, writes the output of every input that begins with them
+pub record Printed (output_of : List ℕ → List ℕ) (enough : ℕ) (start before : List ℕ) (size : ℕ) (after : List ℕ) : Type 0 where
   pub fits : size ≤ length after
-  pub prints : (input : List ℕ) → take (length start) input ≡ take n start → Whole (output_of input) before size after
+  pub prints : (input : List ℕ) → take enough input ≡ take enough start → Whole (output_of input) before size after

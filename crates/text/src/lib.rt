@@ -21,19 +21,9 @@ fn last_digit(n: u64) -> u8
     b'0' + (n % 10) as u8
 }
 
-// Writes n in decimal, without leading zeros.
-pub fn put_decimal(buf: &mut [u8], at: usize, n: u64) -> usize
-    ensures { Placed buf.old at (decimal_of n) result buf.new }
-{
-    if n < 10 {
-        return base::put(buf, at, last_digit(n));
-    }
-    let end = put_decimal(buf, at, n / 10);
-    base::put(buf, end, last_digit(n))
-}
-
 // Writes n in decimal, without leading zeros. It calls itself for the digits before the last, which come first; a loop finds the
-// last one first, and would need a buffer for them.
+// last one first, and would need a buffer for them. No formatter of the library writes into a lent buffer and drops what does not
+// fit.
 #[tactic(auto, using(base::proofs::Writing::put_more, crate::proofs::Decimals::decimal_small, crate::proofs::Decimals::decimal_more))]
 pub fn write_decimal(out: &mut Writer<'_, u8>, n: u64)
     ensures { Puts out.old (decimal_of n) out.new }
@@ -45,25 +35,11 @@ pub fn write_decimal(out: &mut Writer<'_, u8>, n: u64)
 }
 
 // The last hex digit of b.
-fn hex_digit(b: u8) -> u8
+pub fn hex_digit(b: u8) -> u8
     ensures { result ≡ hex_digit (b % 16) }
 {
     let d = b % 16;
     if d < 10 { b'0' + d } else { b'a' - 10 + d }
-}
-
-// Writes the bytes of s in hex, two digits for each byte; `-` where s is empty.
-pub fn put_hex(buf: &mut [u8], at: usize, s: &[u8]) -> usize
-    ensures { Placed buf.old at (hex_of s.now) result buf.new }
-{
-    if s.is_empty() {
-        return base::put(buf, at, b'-');
-    }
-    let mut end = at.min(buf.len());
-    for b in s {
-        end = base::put_all(buf, end, &[hex_digit(*b / 16), hex_digit(*b)]);
-    }
-    end
 }
 
 // Writes the bytes of s in hex, two digits for each byte; `-` where s is empty.
@@ -78,7 +54,8 @@ pub fn write_hex(out: &mut Writer<'_, u8>, s: &[u8])
     }
 }
 
-// The number that s spells: 1 to 10 decimal digits, at most 4294967295. Refusal: 24 where s spells no such number.
+// The number that s spells: 1 to 10 decimal digits, at most 4294967295. Refusal: 24 where s spells no such number. It is not
+// `parse`, which takes a sign and any count of zeros too.
 pub fn number(s: &[u8]) -> Result<u32, Refusal>
     ensures { answer_of result ≡ number_of s.now }
 {
@@ -139,12 +116,7 @@ pub fn line_number(s: &[u8]) -> Result<u32, Refusal>
 fn hex_value(c: u8) -> u8
     ensures { (result ≡ hex_value c) × (result < 16) }
 {
-    match c {
-        b'0'..=b'9' => c - b'0',
-        b'a'..=b'f' => c - b'a' + 10,
-        b'A'..=b'F' => c - b'A' + 10,
-        _ => 0,
-    }
+    char::from(c).to_digit(16).map_or(0, |d| d as u8)
 }
 
 // Whether s consists of pairs of hex digits.
@@ -192,7 +164,7 @@ pub fn hex_bytes(s: &[u8], buf: &mut [u8]) -> Option<usize>
     Some(n)
 }
 
-// Whether a and b hold the same bytes.
+// Whether a and b hold the same bytes. It has a name, as the contracts of its callers say `same`.
 pub fn same_bytes(a: &[u8], b: &[u8]) -> bool
     ensures { result ≡ same a.now b.now }
 {

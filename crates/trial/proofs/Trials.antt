@@ -15,9 +15,9 @@ use Rattle.trial.specs.Lcg.{drawn, top_bit}
 use Rattle.trial.specs.Load.{flags}
 
 module _ (seed i : ℕ) where
-  pub runner-next : (sheet : List ℕ) {y : ℕ} {r : Runner} {ready : Bool} (reply : Result Reply Refusal) (next : Runner) → y ≡ drawn seed (i + 1)
-      → r ≡ runner_after sheet (flags seed) i → ready ≡ top_bit y → outcome (answer_of reply) next ≡ advance_of r sheet ready
-      → next ≡ runner_after sheet (flags seed) (i + 1)
+  pub runner-next : (sheet : List ℕ) {y : ℕ} {r : Runner} {ready : Bool} (reply : Result Reply Refusal) (next : Runner)
+      → y ≡ drawn seed (i + 1) → r ≡ runner_after sheet (flags seed) i → ready ≡ top_bit y
+      → outcome (answer_of reply) next ≡ advance_of r sheet ready → next ≡ runner_after sheet (flags seed) (i + 1)
   unfolding runner_after
   runner-next sheet {y} {r} {ready} reply next drew before heard call =
       let last : y ≡ drawn seed (suc i) = rw add-one at drew in

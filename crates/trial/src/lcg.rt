@@ -5,9 +5,8 @@ ghost use Rattle.base.specs.Writing.{Puts};
 ghost use Rattle.trial.specs.Lcg.{draw_of, top_bit};
 ghost use Rattle.trial.specs.Targets.{target_line, target_lines};
 
+use crate::CRYSTAL_HZ;
 use base::Writer;
-
-const CRYSTAL_HZ: u32 = 12000000;
 
 // The draw after x.
 #[tactic(auto, unfolding(crate::specs::Lcg::draw_of))]

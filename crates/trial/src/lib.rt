@@ -15,15 +15,13 @@ ghost use Rattle.trial.specs.Load.{trials, load_with, load_of};
 
 use base::{Refusal, Writer};
 use chip::Chip;
+use chip::voltage::CoreVoltage;
 use config::ClockConfig;
 use runner::Runner;
 use step::MAX_BYTES;
 
-// The crystal of the runner trial.
+// The crystal of both trials.
 const CRYSTAL_HZ: u32 = 12000000;
-
-// The voltage reading of the regulator, as a code: 1.10 V.
-const READING: u8 = 11;
 
 // The largest count that is not refused.
 const MOST_COUNT: u32 = 10000;
@@ -48,11 +46,8 @@ fn trial_runner(seed: u32, count: u32) -> Runner
     ensures { result ≡ trial_runner seed count }
 {
     let mut bytes = [0u8; MAX_BYTES];
-    let Ok(n) = sheet::init(
-        ClockConfig::crystal(Chip::Rp2040, CRYSTAL_HZ),
-        READING,
-        &mut bytes,
-    ) else {
+    let plan = ClockConfig::crystal(Chip::Rp2040, CRYSTAL_HZ);
+    let Ok(n) = sheet::init(plan, CoreVoltage::V1_10 as u8, &mut bytes) else {
         return Runner::new();
     };
     run(&bytes[..n], seed, count)
@@ -90,7 +85,6 @@ fn write_counted(out: &mut Writer<'_, u8>, seed: u32, count: Result<u32, Refusal
 
 // Writes the output for an input.
 fn write_load(out: &mut Writer<'_, u8>, input: &[u8])
-    requires { length input.now ≤ 22 }
     ensures { Puts out.old (load_of input.now) out.new }
 {
     let space = text::index_from(input, 0, b' ');
@@ -100,12 +94,12 @@ fn write_load(out: &mut Writer<'_, u8>, input: &[u8])
     }
 }
 
-// Writes the output for an input and answers its length. `start` holds the first n bytes of the input: all of them,
-// or 22, which decide the output.
-pub fn load(start: &[u8; 22], n: usize, out: &mut [u8; 80012]) -> usize
-    ensures { Printed load_of start.now n out.old result out.new }
+// Writes the output for an input and answers its length. `start` holds the first bytes of the input: all of them, or at
+// least 22, which decide the output.
+pub fn load(start: &[u8], out: &mut [u8; 80012]) -> usize
+    ensures { Printed load_of 22 start.now out.old result out.new }
 {
     let mut writer = Writer::new(out);
-    write_load(&mut writer, base::first(start, n));
+    write_load(&mut writer, start);
     writer.at
 }

@@ -1,9 +1,10 @@
 -- The texts of k + 1 settings are those of k settings and one more, and so are the lines of the clocks.
-use mathlib.Core.{Path.◌≡◌, Path.refl, Path.ap, Path.◌∙◌, Path.sym, List.List, List.[], List.◌∷◌, List.◌++◌}
-use Prim.Native.Nat.{ℕ, suc, ◌+◌}
+use mathlib.Core.{Path.◌≡◌, Path.refl, Path.ap, Path.◌∙◌, List.List, List.[], List.◌∷◌, List.◌++◌}
+use Prim.Native.Nat.{ℕ, ◌+◌}
 use native.Mathlib.{Nat.add-zero, Numerals.add-one}
 use lib.ListN.{drop, get_or}
 use Rattle.std.proofs.lemmas.List.{get_or-drop, drop-drop}
+use Rattle.base.proofs.Writing.{writing}
 use Rattle.config.specs.declared.ClockConfig.{ClockConfig}
 use Rattle.verdict.specs.Differs.{part_text, part_texts, clock_text, clock_texts}
 
@@ -31,3 +32,8 @@ pub clocks_more : (was asked : List ℕ) (k w a : ℕ) → w ≡ get_or was k 0 
     → clock_texts was asked (k + 1) ≡ clock_texts was asked k ++ clock_text k w a
 unfolding clock_texts
 clocks_more was asked k w a e f = rw (add-one k, e, f)
+
+-- what the loops over the settings and over the clocks rewrite by
+pub ruleset parts = (writing, parts_none, parts_more)
+
+pub ruleset clocks = (writing, clocks_none, clocks_more, left)

@@ -2,9 +2,11 @@
 -- so the same sheet. So the verdict is `as ordered` for the ordered plan's bytes only.
 use mathlib.Core.{Path.◌≡◌, Path.refl, Path.sym, Path.ap, Path.◌∙◌, Path.subst}
 use mathlib.Core.{Bool.Bool, Bool.true, Bool.false, Bool.not, List.List, List.[]}
+use Rattle.std.specs.Prelude.{Option, Some, None}
+use Rattle.base.specs.declared.refusal.Refusal.{Refusal}
 use Prim.Native.Nat.{ℕ}
 use native.Mathlib.Omega.{arith}
-use borrow.Author.Tests.{eqb-true, eq-eqb, ne_eqb}
+use borrow.Author.Tests.{eqb-true}
 use lib.{Dec.eqb, ListN.take, ListN.drop, ListN.get_or, Seq.take_at}
 use Rattle.base.specs.{Answer.Answer, Answer.value, Answer.refusal, Choice.pick}
 use Rattle.text.specs.Ascii.{ascii}
@@ -23,7 +25,7 @@ use Rattle.meanings.specs.{Parts.parts_of, Differences.agree, Differences.has_bi
 use Rattle.meanings.proofs.Differing.{none-differs, part-differs}
 use Rattle.wording.specs.Words.{refused_lines}
 use Rattle.verdict.specs.Differs.{differs_text}
-use Rattle.verdict.specs.Verdict.{Verdict, sheet_refused, order_refused, as_ordered, differs, by_bits, compared, delivered}
+use Rattle.verdict.specs.Verdict.{Verdict, sheet_refused, order_refused, as_ordered, differs, by_bits, unless_refused, compared, delivered}
 use Rattle.verdict.specs.Verdict.{verdict_of, verdict_text, check_text}
 use Rattle.verdict.specs.Told.{AsOrdered, Named, NamesThose}
 
@@ -56,13 +58,14 @@ module _ (reading : ℕ) (q : ClockConfig) (ok : Accepted q reading) where
   accepted-bits : (p : ClockConfig)
       → compared reading p q ≡ by_bits (differences_of (settings_of p reading) (settings_of q reading)) p q
   unfolding compared
-  accepted-bits p = rw (eq-eqb (refusal_in q reading) 0 ok)
+  accepted-bits p = rw ok
 
   -- if the verdict is `as ordered`, the bytes are the plan's
   is-sheet : (sheet : List ℕ) (a : Answer ClockConfig) → read_of sheet reading ≡ a → delivered reading a (value q) ≡ as_ordered
       → sheet_bytes q reading ≡ sheet
   is-sheet sheet (value p) read e =
-      let bits : by_bits (differences_of (settings_of p reading) (settings_of q reading)) p q ≡ as_ordered = sym (accepted-bits p) ∙ e in
+      let bits : by_bits (differences_of (settings_of p reading) (settings_of q reading)) p q ≡ as_ordered =
+      sym (accepted-bits p) ∙ e in
       let same = (none-differs p q reading reading).0 (bits_none _ p q bits) in
       sym (same_bytes p q reading same) ∙ (read-gives read).bytes
   is-sheet sheet (refusal n) read e = let z : ◌≡◌ {A = ℕ} 0 1 = cc in absurd (omega arith)
@@ -91,13 +94,13 @@ pub names-those : NamesThose
 unfolding verdict_of compared
 names-those sheet reading plan mask p q e = go (read_of sheet reading) refl e
   where
-    bits : (p' : ClockConfig) (t u : Bool) → read_of sheet reading ≡ value p'
-        → pick t
+    bits : (p' : ClockConfig) (found : Option Refusal) (u : Bool) → read_of sheet reading ≡ value p'
+        → unless_refused found
         (pick u as_ordered (differs (differences_of (settings_of p' reading) (settings_of plan reading)) p' plan))
-        (order_refused (refusal_in plan reading)) ≡ differs mask p q
+        ≡ differs mask p q
         → Named sheet reading plan mask p q
-    bits p' true true read e = let z : ◌≡◌ {A = ℕ} 0 1 = cc in absurd (omega arith)
-    bits p' true false read e =
+    bits p' None true read e = absurd cc
+    bits p' None false read e =
         let same-mask : mask ≡ differences_of (settings_of p' reading) (settings_of plan reading) = cc in
         let same-p : p ≡ p' = cc in
         let same-q : q ≡ plan = cc in
@@ -111,10 +114,10 @@ names-those sheet reading plan mask p q e = go (read_of sheet reading) refl e
               ≡ not (agree (get_or (parts_of (settings_of x reading)) k []) (get_or (parts_of (settings_of plan reading)) k [])))
               (sym same-p) (part-differs (settings_of p' reading) (settings_of plan reading) k h);
         }
-    bits p' false u read e = let z : ◌≡◌ {A = ℕ} 0 1 = cc in absurd (omega arith)
+    bits p' (Some reason) u read e = absurd cc
 
     go : (a : Answer ClockConfig) → read_of sheet reading ≡ a → delivered reading a (value plan) ≡ differs mask p q
         → Named sheet reading plan mask p q
-    go (value p') read e = bits p' (eqb (refusal_in plan reading) 0)
+    go (value p') read e = bits p' (refusal_in plan reading)
         (eqb (differences_of (settings_of p' reading) (settings_of plan reading)) 0) read e
     go (refusal n) read e = let z : ◌≡◌ {A = ℕ} 0 1 = cc in absurd (omega arith)

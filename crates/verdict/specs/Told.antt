@@ -16,7 +16,7 @@ use Rattle.verdict.specs.Verdict.{differs, verdict_of, check_text}
 -- exactly where the bytes that it wrote are the sheet.
 abbrev pub AsOrdered : Type 0
 AsOrdered =
-    (sheet : List ℕ) (reading : ℕ) (plan : ClockConfig) (before after : List ℕ) (r : (Result ℕ Refusal)) (n : ℕ)
+    (sheet : List ℕ) (reading : ℕ) (plan : ClockConfig) (before after : List ℕ) (r : Result ℕ Refusal) (n : ℕ)
     → InitCall plan reading before r after → answer_of r ≡ value n
     → (check_text reading sheet (value plan) ≡ ascii "as ordered\n") ↔ (take n after ≡ sheet)
 
@@ -26,7 +26,8 @@ pub record Named (sheet : List ℕ) (reading : ℕ) (plan : ClockConfig) (mask :
   pub read : read_of sheet reading ≡ value p
   pub asked : q ≡ plan
   pub bits : (k : ℕ) → k < 13
-      → has_bit mask k ≡ not (agree (get_or (parts_of (settings_of p reading)) k []) (get_or (parts_of (settings_of plan reading)) k []))
+      → has_bit mask k
+      ≡ not (agree (get_or (parts_of (settings_of p reading)) k []) (get_or (parts_of (settings_of plan reading)) k []))
 
 abbrev pub NamesThose : Type 0
 NamesThose =

@@ -1,6 +1,7 @@
 -- The verdict on a sheet: whether it is the ordered plan's, and if not, in which settings the two plans differ.
-use Rattle.std.specs.Prelude.{List, ℕ, eqb}
-use Rattle.base.specs.{Answer.Answer, Answer.value, Answer.refusal, Choice.pick}
+use Rattle.std.specs.Prelude.{Option, Some, None, List, ℕ, eqb}
+use Rattle.base.specs.declared.refusal.Refusal.{Refusal}
+use Rattle.base.specs.{Answer.Answer, Answer.value, Answer.refusal, Choice.pick, Refusals.number_of}
 use Rattle.text.specs.Ascii.{ascii}
 use Rattle.config.specs.declared.ClockConfig.{ClockConfig}
 use Rattle.settings.specs.Settings.{settings_of}
@@ -20,11 +21,15 @@ pub data Verdict : Type 0 where
 abbrev pub by_bits : ℕ → ClockConfig → ClockConfig → Verdict
 by_bits mask p q = pick (eqb mask 0) as_ordered (differs mask p q)
 
+-- the order is refused, or this verdict
+abbrev pub unless_refused : Option Refusal → Verdict → Verdict
+unless_refused (Some reason) verdict = order_refused (number_of reason)
+unless_refused None verdict = verdict
+
 -- the sheet's plan p compared with the ordered plan q, where `init` does not refuse q
 unfoldable pub compared : ℕ → ClockConfig → ClockConfig → Verdict
 compared reading p q =
-    pick (eqb (refusal_in q reading) 0) (by_bits (differences_of (settings_of p reading) (settings_of q reading)) p q)
-    (order_refused (refusal_in q reading))
+    unless_refused (refusal_in q reading) (by_bits (differences_of (settings_of p reading) (settings_of q reading)) p q)
 
 abbrev pub ordered : ℕ → ClockConfig → Answer ClockConfig → Verdict
 ordered reading p (value q) = compared reading p q

@@ -1,10 +1,9 @@
 // Delivered compared with ordered: whether a sheet is the ordered plan's, and where not, in which settings the two differ.
 #![tactic(auto)]
 
-ghost use Rattle.std.specs.Prelude.{◌≡◌, ◌<◌};
+ghost use Rattle.std.specs.Prelude.{◌≡◌};
 ghost use Rattle.base.specs.Writing.{Puts};
 ghost use Rattle.base.specs.Answer.{answer_of};
-ghost use Rattle.meanings.specs.Differences.{has_bit};
 ghost use Rattle.verdict.specs.Differs.{part_text, part_texts, hz_of, plan_hz, clock_text, clock_texts, differs_text};
 ghost use Rattle.verdict.specs.Verdict.{by_bits, compared, verdict_text, check_text};
 
@@ -13,15 +12,8 @@ use config::ClockConfig;
 use settings::Frequencies;
 use wording::{write_refused, write_setting};
 
-// Whether bit k is set.
-fn has_bit(mask: u32, k: u8) -> bool
-    requires { k < 32 }
-    ensures { result ≡ has_bit mask k }
-{
-    (mask >> k) % 2 == 1
-}
-
-// The plan of a sheet that was delivered and the plan that was ordered, at a reading.
+// The plan of a sheet that was delivered and the plan that was ordered, at a reading. The definitions take the three one by one,
+// since the theorems speak of each.
 #[derive(Clone, Copy)]
 struct Plans {
     reading: u8,
@@ -31,12 +23,11 @@ struct Plans {
 
 impl Plans {
     // The name of setting k and its two lines, where its bit is set.
-    #[tactic(auto, using(base::proofs::Writing::put_more, base::proofs::Writing::put_none), unfolding(crate::specs::Differs::part_text))]
+    #[tactic(auto, using(base::proofs::Writing::writing), unfolding(crate::specs::Differs::part_text))]
     fn write_part(&self, out: &mut Writer<'_, u8>, mask: u32, k: u8)
-        requires { k < 32 }
         ensures { Puts out.old (part_text mask k self.now.reading self.now.delivered self.now.ordered) out.new }
     {
-        if has_bit(mask, k) {
+        if meanings::has_bit(mask, k) {
             meanings::write_part_name(out, k);
             out.put_all(b"\n  delivered: ");
             write_setting(out, k, self.delivered, self.reading);
@@ -46,7 +37,7 @@ impl Plans {
     }
 
     // The texts of the thirteen settings.
-    #[tactic(auto, using(base::proofs::Writing::put_more, base::proofs::Writing::put_none, crate::proofs::Texts::parts_none, crate::proofs::Texts::parts_more))]
+    #[tactic(auto, using(crate::proofs::Texts::parts))]
     fn write_parts(&self, out: &mut Writer<'_, u8>, mask: u32)
         ensures { Puts out.old (part_texts mask self.now.reading self.now.delivered self.now.ordered 13) out.new }
     {
@@ -56,7 +47,7 @@ impl Plans {
     }
 
     // The settings that differ, delivered and ordered, and the clocks that run at another frequency.
-    #[tactic(auto, using(base::proofs::Writing::put_more), unfolding(crate::specs::Differs::differs_text))]
+    #[tactic(auto, using(base::proofs::Writing::writing), unfolding(crate::specs::Differs::differs_text))]
     fn write_differs(&self, out: &mut Writer<'_, u8>, mask: u32)
         ensures { Puts out.old (differs_text mask self.now.reading self.now.delivered self.now.ordered) out.new }
     {
@@ -68,7 +59,6 @@ impl Plans {
     }
 
     // The verdict on two plans that are accepted, by the settings that differ.
-    #[tactic(auto, using(std::proofs::lemmas::Bool::Decides::nat_tests))]
     fn write_by_bits(&self, out: &mut Writer<'_, u8>, mask: u32)
         ensures { Puts out.old (verdict_text self.now.reading (by_bits mask self.now.delivered self.now.ordered)) out.new }
     {
@@ -123,7 +113,7 @@ fn plan_hz(plan: ClockConfig, reading: u8) -> [u64; 10]
 }
 
 // A clock's line, where the two frequencies are not the same.
-#[tactic(auto, using(base::proofs::Writing::put_none, std::proofs::lemmas::Bool::Decides::nat_tests), unfolding(crate::specs::Differs::clock_text))]
+#[tactic(auto, using(base::proofs::Writing::put_none), unfolding(crate::specs::Differs::clock_text))]
 fn write_clock(out: &mut Writer<'_, u8>, clock: u64, delivered: u64, ordered: u64)
     ensures { Puts out.old (clock_text clock delivered ordered) out.new }
 {
@@ -134,7 +124,7 @@ fn write_clock(out: &mut Writer<'_, u8>, clock: u64, delivered: u64, ordered: u6
 }
 
 // The lines of the ten clocks.
-#[tactic(auto, using(base::proofs::Writing::put_more, base::proofs::Writing::put_none, crate::proofs::Texts::clocks_none, crate::proofs::Texts::clocks_more, crate::proofs::Texts::left))]
+#[tactic(auto, using(crate::proofs::Texts::clocks))]
 fn write_clocks(out: &mut Writer<'_, u8>, delivered: &[u64; 10], ordered: &[u64; 10])
     ensures { Puts out.old (clock_texts delivered.now ordered.now 10) out.new }
 {
@@ -143,8 +133,8 @@ fn write_clocks(out: &mut Writer<'_, u8>, delivered: &[u64; 10], ordered: &[u64;
     }
 }
 
-// Writes the verdict on a sheet that was written at a reading: `as ordered`, `differs` and the settings that differ, or the refusal
-// of the sheet, 18 or 26, or of the order.
+// Writes the verdict on a sheet that was written at a reading: `as ordered`, `differs` and the settings that differ, or the
+// refusal of the sheet, 18 or 26, or of the order.
 #[tactic(auto, unfolding(crate::specs::Verdict::verdict_of, crate::specs::Verdict::check_text))]
 pub fn write_verdict(
     out: &mut Writer<'_, u8>,

@@ -22,7 +22,7 @@ lines_of p s f =
     ∷ crystal_line s.xosc
     ∷ pll_line (ascii "pll_sys") f.sources.pll_sys (sys_pll_in p.xosc)
     ∷ pll_line (ascii "pll_usb") f.sources.pll_usb (usb_pll_in p.xosc)
-    ∷ voltage_line s.board.chip s.board.code
+    ∷ voltage_line s.board.chip s.board.volts.code
     ∷ settling_line s.settling
     ∷ ref_line f.reference s.reference
     ∷ sys_line f.sys s.sys s.board.whole s.board.fraction (facts_of s.board.chip).scale

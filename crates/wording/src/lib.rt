@@ -3,20 +3,19 @@
 #![tactic(auto)]
 
 ghost use Rattle.base.specs.Writing.{Puts};
-ghost use Rattle.replies.specs.Reply.{spaced};
-ghost use Rattle.numbers.specs.Row.{plan_row};
 ghost use Rattle.wording.specs.Words.{line_of, setting_line, setting_lines, left_out_text, plan_line, words_of};
 ghost use Rattle.wording.specs.Words.{refused_lines, explain_text};
 
 use base::Writer;
 use chip::Chip;
 use config::ClockConfig;
-use numbers::plan_row;
+use numbers::plan_row::{self, Row};
 use phrases::clocks::{self, Absent};
 use phrases::sources;
 use settings::{Frequencies, Settings};
 
-// The line of setting k, in the order of docs/FORMAT.md, Settings that count; nothing from 13 on.
+// The line of setting k, in the order of docs/FORMAT.md, Settings that count; nothing from 13 on. A setting goes by its number,
+// as the bits of a mask of differences do, and each number is taken.
 #[tactic(auto, using(base::proofs::Writing::writing, crate::proofs::Lines::line_past), unfolding(crate::specs::Words::line_of))]
 fn write_line(out: &mut Writer<'_, u8>, k: u8, plan: ClockConfig, s: Settings, f: Frequencies)
     ensures { Puts out.old (line_of k plan s f) out.new }
@@ -38,7 +37,7 @@ fn write_line(out: &mut Writer<'_, u8>, k: u8, plan: ClockConfig, s: Settings, f
             f.sources.pll_usb,
             plan_row::usb_pll(plan.xosc),
         ),
-        5 => sources::write_voltage(out, board.chip, board.code),
+        5 => sources::write_voltage(out, board.chip, board.volts.code),
         6 => sources::write_settling(out, s.settling),
         7 => clocks::write_ref(out, f.reference, s.reference),
         8 => {
@@ -63,6 +62,7 @@ pub fn write_setting(out: &mut Writer<'_, u8>, k: u8, plan: ClockConfig, reading
 }
 
 // The lines of the thirteen settings.
+#[tactic(auto, using(crate::proofs::Lines::settings))]
 fn write_settings(out: &mut Writer<'_, u8>, plan: ClockConfig, reading: u8)
     ensures { Puts out.old (setting_lines plan reading 13) out.new }
 {
@@ -72,11 +72,12 @@ fn write_settings(out: &mut Writer<'_, u8>, plan: ClockConfig, reading: u8)
 }
 
 // The blocks that the last release leaves out.
+#[tactic(auto, unfolding(crate::specs::Words::left_out_text))]
 fn write_left_out(out: &mut Writer<'_, u8>, s: Settings)
     ensures { Puts out.old (left_out_text s) out.new }
 {
     let no = Absent {
-        old: s.board.chip == Chip::Rp2040,
+        old: matches!(s.board.chip, Chip::Rp2040),
         peri: s.peri.is_none(),
         usb: s.usb.is_none(),
         adc: s.adc.is_none(),
@@ -85,22 +86,13 @@ fn write_left_out(out: &mut Writer<'_, u8>, s: Settings)
     clocks::write_left_out(out, no);
 }
 
-// The plan's numbers, each after a space.
-fn write_numbers(out: &mut Writer<'_, u8>, plan: ClockConfig)
-    ensures { Puts out.old (spaced (plan_row plan)) out.new }
-{
-    let mut row = [0u32; 48];
-    let n = plan_row::put_plan(&mut row, plan);
-    replies::write_spaced(out, &row[..n]);
-}
-
-// The line `plan` with these numbers.
+// The line `plan` with the plan's numbers.
 #[tactic(auto, using(base::proofs::Writing::writing), unfolding(crate::specs::Words::plan_line))]
 fn write_plan(out: &mut Writer<'_, u8>, plan: ClockConfig)
     ensures { Puts out.old (plan_line plan) out.new }
 {
     out.put_all(b"plan");
-    write_numbers(out, plan);
+    replies::write_spaced(out, Row::of(plan).as_slice());
     out.put(b'\n');
 }
 
@@ -114,7 +106,8 @@ fn write_words(out: &mut Writer<'_, u8>, plan: ClockConfig, reading: u8)
     write_plan(out, plan);
 }
 
-// Writes a refusal's number on a line, and on the next its meaning after the name of what is refused.
+// Writes a refusal's number on a line, and on the next its meaning after the name of what is refused. Any number may be given,
+// where a `Refusal` would admit fewer.
 #[tactic(auto, using(base::proofs::Writing::writing), unfolding(crate::specs::Words::refused_lines))]
 pub fn write_refused(out: &mut Writer<'_, u8>, what: &[u8], number: u8)
     ensures { Puts out.old (refused_lines what.now number) out.new }

@@ -1,5 +1,5 @@
--- `clock_parts::put_sys` meets its contract: the equations of the calls are the steps in turn, with the codes of `sys_aux` and
--- `sys_select`; `pushes-append` joins the switch.
+-- `clock_parts::put_sys` meets its contract: the equations of the calls are the steps in turn, with the codes of `aux` and
+-- `select`; `pushes-append` joins the switch.
 use Rattle.sheet_steps.specs.Steps.{sys_part}
 use Rattle.sheet_steps.proofs.Gathering.{pushes-append}
 use Rattle.clock_parts.proofs.put_sys.Goals as goal
@@ -9,14 +9,14 @@ unfolding sys_part
 returns c = rw (
   pushes-append,
   c.put_divider.ensures,
-  c.add-at-3.ensures,
   c.add-at-2.ensures,
-  c.put_switch-at.ensures,
   c.add-at.ensures,
+  c.put_switch-at.ensures,
+  c.store-at.ensures,
   c.from-select.ensures,
   c.from-aux.ensures,
   c.from.ensures,
   c.from-2.ensures,
-  c.sys_select.ensures,
-  c.sys_aux.ensures,
+  c.select.ensures,
+  c.aux.ensures,
 )

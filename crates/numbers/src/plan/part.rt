@@ -7,8 +7,8 @@ ghost use Rattle.numbers.specs.Plan.{chip_at};
 use chip::Chip;
 use chip::voltage::{CoreVoltage, CoreVoltage235};
 use config::{
-    AuxClkConfig, ChipConfig, DriveStrength, PeriClkSrc, RefClkConfig, RoscConfig, Rp235xConfig,
-    Rp2040Config, RtcClkConfig, XoscConfig,
+    AuxClkConfig, AuxClkSrc, ChipConfig, DriveStrength, PeriClkSrc, RefClkConfig, RefClkSrc,
+    RoscConfig, RoscRange, Rp235xConfig, Rp2040Config, RtcClkConfig, XoscConfig,
 };
 use fields::{byte_at, half_at, number_at};
 use pll::PllConfig;
@@ -20,7 +20,7 @@ pub(crate) fn ring(n: &[u32]) -> Option<RoscConfig>
 {
     (number_at(n, 0) == 1).then(|| RoscConfig {
         hz: number_at(n, 1),
-        range: settings::range_from(u64::from(number_at(n, 2))),
+        range: RoscRange::from(u64::from(number_at(n, 2))),
         drive_strength: strengths(n),
         div: half_at(n, 11),
     })
@@ -78,7 +78,7 @@ pub(crate) fn reference(n: &[u32]) -> RefClkConfig
     ensures { result ≡ reference_at n.now }
 {
     RefClkConfig {
-        src: settings::ref_from(u64::from(number_at(n, 28))),
+        src: RefClkSrc::from(u64::from(number_at(n, 28))),
         div: byte_at(n, 29),
     }
 }
@@ -88,7 +88,7 @@ pub(crate) fn reference(n: &[u32]) -> RefClkConfig
 pub(crate) fn peripheral(n: &[u32]) -> Option<PeriClkSrc>
     ensures { result ≡ peripheral_at n.now }
 {
-    (number_at(n, 33) == 1).then(|| settings::peri_from(u64::from(number_at(n, 34))))
+    (number_at(n, 33) == 1).then(|| PeriClkSrc::from(u64::from(number_at(n, 34))))
 }
 
 // The USB or the ADC clock, from index i on.
@@ -98,7 +98,7 @@ pub(crate) fn divided(n: &[u32], i: u8) -> Option<AuxClkConfig>
 {
     let at = usize::from(i);
     (number_at(n, at) == 1).then(|| AuxClkConfig {
-        src: settings::aux_from(u64::from(number_at(n, at + 1))),
+        src: AuxClkSrc::from(u64::from(number_at(n, at + 1))),
         div: byte_at(n, at + 2),
         phase: byte_at(n, at + 3),
     })
@@ -110,7 +110,7 @@ fn rtc(n: &[u32]) -> Option<RtcClkConfig>
     ensures { result ≡ rtc_at n.now }
 {
     (number_at(n, 43) == 1).then(|| RtcClkConfig {
-        src: settings::aux_from(u64::from(number_at(n, 44))),
+        src: AuxClkSrc::from(u64::from(number_at(n, 44))),
         div_int: number_at(n, 45),
         div_frac: byte_at(n, 46),
         phase: byte_at(n, 47),

@@ -7,7 +7,6 @@ use config::{
     AuxClkConfig, PeriClkSrc, RefClkConfig, RoscConfig, RtcClkConfig, SysClkSrc, XoscConfig,
 };
 use pll::PllConfig;
-use settings::{aux_code, peri_aux, range_code, ref_code, sys_code};
 
 // Flag, Hz, range code, eight strengths, divider.
 pub(crate) fn ring(ring: Option<RoscConfig>) -> [u32; 12]
@@ -19,7 +18,7 @@ pub(crate) fn ring(ring: Option<RoscConfig>) -> [u32; 12]
             [
                 1,
                 on.hz,
-                u32::from(range_code(on.range)),
+                u32::from(u8::from(on.range)),
                 u32::from(d.s0),
                 u32::from(d.s1),
                 u32::from(d.s2),
@@ -86,7 +85,7 @@ pub(crate) fn first(code: u8, given: Option<u32>, reference: RefClkConfig) -> [u
         u32::from(code),
         flag,
         time,
-        u32::from(ref_code(reference.src)),
+        u32::from(u8::from(reference.src)),
         u32::from(reference.div),
     ]
 }
@@ -95,7 +94,7 @@ pub(crate) fn first(code: u8, given: Option<u32>, reference: RefClkConfig) -> [u
 pub(crate) fn sys(src: SysClkSrc, whole: u32, fraction: u16) -> [u32; 3]
     ensures { result ≡ sys_row src whole fraction }
 {
-    [u32::from(sys_code(src)), whole, u32::from(fraction)]
+    [u32::from(u8::from(src)), whole, u32::from(fraction)]
 }
 
 // Flag and source of the peripheral clock.
@@ -103,7 +102,7 @@ pub(crate) fn peri(peri: Option<PeriClkSrc>) -> [u32; 2]
     ensures { result ≡ peri_row peri }
 {
     match peri {
-        Some(src) => [1, u32::from(peri_aux(src))],
+        Some(src) => [1, u32::from(u8::from(src))],
         None => [0; 2],
     }
 }
@@ -116,7 +115,7 @@ pub(crate) fn aux(aux: Option<AuxClkConfig>) -> [u32; 4]
         Some(on) => {
             [
                 1,
-                u32::from(aux_code(on.src)),
+                u32::from(u8::from(on.src)),
                 u32::from(on.div),
                 u32::from(on.phase),
             ]
@@ -133,7 +132,7 @@ pub(crate) fn rtc(rtc: Option<RtcClkConfig>) -> [u32; 5]
         Some(on) => {
             [
                 1,
-                u32::from(aux_code(on.src)),
+                u32::from(u8::from(on.src)),
                 on.div_int,
                 u32::from(on.div_frac),
                 u32::from(on.phase),

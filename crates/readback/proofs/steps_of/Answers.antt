@@ -6,7 +6,8 @@ use Rattle.readback.proofs.steps_of.Goals as goal
 pub loop-step-preserved : goal.loop-step-preserved
 loop-step-preserved c =
     let s = c.in-Some.ensures.steps in
-    rw c.push.ensures (one_onward _ _ _ _ _ _ _ _ c.loop-step.invariant s.0 s.1 (c.unwrap_or.ensures ∙ unwrapped c.in-Some.step))
+    one_onward _ _ _ _ _ _ _ _ _ c.loop-step.invariant s.0 s.1 (c.unwrap_or.ensures ∙ unwrapped c.in-Some.step)
+    c.push.ensures.room
 
 pub returns : goal.returns
 returns c =

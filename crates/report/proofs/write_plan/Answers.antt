@@ -1,24 +1,20 @@
--- `report::write_plan` meets its contract: where `init` answers a length, the bytes up to it are the sheet, and its run
--- has the numbers of the report (`written-report`); a refusal is the plan's own, since the buffer is enough for every
--- RP2040 sheet (`refused-report`).
-use mathlib.Core.Path.{refl, sym, ap}
-use lib.Seq.{length-take-le}
-use Rattle.base.specs.{Answer.answer_of, Refusals.number_of}
-use Rattle.report.proofs.{Ends.written-fits, Ends.written-report, Ends.refused-report}
+-- `report::write_plan` meets its contract: where `init` answers a length, the bytes up to it are the sheet, and its run has the
+-- numbers of the report (`written-report`); a refusal is the plan's own, since the buffer is enough for every RP2040 sheet
+-- (`refused-report`).
+use mathlib.Core.Path.{refl}
+use Rattle.sheet.proofs.Kept.{kept}
+use Rattle.report.proofs.{Ends.written-report, Ends.refused-report}
 use Rattle.report.proofs.write_plan.Goals as goal
 
 pub slice_bounds-bytes-end : goal.slice_bounds-bytes-end
-slice_bounds-bytes-end c = written-fits _ _ _ _ c.init.ensures _ (ap answer_of c.in-Ok.is)
+slice_bounds-bytes-end c = (kept c.init.ensures _ c.in-Ok.is).inside
 
 pub slice_bounds-run-end : goal.slice_bounds-run-end
-slice_bounds-run-end c = sym (length-take-le _ _ (written-fits _ _ _ _ c.init.ensures _ (ap answer_of c.in-Ok.is)))
+slice_bounds-run-end c = (kept c.init.ensures _ c.in-Ok.is).whole
 
 pub returns-in-Ok : goal.returns-in-Ok
-returns-in-Ok c =
-    rw (← written-report _ _ _ _ c.init.ensures c.in-Ok.n (ap answer_of c.in-Ok.is), ← c.run.ensures)
-    c.write_numbers.ensures
+returns-in-Ok c = rw (← written-report _ c.init.ensures c.in-Ok.n c.in-Ok.is, ← c.run.ensures) c.write_numbers.ensures
 
 pub returns-in-Err : goal.returns-in-Err
 returns-in-Err c =
-    rw (← refused-report _ _ _ _ c.init.ensures (number_of c.in-Err.why) c.requires refl (ap answer_of c.in-Err.is))
-    c.write_refused_line.ensures
+    rw (← refused-report _ c.init.ensures c.requires refl c.in-Err.why c.in-Err.is) c.write_refused_line.ensures

@@ -1,6 +1,6 @@
 -- `trial::run` meets its contract: `begins` gives the runner at the start, and each call makes one more draw
 -- (`draw-next`) and one more step of the runner (`runner-next`).
-use Rattle.std.proofs.Common.{◌≡◌, refl, ap, ◌∙◌, arith, rules}
+use Rattle.std.proofs.Common.{◌≡◌, refl, ap, ◌∙◌, arith}
 use Rattle.bring_up.specs.Wait.{runner_after}
 use Rattle.trial.specs.Lcg.{drawn}
 use Rattle.trial.specs.Load.{flags}

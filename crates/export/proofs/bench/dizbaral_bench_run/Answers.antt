@@ -9,11 +9,15 @@ use Rattle.numbers.proofs.Boards.{over-number, over-leaves, bad-number, bad-leav
 use Rattle.export.proofs.bench.dizbaral_bench_run.Goals as goal
 
 pub returns-then-board-gt7 : goal.returns-then-board-gt7
-returns-then-board-gt7 c = let over = c.if-board-gt7.true in record { value = c.refused.ensures ∙ over-number _ _ _ _ _ over; bench_after = over-leaves _ _ _ _ _ over }
+returns-then-board-gt7 c =
+    let over = c.if-board-gt7.true in
+    record { value = c.refused.ensures ∙ over-number _ _ _ _ _ over; bench_after = over-leaves _ _ _ _ _ over }
 
 pub returns-then-one-gt1 : goal.returns-then-one-gt1
-returns-then-one-gt1 c = let few = c.if-board-gt7.false in
-    let bad = rw c.runner_at-one.ensures at c.if-one-gt1.true in record { value = bad-number _ _ _ _ _ few bad; bench_after = bad-leaves _ _ _ _ _ few bad }
+returns-then-one-gt1 c =
+    let few = c.if-board-gt7.false in
+    let bad = rw c.runner_at-one.ensures at c.if-one-gt1.true in
+    record { value = bad-number _ _ _ _ _ few bad; bench_after = bad-leaves _ _ _ _ _ few bad }
 
 pub returns : goal.returns
 returns c = let few = c.if-board-gt7.false in

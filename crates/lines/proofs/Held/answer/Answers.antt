@@ -1,10 +1,8 @@
--- `Held::answer` meets its contract: `placed-append` adds the newline to the answer.
-use borrow.Author.Tests.{le-ltb}
-use Rattle.base.proofs.Placing.{placed-append}
-use Rattle.lines.specs.Lines.{held_text}
+-- `Held::answer` meets its contract: what a new writer was given stands at the start of the buffer, by `finished`.
+use Rattle.std.proofs.Common.{rules}
+use Rattle.base.proofs.Writing.{finished}
 use Rattle.lines.proofs.Held.answer.Goals as goal
 
-pub returns-clause-placed : goal.returns-clause-placed
-unfolding held_text
-returns-clause-placed c =
-    rw (le-ltb _ _ c.if-len-gt4096.false) (placed-append c.answer-end.ensures.placed c.put-2.ensures)
+pub returns : goal.returns
+returns c = let p = finished c.new-out.result c.write_answer.new.out _ c.new-out.ensures c.write_answer.ensures.puts in
+    record { placed = search rules; short = c.write_answer.ensures.short }

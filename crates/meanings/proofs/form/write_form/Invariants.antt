@@ -8,4 +8,5 @@ use Rattle.meanings.proofs.form.write_form.Given as goal
 
 abbrev pub invariant-loop-c : goal.invariant-loop-c
 invariant-loop-c l =
-    puts (written l.out) (formed (drop l.c-index l.form) (iter_rest l.numbers)) ≡ puts (written l.initial.out) (formed l.form l.ns)
+    puts (written l.out) (formed (drop l.c-index l.form) (iter_rest l.numbers))
+    ≡ puts (written l.initial.out) (formed l.form l.ns)

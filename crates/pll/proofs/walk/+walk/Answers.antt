@@ -5,7 +5,6 @@ use native.Mathlib.Omega.{arith}
 use Prim.Native.Nat.{ℕ, ◌≤◌}
 use Rattle.pll.specs.{Ranges.reference_min, Law.VcoPermits, Ends.walked_of, Ends.Among}
 use Rattle.pll.proofs.{Ends.permits-between, Ends.lowest-right, Walked.walk-takes-permitted, Steps.stop-exact, Steps.stop-last}
-use Rattle.pll.proofs.Steps.{walk-on}
 use Rattle.pll.proofs.walk.+walk.Goals as goal
 
 -- a divider that the walk takes is permitted
@@ -38,8 +37,3 @@ walk-requires t c =
         (omega arith, omega (arith, now.lower)),
       ),
     )
-
-pub returns : goal.returns
-returns t c =
-    let now = c.best_posts-now.ensures in
-    walk-on _ _ _ _ _ now.found (omega arith) _ (rw now.lower at c.walk.ensures)

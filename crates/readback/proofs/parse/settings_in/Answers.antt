@@ -3,6 +3,7 @@
 use mathlib.Core.{Path.◌≡◌, Path.refl, Path.sym, List.List}
 use lib.ListN.{drop}
 use Rattle.step.specs.declared.Step.{Step}
+use Rattle.step.specs.declared.kind.Kind.TheVariants as kind
 use Rattle.sheet.specs.Read.{read_chip, read_ring, read_voltage, read_crystal, past_tick, read_ref, read_sys, read_peri, read_aux}
 use Rattle.readback.specs.{Steps.value_in, Steps.rest_in, Cut.cut_ring, Cut.cut_crystal, Cut.cut_ref, Cut.cut_aux, Cut.cut_settings}
 use Rattle.readback.specs.Parse.{chip_taken, ring_taken, voltage_taken, crystal_taken, ref_taken, sys_taken, peri_taken, usb_taken, adc_taken}
@@ -25,8 +26,8 @@ returns c =
     rw (ref.rest, ← chip.value, past-tick, ← c.ticks.ensures) (sym c.past-3.ensures) in
     let sys = goes_on read_sys (λ s. s) _ _ _ c.read_sys.ensures tick in
     let peri = goes_on read_peri (λ p. p) _ _ _ c.read_peri-peri.ensures sys.rest in
-    let usb = goes_on (read_aux 31) cut_aux _ _ _ c.read_aux-usb.ensures peri.rest in
-    let adc = goes_on (read_aux 33) cut_aux _ _ _ c.read_aux-adc.ensures usb.rest in
+    let usb = goes_on (read_aux kind.UsbDivider) cut_aux _ _ _ c.read_aux-usb.ensures peri.rest in
+    let adc = goes_on (read_aux kind.AdcDivider) cut_aux _ _ _ c.read_aux-adc.ensures usb.rest in
     rw (settings-there c.args.reading xs, adc.rest, ← adc.value, ← usb.value, ← peri.value)
     (rw (← sys.value, ← ref.value, ← crystal.value, ← voltage.value, ← ring.value, ← chip.value)
     (rw (c.board.ensures.0, ← c.read_config-chip.ensures)))

@@ -1,13 +1,5 @@
--- `registers::row::row` meets its contract: the arms that the search leaves, a release and an unknown kind, which has no row (`none`).
-use Rattle.registers.specs.Access.{rows}
-use borrow.Author.Rules.{rules}
-use Rattle.registers.proofs.Rows.{none}
+-- `registers::row::row` meets its contract: the arm of a release, which the search leaves.
 use Rattle.registers.proofs.row.row.Goals as goal
 
-pub returns-in-2 : goal.returns-in-2
-unfolding rows
-returns-in-2 c = rw (c.in-2.is, c.field-in-2.ensures.0, c.on-in-2.ensures)
-
-pub returns-in_default : goal.returns-in_default
-unfolding rows
-returns-in_default c = none c.args.s.kind c.args.chip c.args.s (search rules)
+pub returns-in-Release : goal.returns-in-Release
+returns-in-Release c = rw (c.in-Release.is, c.field-in-Release.ensures.0, c.on-in-Release.ensures)

@@ -12,4 +12,4 @@ pub returns : goal.returns
 unfolding pack_of widths
 returns c = let w = c.layout-w.ensures in
     rw (c.place.ensures.0, c.place-r0.ensures.0, c.place-r1.ensures.0, c.place-r2.ensures.0)
-    (rw (c.place-r3.ensures.0, c.place-r4.ensures.0, w.at0, w.at1, w.at2, w.at3, w.at4))
+    (rw (c.place-r3.ensures.0, c.place-r4.ensures.0, w.at0, w.at1, w.at2, w.at3, w.at4, c.from-2.ensures, c.from.ensures))

@@ -1,5 +1,6 @@
 -- `step::packing::unpack_as` meets its contract: the layout gives the widths, `bits` each field and `low` the spare bits; the
--- kind is known by the precondition, so the test of the code decides (`unpack-known`).
+-- kind is known by the precondition, so the test of the code decides (`unpack-known`). The equations stand in both answers, since
+-- the facts of each are a record of its own: a lemma would take all eleven as premises, and be longer.
 use native.Mathlib.Omega.{arith}
 use Rattle.step.specs.Layout.{widths}
 use Rattle.step.specs.Steps.{kind_in, step_in, spare_in}
@@ -23,7 +24,7 @@ returns-then-not-sound c =
       w.at4,
       kind,
     ) at c.if-not-sound.true in
-    rw (unpack-known c.args.word (omega arith) (omega arith), sound)
+    rw (unpack-known c.args.word (rw kind at c.requires.1), sound)
 
 pub returns : goal.returns
 unfolding spare_in step_in kind_in widths
@@ -42,6 +43,6 @@ returns c =
       w.at4,
       kind,
     ) at c.if-not-sound.false in
-    rw (unpack-known c.args.word (omega arith) (omega arith), sound)
+    rw (unpack-known c.args.word (rw kind at c.requires.1), sound)
     (rw (c.bits-f4.ensures.0, c.bits-f3.ensures.0, c.bits-f2.ensures.0, c.bits-f1.ensures.0)
     (rw (c.bits-f0.ensures.0, w.at0, w.at1, w.at2, w.at3, w.at4, kind)))

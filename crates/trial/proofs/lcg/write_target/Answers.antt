@@ -2,11 +2,8 @@
 -- so the refusal cannot occur; the row and the newline are the line.
 use Rattle.std.proofs.Common.{◌≡◌, ℕ, ◌∙◌, arith}
 use Rattle.base.specs.Answer.{Answer, value, refusal}
-use Rattle.base.specs.Writing.{written}
-use Rattle.base.proofs.Writing.{put_then}
 use Rattle.pll.specs.declared.PllConfig.{PllConfig}
 use Rattle.pll.proofs.Inputs.{search-finds}
-use Rattle.trial.specs.Targets.{target_line}
 use Rattle.trial.proofs.lcg.write_target.Goals as goal
 
 never : {n : ℕ} {p : PllConfig} → ◌≡◌ {A = Answer PllConfig} (refusal n) (value p) → ⊥

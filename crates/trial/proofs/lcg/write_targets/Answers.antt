@@ -1,5 +1,5 @@
 -- `trial::lcg::write_targets` meets its contract: one more draw (`draw-next`) appends one more line (`lines_next`).
-use Rattle.std.proofs.Common.{◌≡◌, refl, sym, arith, rules}
+use Rattle.std.proofs.Common.{◌≡◌, refl, sym, arith}
 use Rattle.base.specs.Writing.{written}
 use Rattle.base.proofs.Writing.{put_none, put_then}
 use Rattle.trial.specs.{Lcg.drawn, Targets.target_lines}

@@ -1,5 +1,4 @@
 -- `verdict::Plans::write_compared` meets its contract: an order that is accepted leaves it to the settings that differ.
-use mathlib.Core.Path.{sym}
 use Rattle.verdict.proofs.Compared.{accepted_order}
 use Rattle.verdict.proofs.Plans.write_compared.Goals as goal
 

@@ -8,4 +8,6 @@ pub loop-slot-init : goal.loop-slot-init
 loop-slot-init c = none_put slot_numbers c.args.slots.now _
 
 pub loop-slot-preserved : goal.loop-slot-preserved
-loop-slot-preserved c = one_put slot_numbers c.args.slots.now _ c.loop-slot.slot-index _ _ _ (omega arith) c.loop-slot.invariant c.put_slot.ensures
+loop-slot-preserved c =
+    let slots = c.args.slots.now in
+    one_put slot_numbers slots _ c.loop-slot.slot-index _ _ _ (omega arith) c.loop-slot.invariant c.put_slot.ensures

@@ -8,4 +8,6 @@ pub loop-step-init : goal.loop-step-init
 loop-step-init c = none_put step_numbers c.as_slice-step-items.result.now _
 
 pub loop-step-preserved : goal.loop-step-preserved
-loop-step-preserved c = one_put step_numbers c.as_slice-step-items.result.now _ c.loop-step.step-index _ _ _ (omega arith) c.loop-step.invariant c.put_step.ensures
+loop-step-preserved c =
+    let steps = c.as_slice-step-items.result.now in
+    one_put step_numbers steps _ c.loop-step.step-index _ _ _ (omega arith) c.loop-step.invariant c.put_step.ensures
