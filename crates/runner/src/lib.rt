@@ -8,6 +8,7 @@ ghost use Rattle.std.specs.Prelude.{◌≡◌, ◌≤◌, length};
 ghost use Rattle.base.specs.Answer.{answer_of};
 ghost use Rattle.step.specs.Sheet.{max_bytes};
 ghost use Rattle.step.specs.Clocks.{clock_number};
+ghost use Rattle.text.specs.Ascii.{same};
 ghost use Rattle.runner.specs.Run.{outcome, turn_of, stepper_of, advance_of, start_of};
 ghost use Rattle.runner.specs.Run.{fresh_stepper, fresh, freq_of, padded};
 
@@ -72,7 +73,7 @@ impl State {
             return Err(Refusal::LockTimeout);
         }
         let bytes = kept.bytes;
-        if !text::same_bytes(&bytes[..kept.len], sheet) {
+        if !same_bytes(&bytes[..kept.len], sheet) {
             return Err(Refusal::OtherSheet);
         }
         self.onward(sheet, ready)
@@ -183,4 +184,19 @@ fn keep(sheet: &[u8]) -> [u8; MAX_BYTES]
     let mut kept = [0u8; MAX_BYTES];
     kept[..sheet.len()].copy_from_slice(sheet);
     kept
+}
+
+// Whether a and b hold the same bytes. It looks at all of them, so that it is short and compares several bytes at a time; the
+// library's `==` of slices takes 1556 bytes of a firmware.
+fn same_bytes(a: &[u8], b: &[u8]) -> bool
+    ensures { result ≡ same a.now b.now }
+{
+    if a.len() != b.len() {
+        return false;
+    }
+    let mut equal = true;
+    for (x, y) in a.iter().zip(b) {
+        equal &= x == y;
+    }
+    equal
 }
