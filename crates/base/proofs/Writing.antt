@@ -1,5 +1,6 @@
 -- Laws of writers.
-use mathlib.Core.{Path.◌≡◌, Path.refl, Path.sym, Path.ap, Path.◌∙◌, List.List, List.[], List.◌∷◌, List.◌++◌, List.append-nil, List.append_assoc}
+use mathlib.Core.Path.{◌≡◌, refl, sym, ap, ◌∙◌}
+use mathlib.Core.List.{List, [], ◌∷◌, ◌++◌, append-nil, append_assoc}
 use Rattle.std.specs.Prelude.{ℕ, ◌+◌, min, max}
 use lib.ListN.{length, length-append}
 use native.Mathlib.{Omega.arith}

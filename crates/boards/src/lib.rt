@@ -10,8 +10,8 @@ use base::Refusal;
 use runner::{Kept, Reply, Runner, Stepper};
 use step::MAX_BYTES;
 
-// Eight boards, and the sheet that all were started with: `len` bytes, followed by zeros. The two are fields of their own, as C
-// lends a bench as numbers and may write any length.
+// Eight boards, and the sheet that all were started with: `len` bytes, followed by zeros. The two are fields of their own, as a
+// bench may have any length: one that no sheet has is refused with 21.
 #[derive(Clone, Copy)]
 pub struct Bench {
     pub boards: [Stepper; 8],
@@ -31,7 +31,8 @@ impl Bench {
         }
     }
 
-    // One call for a board; refuses with 28 a number over 7, then as the runner.
+    // One call for a board; refuses with 28 a number over 7, then as the runner. The number is tested by hand, since of `get_mut` the
+    // library does not say what the boards end as.
     #[tactic(auto, using(std::proofs::lemmas::Bool::Decides::nat_tests), unfolding(crate::specs::Bench::bench_of))]
     pub fn poll(&mut self, board: u8, sheet: &[u8], ready: bool) -> Result<Reply, Refusal>
         ensures { outcome (answer_of result) self.new ≡ bench_of self.old board sheet.now ready }
@@ -46,8 +47,8 @@ impl Bench {
         self.boards[board as usize].poll(kept, sheet, ready)
     }
 
-    // One call for a board by value: its answer, and the bench after it. The calls by value stay beside those in place, as
-    // programs and theorems name them.
+    // One call for a board by value: its answer, and the bench after it. The calls by value are the public
+    // forms beside those in place (docs/DECISIONS.md, 19 and 20).
     pub fn advance(self, board: u8, sheet: &[u8], ready: bool) -> (Result<Reply, Refusal>, Self)
         ensures { outcome (answer_of result.0) result.1 ≡ bench_of self board sheet.now ready }
     {

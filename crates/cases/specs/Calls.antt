@@ -60,7 +60,7 @@ manual_text n = manual_with n (core_voltage_of Rp2040 (byte_at n 5))
 
 -- READING ROOM CHIP PLAN
 abbrev pub plan_at : List ℕ → ℕ → List ℕ
-plan_at n count = pick (ltb count 3) [] (pick (ltb 128 count) [] (take (count - 3) (drop 3 n)))
+plan_at n count = pick (ltb count 3) [] (pick (ltb (length n) count) [] (take (count - 3) (drop 3 n)))
 
 abbrev pub sheet_in : Option (Answer ClockConfig) → ℕ → List ℕ → List ℕ
 sheet_in plan reading buffer = written_text (sheet_number plan reading buffer) (sheet_buffer plan reading buffer)

@@ -101,7 +101,7 @@ all_cases =
 
 -- the case with a name
 abbrev pub case_named : List ℕ → Option Case
-case_named word = find (λ c. same (name_of c) word) all_cases
+case_named word = find (λ c. same word (name_of c)) all_cases
 
 abbrev pub is_case : List ℕ → Bool
 is_case word = is_some (case_named word)

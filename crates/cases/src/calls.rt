@@ -72,7 +72,7 @@ pub(crate) fn write_manual(out: &mut Writer<'_, u8>, n: &[u32; 128])
 fn plan_at(words: &Words) -> &[u32]
     ensures { result.now ≡ plan_at words.now.row words.now.count }
 {
-    words.row.get(3..words.count).unwrap_or(&[])
+    words.numbers_past(3).unwrap_or(&[])
 }
 
 // The case `sheet`: READING ROOM CHIP PLAN.
@@ -138,8 +138,8 @@ pub(crate) fn write_bench_run(out: &mut Writer<'_, u8>, words: &Words)
     write(out, r, &bench, b"");
 }
 
-// The row of words, slots and steps that a sleep or a wake leaves. The index goes on by hand: three calls of a writer would be no
-// plainer.
+// The row of words, slots and steps that a sleep or a wake leaves. The index goes on by hand: a writer was tried, and the check does
+// not find that the row is what it put.
 fn changed_row(words: &[u32; 11], slots: &[u32; 48], steps: &[u32; 28]) -> [u32; 87]
     ensures { result ≡ changed_row words.now slots.now steps.now }
 {

@@ -17,6 +17,7 @@ use fields::{byte_at, pll_at};
 use numbers::answers;
 use say::{write_found, write_one, write_plan, write_planned};
 use table::Case;
+use text::find_named;
 use words::Words;
 
 // Answers a case from its words; a case's first word of hex is SHEET.
@@ -63,7 +64,7 @@ fn write_case(out: &mut Writer<'_, u8>, case: Case, words: &Words)
 pub fn is_case(word: &[u8]) -> bool
     ensures { result ≡ is_case word.now }
 {
-    Case::named(word).is_some()
+    find_named(&Case::ALL, word).is_some()
 }
 
 // Writes the answer to a line; of a line that is no case it is malformed.
@@ -72,7 +73,7 @@ pub fn write_answer(out: &mut Writer<'_, u8>, line: &[u8])
     ensures { Says out.old (answer_to line.now) out.new }
 {
     let (name, rest) = words::first_word(line);
-    let Some(case) = Case::named(name) else {
+    let Some(case) = find_named(&Case::ALL, name) else {
         return write_one(out, answers::MALFORMED);
     };
     match Words::read(case.letters(), rest) {

@@ -15,7 +15,7 @@ fn show(rt: &impl Print, name: &str, n: u64) -> io::Result<()> {
     println!(rt; "{name} {n}")
 }
 
-// Runs a sheet until done; a call is ready after the answer waiting.
+// Runs a sheet until done; a call is ready after the answer waiting. `run` of report says why the two are not one.
 fn run(sheet: &[u8]) -> Runner {
     let mut runner = Runner::new();
     let _opened = runner.start(sheet);

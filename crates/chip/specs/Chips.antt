@@ -1,7 +1,8 @@
 -- The numbers in which the RP2040 and the RP235x differ (docs/RP235X.md). `gpout` lists the clock of each Gpout source code from
--- 0 on: 0 ring, 1 crystal, 2 PLL sys, 3 PLL USB, 4 reference, 5 system, 7 USB, 8 ADC; 10 means no clock.
-use Rattle.std.specs.Prelude.{[], ◌∷◌, ◌+◌, ◌-◌, ◌^◌}
+-- 0 on; none is for a code that no clock has.
+use Rattle.std.specs.Prelude.{[], ◌∷◌, ◌+◌, ◌-◌, ◌^◌, Some, None}
 use Rattle.step.specs.declared.kind.Kind.TheVariants as kind
+use Rattle.step.specs.declared.clock.Clock.TheVariants as clock
 use Rattle.chip.specs.declared.{Chip.Chip, Chip.TheVariants.Rp2040, Chip.TheVariants.Rp235x, Facts.Facts}
 
 abbrev pub facts_of : Chip → Facts
@@ -23,7 +24,10 @@ facts_of Rp2040 =
       rtc = 2 ^ 15;  -- RTC
       preset_hz = 125000000;
       preset_post = 6;
-      gpout = 2 ∷ 10 ∷ 10 ∷ 3 ∷ 0 ∷ 1 ∷ 5 ∷ 7 ∷ 8 ∷ 10 ∷ 4 ∷ 10 ∷ [];
+      gpout =
+          Some clock.PllSys ∷ None ∷ None ∷ Some clock.PllUsb  -- 0 to 3
+          ∷ Some clock.Rosc ∷ Some clock.Xosc ∷ Some clock.Sys ∷ Some clock.Usb  -- 4 to 7
+          ∷ Some clock.Adc ∷ None ∷ Some clock.Ref ∷ None ∷ [];  -- 8 to 11
     }
 facts_of Rp235x =
     record {
@@ -43,5 +47,8 @@ facts_of Rp235x =
       rtc = 0;
       preset_hz = 150000000;
       preset_post = 5;
-      gpout = 2 ∷ 10 ∷ 10 ∷ 3 ∷ 10 ∷ 0 ∷ 1 ∷ 10 ∷ 5 ∷ 7 ∷ 8 ∷ 4 ∷ [];
+      gpout =
+          Some clock.PllSys ∷ None ∷ None ∷ Some clock.PllUsb  -- 0 to 3
+          ∷ None ∷ Some clock.Rosc ∷ Some clock.Xosc ∷ None  -- 4 to 7
+          ∷ Some clock.Sys ∷ Some clock.Usb ∷ Some clock.Adc ∷ Some clock.Ref ∷ [];  -- 8 to 11
     }

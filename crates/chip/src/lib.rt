@@ -6,7 +6,7 @@ pub mod voltage;
 ghost use Rattle.std.specs.Prelude.{◌≡◌};
 ghost use Rattle.chip.specs.Chips.{facts_of};
 
-use step::Kind;
+use step::{Clock, Kind};
 
 #[derive(Clone, Copy, PartialEq, Eq)]
 pub enum Chip {
@@ -33,7 +33,7 @@ pub struct Facts {
     pub rtc: u32, // RESETS bits of the blocks on the RTC clock
     pub preset_hz: u32, // the system frequency of the crystal preset
     pub preset_post: u8, // the first post divider of the crystal preset
-    pub gpout: [u8; 12], // the clock of each Gpout source code, 10 for none: a lookup among twelve options takes longer
+    pub gpout: [Option<Clock>; 12], // the clock of each Gpout source code, which is beside it below
 }
 
 impl Chip {
@@ -59,7 +59,20 @@ impl Chip {
                 rtc: 0x8000,
                 preset_hz: 125000000,
                 preset_post: 6,
-                gpout: [2, 10, 10, 3, 0, 1, 5, 7, 8, 10, 4, 10],
+                gpout: [
+                    Some(Clock::PllSys), // 0
+                    None, // 1
+                    None, // 2
+                    Some(Clock::PllUsb), // 3
+                    Some(Clock::Rosc), // 4
+                    Some(Clock::Xosc), // 5
+                    Some(Clock::Sys), // 6
+                    Some(Clock::Usb), // 7
+                    Some(Clock::Adc), // 8
+                    None, // 9
+                    Some(Clock::Ref), // 10
+                    None, // 11
+                ],
             },
             Chip::Rp235x => Facts {
                 top_reading: 31,
@@ -78,7 +91,20 @@ impl Chip {
                 rtc: 0,
                 preset_hz: 150000000,
                 preset_post: 5,
-                gpout: [2, 10, 10, 3, 10, 0, 1, 10, 5, 7, 8, 4],
+                gpout: [
+                    Some(Clock::PllSys), // 0
+                    None, // 1
+                    None, // 2
+                    Some(Clock::PllUsb), // 3
+                    None, // 4
+                    Some(Clock::Rosc), // 5
+                    Some(Clock::Xosc), // 6
+                    None, // 7
+                    Some(Clock::Sys), // 8
+                    Some(Clock::Usb), // 9
+                    Some(Clock::Adc), // 10
+                    Some(Clock::Ref), // 11
+                ],
             },
         }
     }

@@ -61,6 +61,7 @@ fn put_switch(words: &mut Words, at: usize, select: u64) -> usize
     add(words, at, Kind::WaitSys, [0])
 }
 
+// Appends the system divider, with an arm for each chip as `put_code` of source_parts has.
 fn put_divider(words: &mut Words, at: usize, chip: Chip, whole: u64, fraction: u64) -> usize
     ensures { held words.new result ≡ pushed (held words.old at) (step2 (facts_of chip).divider whole fraction) }
 {
@@ -98,6 +99,7 @@ fn put_peri(words: &mut Words, at: usize, hz: u64, peri: Option<PeriClkSrc>) -> 
 }
 
 // Appends the part of the USB or the ADC clock with its kinds of steps. The divider field has two bits and holds 4 as 0.
+// The kinds and the clock are no struct, which would be made for the two calls alone.
 #[tactic(auto, unfolding(sheet_steps::specs::Steps::aux_part))]
 fn put_aux(
     words: &mut Words,

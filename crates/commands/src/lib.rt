@@ -9,13 +9,14 @@ ghost use Rattle.std.specs.Prelude.{◌≡◌};
 ghost use Rattle.base.specs.Answer.{answer_in};
 ghost use Rattle.base.specs.Placed.{Placed};
 ghost use Rattle.base.specs.Writing.{Puts};
-ghost use Rattle.commands.specs.Commands.{command_name, command_named, explain_of, steps_of};
+ghost use Rattle.commands.specs.Commands.{command_name, explain_of, steps_of};
 ghost use Rattle.commands.specs.Commands.{checked, compared_of, check_of, answer_of};
 
 use base::Writer;
 use fields::byte_at;
 pub use made::{Made, make};
 use orders::Planned;
+use text::{Named, find_named};
 pub use texts::{Usage, write_usage};
 use words::{Words, first_word, next_word};
 
@@ -35,26 +36,18 @@ impl Command {
         Command::Steps,
         Command::Check,
     ];
+}
 
-    fn name(self) -> &'static [u8]
-        ensures { result.now ≡ command_name self }
-    {
+impl Named for Command {
+    ghost the_name = { command_name };
+
+    fn name(self) -> &'static [u8] {
         match self {
             Command::Help => b"help",
             Command::Explain => b"explain",
             Command::Steps => b"steps",
             Command::Check => b"check",
         }
-    }
-
-    // The command with this name.
-    fn named(word: &[u8]) -> Option<Command>
-        ensures { result ≡ command_named word.now }
-    {
-        Command::ALL
-            .iter()
-            .copied()
-            .find(|command| word == command.name())
     }
 }
 
@@ -128,7 +121,7 @@ fn write_answer(out: &mut Writer<'_, u8>, line: &[u8])
     if name.is_empty() {
         return texts::write_help(out);
     }
-    match Command::named(name) {
+    match find_named(&Command::ALL, name) {
         Some(Command::Help) => texts::write_help(out),
         Some(Command::Explain) => write_explain(out, rest),
         Some(Command::Steps) => write_steps(out, rest),

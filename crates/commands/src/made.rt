@@ -9,7 +9,8 @@ use orders::Planned;
 // The number of bytes written or a refusal; None where the words are not READING ORDER.
 pub type Made = Option<Result<usize, Refusal>>;
 
-// Writes the sheet of the ordered plan; None where there is no order.
+// Writes the sheet of the ordered plan; None where there is no order. A refusal is passed on by hand: `and_then` would take the lent
+// sheet into a closure, of which all that `init` promises would have to be said again.
 fn write(order: Option<Planned>, reading: u8, sheet: &mut [u8]) -> Made
     ensures { MadeCall (answer_in order) reading sheet.old result sheet.new }
 {
@@ -23,11 +24,7 @@ fn write(order: Option<Planned>, reading: u8, sheet: &mut [u8]) -> Made
 fn write_at(reading: Result<u32, Refusal>, rest: &[u8], sheet: &mut [u8]) -> Made
     ensures { MadeCall (order_in (answer_of reading) rest.now) (reading_in (answer_of reading)) sheet.old result sheet.new }
 {
-    let n = reading.ok()?;
-    if 255 < n {
-        return None;
-    }
-    let reading = n as u8;
+    let reading = u8::try_from(reading.ok()?).ok()?;
     write(orders::read_order(rest, reading), reading, sheet)
 }
 

@@ -10,6 +10,7 @@ ghost use Rattle.divider.specs.Pio.{pio_of};
 
 use base::Refusal;
 use chip::Chip;
+use step::Clock;
 
 // Cycles per microsecond where the ring has no frequency: from reset it runs at 12 MHz at most.
 const NO_RING: u64 = 12;
@@ -21,7 +22,8 @@ pub enum GpoutDiv {
     Rp235x { whole: u32, fraction: u16 },
 }
 
-// The source over whole + fraction / scale, in Hz, rounded down; a divider of 0 gives 0.
+// The source over whole + fraction / scale, in Hz, rounded down; a divider of 0 gives 0. The three are no struct: each chip's plan and
+// the Gpout hold them in types of their own, so each call would have to fill it first.
 #[tactic(auto, using(crate::proofs::Bounds::bounds), unfolding(crate::specs::Clock::divided_hz))]
 pub fn divided_hz(scale: u32, source: u32, whole: u32, fraction: u16) -> u64
     ensures { result ≡ divided_hz scale source whole fraction }
@@ -61,17 +63,16 @@ pub fn settling_cycles(time_us: u32, ring_hz: u32) -> u64
     u64::from(time_us) * cycles_per_us(ring_hz)
 }
 
-// The clock number of a Gpout source code; 10, which no stored frequency has, where the code is unknown. It is no Option, as the
-// table of the chip is none (chip/src/lib.rt says why).
+// The clock of a Gpout source code; None where the code is unknown.
 #[tactic(auto, unfolding(crate::specs::Gpout::gpout_clock))]
-fn gpout_clock(chip: Chip, source: u8) -> u8
+fn gpout_clock(chip: Chip, source: u8) -> Option<Clock>
     ensures { result ≡ gpout_clock chip source }
 {
     chip.facts()
         .gpout
         .get(usize::from(source))
         .copied()
-        .unwrap_or(10)
+        .flatten()
 }
 
 // A whole part of 0 counts as 65536, as in the datasheets; the Rust takes 65535.
@@ -104,9 +105,8 @@ fn gpout_freq(
     if facts.top_whole < div_int {
         return Err(Refusal::GpoutSource);
     }
-    let clock = gpout_clock(chip, source);
-    let hz = *freqs.get(usize::from(clock)).ok_or(Refusal::GpoutSource)?;
-    Ok(gpout_hz(facts.scale, hz, div_int, div_frac))
+    let clock = gpout_clock(chip, source).ok_or(Refusal::GpoutSource)?;
+    Ok(gpout_hz(facts.scale, freqs[clock as usize], div_int, div_frac))
 }
 
 // The frequency of a Gpout from its source code, its divider and the ten stored frequencies; 23 for an unknown code or a whole

@@ -7,7 +7,8 @@ use std::io::{Read, Write};
 use std::rt::Files;
 use std::{fs, io, str};
 
-// The system's error numbers that have a reason of their own.
+// The system's error numbers that have a reason of their own. They are not `ErrorKind`, of which one kind is error 1 and error 13, and 1
+// has no reason here.
 const ENOENT: i32 = 2;
 
 const EACCES: i32 = 13;
@@ -32,13 +33,15 @@ impl From<io::Error> for Stopped {
 }
 
 // The reason why a file is not read or written, from the system's error number.
-fn reason(error: &io::Error) -> Reason {
-    match error.raw_os_error() {
-        Some(ENOENT) => Reason::NoFile,
-        Some(EISDIR) => Reason::Directory,
-        Some(EACCES) => Reason::Denied,
-        Some(EEXIST) => Reason::Exists,
-        _ => Reason::Other,
+impl From<&io::Error> for Reason {
+    fn from(error: &io::Error) -> Reason {
+        match error.raw_os_error() {
+            Some(ENOENT) => Reason::NoFile,
+            Some(EISDIR) => Reason::Directory,
+            Some(EACCES) => Reason::Denied,
+            Some(EEXIST) => Reason::Exists,
+            _ => Reason::Other,
+        }
     }
 }
 
@@ -98,7 +101,7 @@ fn join_file(
             Ok(())
         }
         Ok(_) => Err(complain(rt, name, Reason::TooLong)),
-        Err(error) => Err(complain(rt, name, reason(&error))),
+        Err(error) => Err(complain(rt, name, Reason::from(&error))),
     }
 }
 
@@ -162,7 +165,7 @@ fn put_in_place(
         Ok(()) => Ok(()),
         Err(error) => {
             let _ = fs::remove_file(rt, name);
-            Err(complain(rt, path.as_bytes(), reason(&error)))
+            Err(complain(rt, path.as_bytes(), Reason::from(&error)))
         }
     }
 }
@@ -183,7 +186,7 @@ fn write_new(
             let written = write_open(&mut file, bytes);
             put_in_place(rt, name, path, written)
         }
-        Err(error) => Err(complain(rt, name.as_bytes(), reason(&error))),
+        Err(error) => Err(complain(rt, name.as_bytes(), Reason::from(&error))),
     }
 }
 

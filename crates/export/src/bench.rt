@@ -40,6 +40,7 @@ pub extern "C" fn dizbaral_bench_run(
     ensures value { result ≡ bench_number bench.old kept.now board sheet.now ready }
     ensures bench_after { bench.new ≡ bench_leaves bench.old kept.now board sheet.now ready }
 {
+    // A board over 7 is told before a bad mark, of which a bench has eight.
     if 7 < board {
         return answers::refused(Refusal::NoBoard);
     }

@@ -163,7 +163,8 @@ pub extern "C" fn dizbaral_gpout_frequency(
     })
 }
 
-// Writes a plan's sheet and answers its length; a refused plan answers its refusal, and no plan is malformed.
+// Writes a plan's sheet and answers its length; a refused plan answers its refusal, and no plan is malformed. It is no `and_then`, whose
+// closure would have to promise all that `init` does once more.
 fn write(plan: Option<Result<ClockConfig, Refusal>>, reading: u8, sheet: &mut [u8]) -> u64
     ensures { SheetCall (answer_in plan) reading sheet.old result sheet.new }
 {

@@ -1,5 +1,5 @@
 // The archive for programs in C, Rust and Python: each export calls the function of `export` that has its name, and keeps its
-// promise.
+// promise. The promises stand here once more, since an archive's functions have contracts of their own.
 #![tactic(auto)]
 
 mod bench;

@@ -14,7 +14,9 @@ use pll::PllConfig;
 use pll::feedback::{self, Ends};
 
 // A lent buffer into which settings are put, two bytes each, and the index past them. What does not fit is dropped, but it
-// is counted: `base::Writer` would stop at the buffer's end. There are 8540 settings, so the index stays below 20000.
+// is counted: `base::Writer` would stop at the buffer's end. There are 8540 settings, so the index stays below 20000. That is no
+// invariant of the type, as each put moves the index on: only who puts the whole list knows how far. What a divider
+// is at most is known where `dividers` answers its ends; a type for it would be made and taken apart in three methods.
 #[derive(Drop)]
 struct Listing<'a> {
     buf: &'a mut [u8],

@@ -33,7 +33,8 @@ fn other_hz(input_hz: u32, target_hz: u32, c: PllConfig) -> Option<u32>
 // From `low` to below `high` the search gives c for the first targets and not for the others, or the other way round:
 // `given` says whether it does for the first. Answers the first of the others, and `high` where there is none. Any target
 // asked shows on which side of it that one is. It is near the middle between the output of c and that of another setting,
-// which is the guess once another is known. It is no `partition_point`, since the guess is not the middle.
+// which is the guess once another is known. It is no `partition_point`, since the guess is not the middle. The six parameters are no
+// struct, as the two calls share only two of them, and the contract speaks of each.
 fn first_other(
     input_hz: u32,
     c: PllConfig,

@@ -10,8 +10,8 @@ use crate::rows::row;
 use base::Writer;
 use std::slice::Iter;
 
-// A step's field is any number, so the table has a last row for no clock. With `step::Clock` the function would be as long, and a
-// lemma would have to tie each name to its number.
+// A step's field is any number, so the table has a last row for no clock; a lemma would have to tie its other rows to the names of
+// `step::Clock` one by one.
 static CLOCKS: [&str; 11] = [
     "rosc", "xosc", "pll_sys", "pll_usb", "ref", "sys", "peri", "usb", "adc", "rtc", "no clock",
 ];

@@ -4,7 +4,8 @@ use Rattle.base.specs.Choice.{bit}
 use Rattle.fields.specs.Row.{nth}
 use Rattle.sleep.specs.declared.{Slot.Slot, steps.Step.Step}
 use Rattle.sleep.specs.declared.steps.Step.TheVariants.{Write, RingStable, CrystalStable, Locked}
-use Rattle.sleep.specs.Registers.{number_of, pll_number}
+use Rattle.step.specs.Clocks.{pll_number}
+use Rattle.sleep.specs.Registers.{number_of}
 
 -- ---- read
 

@@ -1,4 +1,6 @@
-// Plans, answers, runners, benches and slots as numbers, for the cases and the exported calls.
+// Plans, answers, runners, benches and slots as numbers, for the cases and the exported calls. C lends arrays of these lengths, and a
+// part is read by the index that docs/CASES.md gives it: with slices that are cut on from part to part no number of that page would be
+// found here.
 #![tactic(auto)]
 
 pub mod answers;

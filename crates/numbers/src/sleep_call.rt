@@ -18,7 +18,8 @@ fn are_slots(n: &[u32; 48]) -> bool
     (n[0] <= 1) & (n[12] <= 1) & (n[24] <= 1) & (n[36] <= 1)
 }
 
-// A wake or a sleep, as the flag says.
+// A wake or a sleep, as the flag says. It is a flag in the definitions too: with a closure each caller would state `sleep_of` or
+// `wake_of` of words and slots once more.
 fn asked(
     wakes: bool,
     slots: &mut [Slot; 4],
@@ -34,7 +35,8 @@ fn asked(
     }
 }
 
-// A sleep or a wake on numbers; answers the count of numbers of its steps. Refusals: 29, 30; a bad flag is malformed.
+// A sleep or a wake on numbers; answers the count of numbers of its steps. Refusals: 29, which is told before a bad flag, and 30; a
+// bad flag is malformed.
 pub fn change(
     wakes: bool,
     slots: &mut [u32; 48],

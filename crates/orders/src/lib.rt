@@ -14,6 +14,7 @@ use chip::voltage::CoreVoltage;
 use config::ClockConfig;
 use fields::number_at;
 pub use names::Preset;
+use text::find_named;
 use words::{Words, next_word};
 
 // The plan that is ordered, or its refusal.
@@ -49,12 +50,12 @@ pub fn preset(kind: Preset, chip: Chip, n: &[u32]) -> Option<Planned>
     }
 }
 
-// The chip's plan of the first `count` numbers; None where there are fewer or they are no plan.
+// The chip's plan of the numbers that were read; None where they are no plan.
 #[tactic(auto, unfolding(crate::specs::Orders::plan_in))]
-fn plan_of(chip: Chip, n: &[u32], count: usize) -> Option<Planned>
-    ensures { answer_in result ≡ plan_in chip n.now count }
+fn plan_of(chip: Chip, words: &Words) -> Option<Planned>
+    ensures { answer_in result ≡ plan_in chip words.now.row words.now.count }
 {
-    numbers::plan::plan(chip, n.get(..count)?).map(Ok)
+    numbers::plan::plan(chip, words.numbers_past(0)?).map(Ok)
 }
 
 // The plan that an order asks for with the words that were read.
@@ -63,7 +64,7 @@ fn order_with(kind: Preset, chip: Chip, words: &Words) -> Option<Planned>
     ensures { answer_in result ≡ order_with kind chip words.now.row words.now.count }
 {
     match kind {
-        Preset::Plan => plan_of(chip, &words.row, words.count),
+        Preset::Plan => plan_of(chip, words),
         _ => preset(kind, chip, &words.row),
     }
 }
@@ -74,7 +75,7 @@ fn order_on(chip: Chip, rest: &[u8]) -> Option<Planned>
     ensures { answer_in result ≡ order_on chip rest.now }
 {
     let (name, rest) = next_word(rest);
-    let kind = Preset::named(name)?;
+    let kind = find_named(&Preset::ALL, name)?;
     let words = Words::read(kind.letters(), rest)?;
     order_with(kind, chip, &words)
 }
@@ -108,5 +109,5 @@ pub fn read_order(rest: &[u8], reading: u8) -> Option<Planned>
 pub fn is_order(word: &[u8]) -> bool
     ensures { result ≡ is_order word.now }
 {
-    Preset::named(word).is_some()
+    find_named(&Preset::ALL, word).is_some()
 }

@@ -1,6 +1,8 @@
 // The orders that have a name.
 ghost use Rattle.std.specs.Prelude.{◌≡◌};
-ghost use Rattle.orders.specs.Orders.{name_of, letters_of, order_named};
+ghost use Rattle.orders.specs.Orders.{name_of, letters_of};
+
+use text::Named;
 
 // A preset of the library, or `plan`, which gives the numbers of a plan.
 #[derive(Clone, Copy, Debug, PartialEq, Eq)]
@@ -15,7 +17,8 @@ pub enum Preset {
 }
 
 impl Preset {
-    const ALL: [Preset; 7] = [
+    // A word is compared with their names, since a `match` on it would leave a goal for each byte at which two of them part.
+    pub(crate) const ALL: [Preset; 7] = [
         Preset::System,
         Preset::SystemFrom,
         Preset::Crystal,
@@ -24,20 +27,6 @@ impl Preset {
         Preset::Manual,
         Preset::Plan,
     ];
-
-    fn name(self) -> &'static [u8]
-        ensures { result.now ≡ name_of self }
-    {
-        match self {
-            Preset::System => b"system",
-            Preset::SystemFrom => b"system_from",
-            Preset::Crystal => b"crystal",
-            Preset::Rosc => b"rosc",
-            Preset::Default => b"default",
-            Preset::Manual => b"manual",
-            Preset::Plan => b"plan",
-        }
-    }
 
     // The letters of the words that the order takes.
     pub(crate) fn letters(self) -> &'static [u8]
@@ -51,14 +40,20 @@ impl Preset {
             Preset::Plan => b"wwwwwwwwwwwwwwwwwwwwwwwwwwwwwwwwwwwwwwwwwwwooooo",
         }
     }
+}
 
-    // The order with this name. A `match` on the names would leave a goal for each byte at which two of them part.
-    pub(crate) fn named(word: &[u8]) -> Option<Preset>
-        ensures { result ≡ order_named word.now }
-    {
-        Preset::ALL
-            .iter()
-            .copied()
-            .find(|preset| word == preset.name())
+impl Named for Preset {
+    ghost the_name = { name_of };
+
+    fn name(self) -> &'static [u8] {
+        match self {
+            Preset::System => b"system",
+            Preset::SystemFrom => b"system_from",
+            Preset::Crystal => b"crystal",
+            Preset::Rosc => b"rosc",
+            Preset::Default => b"default",
+            Preset::Manual => b"manual",
+            Preset::Plan => b"plan",
+        }
     }
 }

@@ -23,7 +23,8 @@ pub fn write_ref(out: &mut Writer<'_, u8>, hz: u32, clock: RefClkConfig)
     )
 }
 
-// Writes the line of the system clock: frequency, source and divider, whose fraction is over `scale`.
+// Writes the line of the system clock: frequency, source and divider, whose fraction is over `scale`. The divider is three numbers, as
+// `divided_hz` takes it.
 #[tactic(auto, using(base::proofs::Writing::writing), unfolding(crate::specs::Lines::sys_line))]
 pub fn write_sys(
     out: &mut Writer<'_, u8>,

@@ -7,7 +7,7 @@ use base::Writer;
 use config::{AuxClkSrc, PeriClkSrc, RefClkSrc, RoscRange, SysClkSrc};
 use meanings::write_form;
 
-// A setting that has a name.
+// A setting that has a name. `Named` of text would have to be implemented in config, which has these types and knows no texts.
 pub trait Named {
     ghost the_name: { Self → List ℕ };
 
@@ -81,7 +81,8 @@ impl Named for AuxClkSrc {
     }
 }
 
-// Writes a form with a number in it, the name of a setting, and a form with more numbers.
+// Writes a form with a number in it, the name of a setting, and a form with more numbers: the parameters are the parts of the line
+// from left to right, and a struct of them would be written out in each call as they are.
 #[tactic(auto, using(base::proofs::Writing::writing))]
 pub(crate) fn write_named<S: Named + Drop>(
     out: &mut Writer<'_, u8>,

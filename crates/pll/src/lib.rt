@@ -89,14 +89,11 @@ impl PllConfig {
         self.valid_vco(input_hz).is_some()
     }
 
-    // The output frequency of a valid setting, else 0.
+    // The output frequency of a valid setting; of any other it counts as 0 (docs/DECISIONS.md, 24).
     pub fn valid_hz(self, input_hz: u32) -> u32
         ensures { result ≡ valid_hz self input_hz }
     {
-        match self.valid_vco(input_hz) {
-            Some(vco) => vco / self.posts(),
-            None => 0,
-        }
+        self.valid_vco(input_hz).map_or(0, |vco| vco / self.posts())
     }
 
     // The output frequency with no test of validity; none where a divisor is 0 or a number is too large.

@@ -11,7 +11,7 @@ use crate::PllConfig;
 // Keys are below this number. So a rank below it has score 0: a setting that meets the target with no remainder.
 const KEYS: u64 = 65536;
 
-// Above every rank.
+// Above every rank. It is no Option, since the walk carries the best rank so far as one number (docs/DECISIONS.md, 13).
 pub(crate) const NO_RANK: u64 = 1 << 63;
 
 // Two post dividers as one number, three bits each: post 1 times 8 plus post 2. It stays one number, since ranks hold it.
@@ -104,7 +104,8 @@ impl Stage {
 
 // For a product of 0 to 49, the post dividers with the greatest product up to it, and those with the least above it,
 // three bits for each divider: 11 gives 0o5262, which is 5 and 2, then 6 and 2. Equal products give the greater post
-// 1. No product is up to 0 and none is above 49; 0o11 and 0o77 fill these.
+// 1. No product is up to 0 and none is above 49; 0o11 and 0o77 fill these. An entry is one number, as its digits are the four
+// dividers: pairs would only be longer to read.
 static NEAREST: [u16; 50] = [
     0o1111, 0o1121, 0o2131, 0o3141, 0o4151, 0o5161, 0o6171, 0o7142, 0o4233, 0o3352, 0o5262, 0o5262,
     0o6272, 0o6272, 0o7253, 0o5344, 0o4463, 0o4463, 0o6354, 0o6354, 0o5473, 0o7364, 0o7364, 0o7364,

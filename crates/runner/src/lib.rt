@@ -33,8 +33,8 @@ pub struct Stepper {
     pub freqs: [u32; 10],
 }
 
-// A stepper and the sheet that it was started with: `len` bytes, followed by zeros. The two are fields of their own, as C lends a
-// runner as numbers and may write any length.
+// A stepper and the sheet that it was started with: `len` bytes, followed by zeros. The two are fields of their own, as a runner may
+// have any length: one that no sheet has is refused with 21.
 #[derive(Clone, Copy)]
 pub struct Runner {
     pub kept: [u8; MAX_BYTES],
@@ -135,8 +135,8 @@ impl Runner {
         self.stepper.poll(kept, sheet, ready)
     }
 
-    // One call by value: its answer, and the runner after it. The calls by value stay beside those in place, as programs and
-    // theorems name them.
+    // One call by value: its answer, and the runner after it. The calls by value are the public forms beside those in place
+    // (docs/DECISIONS.md, 19 and 20).
     pub fn advance(self, sheet: &[u8], ready: bool) -> (Result<Reply, Refusal>, Self)
         ensures { outcome (answer_of result.0) result.1 ≡ advance_of self sheet.now ready }
     {
@@ -187,7 +187,7 @@ fn keep(sheet: &[u8]) -> [u8; MAX_BYTES]
 }
 
 // Whether a and b hold the same bytes. It looks at all of them, so that it is short and compares several bytes at a time; the
-// library's `==` of slices takes 1556 bytes of a firmware.
+// library's `==` of slices takes 1556 bytes of a firmware, which has the 5120 that it may have.
 fn same_bytes(a: &[u8], b: &[u8]) -> bool
     ensures { result ≡ same a.now b.now }
 {

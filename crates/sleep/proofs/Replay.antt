@@ -5,7 +5,7 @@ use mathlib.Core.{Path.◌≡◌, Path.refl, Path.◌∙◌, Bool.Bool, Bool.tru
 use lib.{Dec.ltb, ListN.length, ListN.length-set}
 use Rattle.sleep.specs.declared.steps.Step.{Step}
 use Rattle.sleep.specs.declared.steps.Step.TheVariants.{Write, RingStable, CrystalStable, Locked}
-use Rattle.sleep.specs.declared.register.Pll.TheVariants.{Sys, Usb}
+use Rattle.step.specs.declared.clock.Pll.TheVariants.{Sys, Usb}
 use Rattle.sleep.specs.declared.Slot.{Slot}
 use Rattle.sleep.specs.Registers.{number_of}
 use Rattle.sleep.specs.{Bits.pll_runs, Bits.crystal_runs, Words.word_in, Words.asleep}

@@ -1,8 +1,7 @@
--- The eleven registers and the two PLLs by their numbers (docs/SLEEP.md).
+-- The eleven registers by their numbers (docs/SLEEP.md).
 use Rattle.std.specs.Prelude.{ℕ}
-use Rattle.sleep.specs.declared.{register.Register.Register, register.Pll.Pll}
+use Rattle.sleep.specs.declared.register.Register.{Register}
 use Rattle.sleep.specs.declared.register.Register.TheVariants as reg
-use Rattle.sleep.specs.declared.register.Pll.TheVariants.{Sys, Usb}
 
 abbrev pub number_of : Register → ℕ
 number_of reg.AdcCtrl = 0
@@ -16,7 +15,3 @@ number_of reg.PllSysPwr = 7
 number_of reg.PllUsbPwr = 8
 number_of reg.XoscCtrl = 9
 number_of reg.XipCtrl = 10
-
-abbrev pub pll_number : Pll → ℕ
-pll_number Sys = 0
-pll_number Usb = 1

@@ -5,7 +5,7 @@ use lib.{Dec.ltb, ListN.get_or, ListN.set, ListN.replicate}
 use Rattle.base.specs.{Answer.Answer, Answer.value, Answer.refusal, Choice.pick}
 use Rattle.sleep.specs.declared.{register.Register.Register, steps.Step.Step, Slot.Slot}
 use Rattle.sleep.specs.declared.register.Register.TheVariants as reg
-use Rattle.sleep.specs.declared.register.Pll.TheVariants.{Sys, Usb}
+use Rattle.step.specs.declared.clock.Pll.TheVariants.{Sys, Usb}
 use Rattle.sleep.specs.declared.steps.Step.TheVariants.{Write, RingStable, CrystalStable, Locked}
 use Rattle.sleep.specs.Registers.{number_of}
 use Rattle.sleep.specs.{Bits.pll_runs, Bits.crystal_runs, Words.word_in, Words.asleep}

@@ -2,7 +2,8 @@
 ghost use Rattle.std.specs.Prelude.{◌≡◌, ◌+◌, ◌^◌, ◌<◌};
 ghost use Rattle.sleep.specs.Bits.{field, with_field, pll_off, pll_runs, crystal_runs};
 
-// A field of a register word: the `size` bits from bit `low` up.
+// A field of a register word: the `size` bits from bit `low` up. `bits` of step is the same over 64 bits, whose answers would have to be
+// cut to the 32 of a register.
 #[derive(Clone, Copy)]
 pub(crate) struct Field {
     low: u32,

@@ -13,7 +13,8 @@ ghost use Rattle.sleep.specs.Sleep.{fresh_slots, outcome, sleep_of, wake_of};
 
 use base::Refusal;
 use bits::{CLOCK_ENABLE, DIV, ENABLE, FREQ_RANGE, POWER_DOWN, REF_SRC, SYS_SRC};
-pub use register::{Pll, Register};
+pub use register::Register;
+pub use step::Pll;
 use steps::Steps;
 
 // A slot: whether it holds a sleep, and the words handed to the last one. It is no Option: the words of a slot that holds no
@@ -69,7 +70,7 @@ fn asleep(words: &[u32; 11]) -> [u32; 11]
 }
 
 // Saves the words in a slot, makes them those of a sleeping chip, and answers the steps into sleep. Refuses with 29 a slot
-// over 3, and then changes nothing.
+// over 3, and then changes nothing. The slot is tested by hand, since of `get_mut` the library does not say what the slots end as.
 #[tactic(auto, using(std::proofs::lemmas::Bool::Decides::nat_tests), unfolding(crate::specs::Sleep::sleep_of))]
 pub fn sleep(slots: &mut [Slot; 4], slot: u8, words: &mut [u32; 11]) -> Result<Steps, Refusal>
     ensures { outcome (answer_of result) words.new slots.new ≡ sleep_of slots.old slot words.old }

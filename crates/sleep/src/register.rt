@@ -1,4 +1,4 @@
-// The registers and PLLs that a sleep and a wake speak of.
+// The registers that a sleep and a wake speak of.
 
 // One of the eleven registers whose words are saved; its number (docs/SLEEP.md) is the variant's.
 #[derive(Clone, Copy, Debug, PartialEq, Eq)]
@@ -14,11 +14,4 @@ pub enum Register {
     PllUsbPwr,
     XoscCtrl,
     XipCtrl,
-}
-
-// One of the two PLLs.
-#[derive(Clone, Copy, Debug, PartialEq, Eq)]
-pub enum Pll {
-    Sys,
-    Usb,
 }

@@ -85,6 +85,7 @@ fn put_code(words: &mut Words, at: usize, chip: Chip, code: u64) -> usize
     }
 }
 
+// Appends the brownout step, with an arm for each chip as above.
 fn put_brownout(words: &mut Words, at: usize, chip: Chip, level: u64) -> usize
     ensures { held words.new result ≡ pushed (held words.old at) (step1 (facts_of chip).brownout level) }
 {

@@ -47,7 +47,7 @@ pub fn read(buf: &[u8], at: usize) -> Result<Step, Refusal>
     unpack(eight(buf, at).ok_or(Refusal::NotASheet)?)
 }
 
-// The word whose 8 bytes start at `at`, 0 where fewer than 8 bytes follow.
+// The word whose 8 bytes start at `at`, 0 where fewer than 8 bytes follow: a caller hands it on only where `read` finds a step there.
 #[tactic(auto, unfolding(crate::specs::Access::word_at))]
 pub fn word(buf: &[u8], at: usize) -> u64
     ensures { result ≡ word_at buf.now at }

@@ -19,7 +19,8 @@ pub const MAX_STEPS: usize = 66;
 
 pub const MAX_BYTES: usize = 8 * MAX_STEPS;
 
-// A step: its kind and up to five fields. A field that the kind lacks is 0.
+// A step: its kind and up to five fields. A field that the kind lacks is 0. The fields are no array: a theorem of all steps would
+// need the array's length as a condition.
 #[derive(Clone, Copy)]
 pub struct Step {
     pub kind: Kind,

@@ -8,11 +8,12 @@ ghost use Rattle.step.specs.Inside.{Laid};
 use crate::{Kind, Step};
 use base::Refusal;
 
-// The widths in bits of a kind's five fields; an absent field has width 0.
+// The widths in bits of a kind's five fields; an absent field has width 0. They have no names, which would make the table below much
+// longer.
 #[derive(Drop)]
 struct Widths(u32, u32, u32, u32, u32);
 
-// The table of widths is a `match`, since a constant array would be copied to the stack at each read.
+// The table of widths is a `match`, since with a constant kind it folds to the widths; an array would need the kind's number first.
 #[tactic(auto, unfolding(crate::specs::Layout::layout))]
 fn layout(kind: Kind) -> Widths
     ensures { Laid kind result }
@@ -92,7 +93,8 @@ fn bits(x: u64, above: u32, w: u32) -> u64
 }
 
 // The word of the step with this kind and these fields; a field that is too large is truncated to its low bits. It takes numbers
-// instead of a Step, so that a call with a constant kind compiles to the few shifts of that kind.
+// instead of a Step, so that a call with a constant kind compiles to the few shifts of that kind. The lowest bits of its fields, b0 to b3,
+// stand in `unpack_as` too: a function that answers them would need a contract that is longer than they are.
 pub fn pack(kind: Kind, f0: u64, f1: u64, f2: u64, f3: u64, f4: u64) -> u64
     ensures { result ≡ pack_of (step_of kind f0 f1 f2 f3 f4) }
 {

@@ -7,12 +7,12 @@ use Rattle.std.proofs.lemmas.List.Sums.{prefix_len-le-length}
 use Rattle.std.specs.List.{position_or_len}
 use mathlib.Core.{List.List, List.[], List.◌∷◌, Logic.◌⊎◌, Logic.inl, Logic.inr}
 use Prim.Native.Nat.{ℕ, zero, suc, ◌+◌, ◌-◌, ◌≤◌, ◌<◌}
-use native.Mathlib.{Decide.dec_le, Nat.add-zero, Nat.zero-add, Omega.arith}
+use native.Mathlib.{Decide.dec_le, Omega.arith}
 use borrow.Author.Tests.{le-leb, lt-leb, ltb-false}
-use lib.{Dec.eqb, Dec.ltb, ListN.length, ListN.take, ListN.drop, ListN.length-take, ListN.length-drop, ListN.drop_of_length-le}
+use lib.{Dec.eqb, Dec.ltb, ListN.length, ListN.take, ListN.drop, ListN.length-take}
 use lib.Seq.{take_all}
 use Rattle.base.specs.{Answer.refusal, Choice.pick}
-use Rattle.text.specs.{Decimal.number_of, Words.up_to, Words.index_from, Words.line_number_of}
+use Rattle.text.specs.{Decimal.number_of, Words.up_to, Words.line_number_of}
 use Rattle.text.proofs.Decimals.{bad-length}
 
 -- the place of the first that passes, or the length
@@ -36,18 +36,6 @@ length-up b (x ∷ xs) = go (eqb x b) (length-up b xs)
     go true e = refl
     go false e = omega arith
 
--- so the index of the first b from index at on is its place in the rest
-pub index-found : (s : List ℕ) (at b : ℕ) {n : ℕ} → n ≡ position_or_len (λ x. eqb x b) (take (length s - at) (drop at s))
-    → at + n ≡ index_from s at b
-unfolding index_from
-index-found s at b place =
-    let rest = take_all (length s - at) (drop at s) (simp length-drop (omega arith)) in
-    ap (λ (n : ℕ). at + n) (rw rest at place ∙ sym (length-up b (drop at s)))
-
-pub index-end : (s : List ℕ) (b i : ℕ) → length s ≤ i → index_from s i b ≡ i
-unfolding index_from
-index-end s b i out = rw (drop_of_length-le s out, add-zero)
-
 -- the bytes before the first b are those up to it
 pub take-up : (b : ℕ) (xs : List ℕ) → take (length (up_to b xs)) xs ≡ up_to b xs
 take-up b [] = refl
@@ -57,18 +45,6 @@ take-up b (x ∷ xs) = go (eqb x b) (take-up b xs)
         → take (length (pick t [] (x ∷ up_to b xs))) (x ∷ xs) ≡ pick t [] (x ∷ up_to b xs)
     go true e = refl
     go false e = ap (λ (l : List ℕ). x ∷ l) e
-
--- so the bytes from at to the index of b are those up to b
-pub between : (s : List ℕ) (at b : ℕ) → take (index_from s at b - at) (drop at s) ≡ up_to b (drop at s)
-unfolding index_from
-between s at b =
-    let n : at + length (up_to b (drop at s)) - at ≡ length (up_to b (drop at s)) = omega arith in
-    rw n (take-up b (drop at s))
-
--- so a line up to its first space, byte 32, is its first word
-pub first_word : (line : List ℕ) {end : ℕ} → end ≡ index_from line 0 32 → take end line ≡ up_to 32 line
-unfolding index_from
-first_word line e = rw (e, zero-add) (take-up 32 line)
 
 pub up-take : (b n : ℕ) (s : List ℕ) → up_to b (take n s) ≡ take n (up_to b s)
 up-take b zero s = refl

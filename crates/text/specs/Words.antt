@@ -1,6 +1,6 @@
 -- Lines and words: a line ends at a newline or the end of the text, a word at a space or the end of the line.
-use Rattle.std.specs.Prelude.{List, [], ◌∷◌, ℕ, ◌+◌}
-use lib.{Dec.eqb, ListN.length, ListN.drop}
+use Rattle.std.specs.Prelude.{List, [], ◌∷◌, ℕ}
+use lib.Dec.{eqb}
 use Rattle.base.specs.{Answer.Answer, Choice.pick}
 use Rattle.text.specs.Decimal.{number_of}
 
@@ -8,10 +8,6 @@ use Rattle.text.specs.Decimal.{number_of}
 abbrev pub up_to : ℕ → List ℕ → List ℕ
 up_to b [] = []
 up_to b (x ∷ xs) = pick (eqb x b) [] (x ∷ up_to b xs)
-
--- the index of the first b from index at on, or the end
-unfoldable pub index_from : List ℕ → ℕ → ℕ → ℕ
-index_from xs at b = at + length (up_to b (drop at xs))
 
 -- the number on the first line, as program `clocks` reads it (docs/PROGRAMS.md, Program clocks); bytes after the newline are
 -- ignored

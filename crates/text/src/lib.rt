@@ -1,18 +1,18 @@
 // Text for the programs: numbers and bytes in hex written into a lent buffer, and lines and words read from one.
 #![tactic(auto)]
 
-ghost use Rattle.std.specs.List.{position_or_len};
-ghost use Rattle.std.specs.Prelude.{◌≡◌, eqb, ◌%◌, ◌≤◌, ◌<◌, max, length, drop};
+mod named;
+
+ghost use Rattle.std.specs.Prelude.{◌≡◌, ◌%◌, ◌≤◌, ◌<◌, length};
 ghost use Rattle.base.specs.Answer.{answer_of};
-ghost use Rattle.base.specs.Placed.{Placed};
 ghost use Rattle.base.specs.Writing.{Puts};
 ghost use Rattle.text.specs.Decimal.{last_digit, decimal_of, number_of};
 ghost use Rattle.text.specs.Hex.{hex_digit, hex_pair, hex_of, hex_value};
 ghost use Rattle.text.specs.Hex.{are_pairs, pair_values, is_hex_word, HexReading};
-ghost use Rattle.text.specs.Words.{up_to, index_from, line_number_of};
-ghost use Rattle.text.specs.Ascii.{same};
+ghost use Rattle.text.specs.Words.{up_to, line_number_of};
 
 use base::{Refusal, Writer};
+pub use named::{Named, find_named};
 
 // The last decimal digit of n.
 fn last_digit(n: u64) -> u8
@@ -22,8 +22,8 @@ fn last_digit(n: u64) -> u8
 }
 
 // Writes n in decimal, without leading zeros. It calls itself for the digits before the last, which come first; a loop finds the
-// last one first, and would need a buffer for them. No formatter of the library writes into a lent buffer and drops what does not
-// fit.
+// last one first, and would need a buffer for them. It is no `write!`: of a formatter the library promises nothing where it fails, and
+// not that a writer of ours never does.
 #[tactic(auto, using(base::proofs::Writing::put_more, crate::proofs::Decimals::decimal_small, crate::proofs::Decimals::decimal_more))]
 pub fn write_decimal(out: &mut Writer<'_, u8>, n: u64)
     ensures { Puts out.old (decimal_of n) out.new }
@@ -42,7 +42,7 @@ pub fn hex_digit(b: u8) -> u8
     if d < 10 { b'0' + d } else { b'a' - 10 + d }
 }
 
-// Writes the bytes of s in hex, two digits for each byte; `-` where s is empty.
+// Writes the bytes of s in hex, two digits for each byte; `-` where s is empty. It is no `write!`, as above.
 pub fn write_hex(out: &mut Writer<'_, u8>, s: &[u8])
     ensures { Puts out.old (hex_of s.now) out.new }
 {
@@ -55,7 +55,7 @@ pub fn write_hex(out: &mut Writer<'_, u8>, s: &[u8])
 }
 
 // The number that s spells: 1 to 10 decimal digits, at most 4294967295. Refusal: 24 where s spells no such number. It is not
-// `parse`, which takes a sign and any count of zeros too.
+// `parse`: behind the tests of length and digits that a sign and more zeros ask for, it is no shorter.
 pub fn number(s: &[u8]) -> Result<u32, Refusal>
     ensures { answer_of result ≡ number_of s.now }
 {
@@ -75,41 +75,26 @@ pub fn number(s: &[u8]) -> Result<u32, Refusal>
     Ok(n as u32)
 }
 
-// The index of the first b, or the end of s where there is none.
-fn index_of(s: &[u8], b: u8) -> usize
-    ensures value { result ≡ position_or_len (λ x. eqb x b) s.now }
+// The index of the first b, which is the count of the bytes before it; the end of s where there is none.
+pub fn index_of(s: &[u8], b: u8) -> usize
+    ensures value { result ≡ length (up_to b s.now) }
     ensures within { result ≤ length s.now }
 {
     s.iter().position(|x| *x == b).unwrap_or(s.len())
 }
 
-// The index of the first b from `at` on, or the end of s where there is none; `at` itself where it is past the end.
-pub fn index_from(s: &[u8], at: usize, b: u8) -> usize
-    ensures equal { result ≡ index_from s.now at b }
-    ensures within { (at ≤ result) × (result ≤ max at (length s.now)) }
+// The number that the bytes up to the first b, or the end of s, spell. Refusal: 24 where they spell none.
+pub fn number_up_to(s: &[u8], b: u8) -> Result<u32, Refusal>
+    ensures { answer_of result ≡ number_of (up_to b s.now) }
 {
-    if s.len() <= at {
-        return at;
-    }
-    at + index_of(&s[at..], b)
-}
-
-// The number that the bytes from `at` up to the next b, or the end of s, spell. Refusal: 24 where they spell none.
-pub fn number_up_to(s: &[u8], at: usize, b: u8) -> Result<u32, Refusal>
-    ensures { answer_of result ≡ number_of (up_to b (drop at s.now)) }
-{
-    if s.len() <= at {
-        return Err(Refusal::UnreadableInput);
-    }
-    let end = index_from(s, at, b);
-    number(&s[at..end])
+    number(&s[..index_of(s, b)])
 }
 
 // The number on the first line; bytes after its newline are ignored. Refusal: 24 where the line is no number.
 pub fn line_number(s: &[u8]) -> Result<u32, Refusal>
     ensures { answer_of result ≡ line_number_of s.now }
 {
-    number_up_to(s, 0, b'\n')
+    number_up_to(s, b'\n')
 }
 
 // The value of a hex digit of either case; 0 for any other byte.
@@ -138,15 +123,13 @@ fn is_hex_word(s: &[u8]) -> bool
 }
 
 // Writes the bytes that the digit pairs of s spell; a last byte without its pair is left out.
-fn put_pairs(buf: &mut [u8], s: &[u8]) -> usize
-    ensures { Placed buf.old 0 (pair_values s.now) result buf.new }
+fn write_pairs(out: &mut Writer<'_, u8>, s: &[u8])
+    ensures { Puts out.old (pair_values s.now) out.new }
 {
     let (pairs, _) = s.as_chunks::<2>();
-    let mut end = 0;
     for [high, low] in pairs {
-        end = base::put(buf, end, hex_value(*high) * 16 + hex_value(*low));
+        out.put(hex_value(*high) * 16 + hex_value(*low));
     }
-    end
 }
 
 // Reads a word of hex digits, of either case, into the buffer. Where s is no such word, or the buffer is too short for its bytes,
@@ -160,13 +143,7 @@ pub fn hex_bytes(s: &[u8], buf: &mut [u8]) -> Option<usize>
     if buf.len() < s.len() / 2 {
         return None;
     }
-    let n = put_pairs(buf, s);
-    Some(n)
-}
-
-// Whether a and b hold the same bytes. It has a name, as the contracts of its callers say `same`.
-pub fn same_bytes(a: &[u8], b: &[u8]) -> bool
-    ensures { result ≡ same a.now b.now }
-{
-    a == b
+    let mut out = Writer::new(buf);
+    write_pairs(&mut out, s);
+    Some(out.at)
 }

@@ -2,7 +2,6 @@
 use mathlib.Core.{Bool.Bool, Bool.false, List.List, Path.◌≡◌, Path.sym, Path.ap, Path.ap₂, Path.◌∙◌}
 use Rattle.std.proofs.Common.{ℕ, suc, ◌+◌, length}
 use native.Mathlib.{Nat.zero-add, Numerals.add-one}
-use Rattle.text.specs.Words.{up_to, index_from}
 use Rattle.std.specs.Prelude.{Result}
 use Rattle.base.specs.declared.refusal.Refusal.{Refusal}
 use Rattle.base.specs.Answer.{answer_of}
@@ -30,8 +29,3 @@ module _ (seed i : ℕ) where
 pub begins : (sheet : List ℕ) (r : Runner) (opened : Result Unit Refusal) (next : Runner) → bad_size (length sheet) ≡ false
     → outcome (answer_of opened) next ≡ start_of r sheet → next ≡ started_with sheet
 begins sheet r opened next good e = ap (λ (x : Begun Runner). x.next) (e ∙ sym (start-kept r sheet good))
-
--- the index of the first space is the length of the text before it
-pub space-at : (s : List ℕ) → index_from s 0 32 ≡ length (up_to 32 s)
-unfolding index_from
-space-at s = zero-add (length (up_to 32 s))

@@ -26,7 +26,8 @@ const CRYSTAL_HZ: u32 = 12000000;
 // The largest count that is not refused.
 const MOST_COUNT: u32 = 10000;
 
-// Starts a runner with a sheet and makes `count` calls; the ready flag of each is the top bit of a draw.
+// Starts a runner with a sheet and makes `count` calls; the ready flag of each is the top bit of a draw. `run` of report says why the
+// two are not one.
 fn run(sheet: &[u8], seed: u32, count: u32) -> Runner
     requires { bad_size (length sheet.now) ≡ false }
     ensures { result ≡ runner_after sheet.now (flags seed) count }
@@ -84,12 +85,14 @@ fn write_counted(out: &mut Writer<'_, u8>, seed: u32, count: Result<u32, Refusal
 }
 
 // Writes the output for an input.
+#[tactic(auto, unfolding(crate::specs::Load::load_of))]
 fn write_load(out: &mut Writer<'_, u8>, input: &[u8])
     ensures { Puts out.old (load_of input.now) out.new }
 {
-    let space = text::index_from(input, 0, b' ');
-    match text::number_up_to(input, 0, b' ') {
-        Ok(seed) => write_counted(out, seed, text::number_up_to(input, space + 1, b'\n')),
+    let space = text::index_of(input, b' ');
+    let after = input.get(space + 1..).unwrap_or(b"");
+    match text::number_up_to(input, b' ') {
+        Ok(seed) => write_counted(out, seed, text::number_up_to(after, b'\n')),
         Err(no_seed) => replies::write_refused_line(out, no_seed),
     }
 }

@@ -112,7 +112,8 @@ fn plan_hz(plan: ClockConfig, reading: u8) -> [u64; 10]
     hz_of(settings::frequencies_of(settings::settings_of(plan, reading)))
 }
 
-// A clock's line, where the two frequencies are not the same.
+// A clock's line, where the two frequencies are not the same. The clock is the number that a form names; a `Clock` would only be
+// turned into it.
 #[tactic(auto, using(base::proofs::Writing::put_none), unfolding(crate::specs::Differs::clock_text))]
 fn write_clock(out: &mut Writer<'_, u8>, clock: u64, delivered: u64, ordered: u64)
     ensures { Puts out.old (clock_text clock delivered ordered) out.new }

@@ -112,8 +112,7 @@ fn write_words(out: &mut Writer<'_, u8>, plan: ClockConfig, reading: u8)
 pub fn write_refused(out: &mut Writer<'_, u8>, what: &[u8], number: u8)
     ensures { Puts out.old (refused_lines what.now number) out.new }
 {
-    out.put_all(b"refused ");
-    text::write_decimal(out, u64::from(number));
+    replies::write_refused(out, number);
     out.put(b'\n');
     out.put_all(what);
     meanings::write_refusal(out, number);

@@ -3,13 +3,9 @@ use mathlib.Core.{Path.◌≡◌, List.List}
 use Prim.Native.Nat.{ℕ, ◌≤◌}
 use native.Mathlib.Omega.{arith}
 use lib.ListN.{length, take, length-drop}
-use Rattle.text.specs.Words.{up_to, index_from}
+use Rattle.text.specs.Words.{up_to}
 use Rattle.text.proofs.Lines.{take-up}
 use Rattle.words.specs.Line.{rest_after}
-
-pub first_end : (line : List ℕ) → index_from line 0 32 ≡ length (up_to 32 line)
-unfolding index_from
-first_end line = omega arith
 
 pub first_cut : (line : List ℕ) → take (length (up_to 32 line)) line ≡ up_to 32 line
 first_cut line = take-up 32 line

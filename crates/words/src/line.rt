@@ -4,12 +4,12 @@ ghost use Rattle.text.specs.Words.{up_to};
 ghost use Rattle.words.specs.Line.{rest_of, word_after, rest_after};
 
 // The line's first word, and the rest, which is empty or begins with the space before the next word.
-#[tactic(auto, using(crate::proofs::Cuts::first_end, crate::proofs::Cuts::first_cut))]
+#[tactic(auto, using(crate::proofs::Cuts::first_cut))]
 pub fn first_word(line: &[u8]) -> (&[u8], &[u8])
     ensures word { result.0.now ≡ up_to 32 line.now }
     ensures rest { result.1.now ≡ rest_of line.now }
 {
-    line.split_at(text::index_from(line, 0, b' '))
+    line.split_at(text::index_of(line, b' '))
 }
 
 // The next word of a rest, and the rest after it; both are empty at the line's end.

@@ -1,7 +1,9 @@
 -- `text::hex_bytes` meets its contract: each exit is a law of `Hexes`: `no_word` and `no_room` for the two refusals, and
--- `word_read` turns what `put_pairs` placed into the reading.
+-- `word_read` turns what the writer put into the reading.
 use mathlib.Core.Path.{sym, ◌∙◌}
 use native.Mathlib.Omega.{arith}
+use Rattle.std.proofs.Common.{rules}
+use Rattle.base.proofs.Writing.{finished}
 use Rattle.text.proofs.{Hexes.no_word, Hexes.no_room, Hexes.word_read}
 use Rattle.text.proofs.hex_bytes.Goals as goal
 
@@ -17,4 +19,6 @@ returns-then-buf-s c = let args = c.args in
 pub returns : goal.returns
 returns c = let args = c.args in
     let word = sym c.is_hex_word.ensures ∙ c.if-not-is_hex_word.false in
-    word_read args.s.now args.buf.now word (omega arith) _ _ c.put_pairs-n.ensures
+    let p = finished c.new-out.result c.write_pairs.new.out _ c.new-out.ensures c.write_pairs.ensures in
+    let read = word_read args.s.now args.buf.now word (omega arith) _ _ p.placed in
+    search rules

@@ -1,5 +1,6 @@
--- `text::index_of` meets its contract: the place that `position` answers is that of the first b, and without it the length is.
-use mathlib.Core.Path.{ap, ◌∙◌}
+-- `text::index_of` meets its contract: the place that `position` answers is that of the first b, and without it the length is; by
+-- `length-up` it counts the bytes before.
+use mathlib.Core.Path.{ap, sym, ◌∙◌}
 use Prim.Native.Nat.{ℕ}
 use borrow.Author.{Rules.rules, Tests.tests}
 use lib.{Dec.eqb, ListN.length}
@@ -7,7 +8,7 @@ use Rattle.std.specs.Option.{unwrap_or}
 use Rattle.std.specs.Prelude.{Option}
 use Rattle.std.proofs.lemmas.Iterator.{YieldsList-from_slice}
 use Rattle.std.proofs.lemmas.Iterator.Search.{position_from_yields_List}
-use Rattle.text.proofs.Lines.{place-or-length}
+use Rattle.text.proofs.Lines.{place-or-length, length-up}
 use Rattle.text.proofs.index_of.Goals as goal
 
 pub returns-clause-value : goal.returns-clause-value
@@ -17,3 +18,4 @@ returns-clause-value c =
     let place = position_from_yields_List (λ x. eqb x b) _ _ _ c.position.ensures.ran (YieldsList-from_slice s cc)
     (λ x t q k. search (rules, tests)) in
     c.unwrap_or.ensures ∙ ap (λ (o : Option ℕ). unwrap_or o (length s)) place ∙ place-or-length (λ x. eqb x b) s
+    ∙ sym (length-up b s)
