@@ -40,7 +40,10 @@ use Rattle.numbers.specs.Answers.{refusals, itself, answer_number, limits_after}
 use Rattle.numbers.specs.Answers.{done as margin-done}
 use Rattle.numbers.specs.Run.{runner_in, progress_number, go_number, run_number, run_leaves, start_leaves, StartCall}
 use Rattle.numbers.specs.Bench.{stepper_at, bench_in, with_board, bench_number, bench_leaves, start_all_leaves, StartAllCall}
-use Rattle.numbers.specs.{SleepCall.SlotsCall, Read.chip_number, Read.RowCall}
+use Rattle.numbers.specs.{SleepCall.SlotsCall, Read.chip_number, Read.RowCall, Access.op_number, Access.AccessCall}
+use Rattle.registers.specs.declared.Access.{Access}
+use Rattle.registers.specs.declared.Access.TheVariants as access
+use Rattle.registers.specs.Access.{access_at, op_of}
 use Rattle.numbers.proofs.Boards.{call, of-board, over-leaves, bad-leaves}
 use Rattle.export.specs.Calls.{Held, held_of, call_leaves}
 use Rattle.export.specs.Sheet.{SheetCall}
@@ -181,6 +184,22 @@ row_keeps : (read : Answer ClockConfig) {before after : List ℕ} {r : ℕ} → 
 row_keeps (value p) c low = absurd (omega (arith, c.answer, chip-few (board_of p.chip).chip, low.0))
 row_keeps (refusal n) c low = c.numbers
 
+op-few : (a : Access) → op_of a ≤ 4
+op-few access.Nothing = omega arith
+op-few (access.Write at v) = omega arith
+op-few (access.Change at m v) = omega arith
+op-few (access.Wait at m v) = omega arith
+op-few (access.Pause n) = omega arith
+
+access-keeps : (chip : Option Chip) (sheet : List ℕ) (position : ℕ) {before after : List ℕ} {r : ℕ}
+    → AccessCall chip sheet position before r after → Refused r → after ≡ before
+access-keeps None sheet position c low = c.numbers
+access-keeps (Some chip) sheet position {before} {after} {r} c low = go (access_at chip sheet position) refl
+  where
+    go : (x : Answer Access) → access_at chip sheet position ≡ x → after ≡ before
+    go (value a) e = absurd (omega (arith, c.answer, ap (answer_number op_number) e, op-few a, low.0))
+    go (refusal n) e = rw e at c.numbers
+
 slots-keep : (o : Option SleepOutcome) {slots words steps slots' words' steps' : List ℕ} {r : ℕ} → length steps ≡ 28
     → SlotsCall o slots words steps r slots' words' steps' → Refused r
     → (slots' ≡ slots) × (words' ≡ words) × (steps' ≡ steps)
@@ -204,5 +223,6 @@ untouched =
       list = list-keeps;
       margin = λ input target. margin-keeps (margin_of input target);
       read_sheet = row_keeps;
+      access = access-keeps;
       slots = slots-keep;
     }

@@ -5,6 +5,7 @@ use Rattle.std.specs.Prelude.{Option}
 use mathlib.Core.{Bool.Bool, Path.◌≡◌, Logic.◌⊎◌, List.List}
 use Rattle.std.specs.Prelude.{ℕ, ◌+◌, ◌^◌, ◌≤◌, ◌<◌, length, get_or, set}
 use Rattle.base.specs.Answer.{Answer}
+use Rattle.chip.specs.declared.Chip.{Chip}
 use Rattle.config.specs.declared.ClockConfig.{ClockConfig}
 use Rattle.runner.specs.{Run.one_more, Calls.stepper_timed_out}
 use Rattle.sleep.specs.Sleep.{SleepOutcome}
@@ -13,7 +14,7 @@ use Rattle.margin.specs.Margin.{margin_of}
 use Rattle.numbers.specs.Answers.{refusals, itself, answer_number, done, limits_after}
 use Rattle.numbers.specs.Run.{run_number, run_leaves, StartCall}
 use Rattle.numbers.specs.Bench.{stepper_at, with_board, bench_number, bench_leaves, StartAllCall}
-use Rattle.numbers.specs.{SleepCall.SlotsCall, Read.RowCall}
+use Rattle.numbers.specs.{SleepCall.SlotsCall, Read.RowCall, Access.AccessCall}
 use Rattle.export.specs.Sheet.{SheetCall}
 
 -- an answer that is a refusal or malformed; values are below this range, the words of steps above it
@@ -50,6 +51,9 @@ pub record Untouched : Type 1 where
       → limits_after (margin_of input target) before ≡ before
   pub read_sheet : (read : Answer ClockConfig) {before after : List ℕ} {r : ℕ} → RowCall read before r after → Refused r
       → after ≡ before
+  -- `dizbaral_access`
+  pub access : (chip : Option Chip) (sheet : List ℕ) (position : ℕ) {before after : List ℕ} {r : ℕ}
+      → AccessCall chip sheet position before r after → Refused r → after ≡ before
   -- `dizbaral_sleep`, `dizbaral_wake`
   pub slots : (o : Option SleepOutcome) {slots words steps slots' words' steps' : List ℕ} {r : ℕ} → length steps ≡ 28
       → SlotsCall o slots words steps r slots' words' steps' → Refused r
