@@ -7,7 +7,7 @@ use native.Mathlib.{Omega.arith, Nat.eq-or-lt_of_le}
 use lib.{Dec.leb, ListN.length}
 use borrow.Author.Tests.{leb-false, lt-leb}
 use Rattle.base.specs.Choice.{pick}
-use Rattle.pll.specs.{Ranges.reference_min, Ranges.vco_max, Search.falling, Search.rising, Law.VcoPermits, Law.WalkTakesPermitted}
+use Rattle.pll.specs.{Ranges.reference_min, Ranges.vco_max, Search.falling, Search.rising, Law.VcoPermits, Law.WalkTakesPermitted, Law.WalkWithinEnds}
 use Rattle.pll.specs.Ends.{first_permitted, highest_of, lowest_of, walk_down, walked_of, Among}
 use Rattle.pll.proofs.Ends.{Served, served, unserved, highest-value, highest-none, lowest-some, highest-right, lowest-right}
 use Rattle.pll.proofs.Ends.{between-permitted, outside-refused}
@@ -55,6 +55,12 @@ walk-takes-permitted input fb = go (served input)
               within-down low (omega (arith, end.one.low)) high fb w.0 w.1,
         )
     go (no none) = rw (highest-none input none) ((λ m. absurd m), λ p. absurd (unserved input none fb p.0 p.1))
+
+-- what the walk takes the VCO permits, so it lies between the lowest and the highest that it permits
+pub walk-within-ends : WalkWithinEnds
+walk-within-ends input low high fb bottom top m =
+    let p = (walk-takes-permitted input fb).0 m in
+    ((lowest-right input low bottom).last fb p.1, (highest-right input high top).1.last fb p.1)
 
 -- of 305 feedback dividers the walk takes 71 at 12 MHz
 pub walked-at-12-mhz : length (walked_of 12000000) ≡ 71

@@ -3,7 +3,7 @@ use mathlib.Core.{Path.◌≡◌, Logic.◌⊎◌, Logic.◌↔◌}
 use Rattle.std.specs.Prelude.{ℕ, ◌*◌, ◌≤◌, ◌<◌}
 use Rattle.base.specs.Answer.{Answer, value, refusal}
 use Rattle.pll.specs.Ranges.{reference_min, feedback_min, feedback_max, vco_min, vco_max}
-use Rattle.pll.specs.{Setting.vco_of, Setting.posts_of, Search.distance, Ends.walked_of, Ends.Among}
+use Rattle.pll.specs.{Setting.vco_of, Setting.posts_of, Search.distance, Ends.lowest_of, Ends.highest_of, Ends.walked_of, Ends.Among}
 use Rattle.pll.specs.declared.PllConfig.{PllConfig}
 
 -- a VCO frequency of 750 to 1600 MHz
@@ -30,6 +30,12 @@ pub record LowestPermitted (input fb : ℕ) : Type 0 where
 -- and its VCO frequency is in range.
 abbrev pub WalkTakesPermitted : Type 0
 WalkTakesPermitted = (input fb : ℕ) → Among fb (walked_of input) ↔ ((reference_min ≤ input) × VcoPermits input fb)
+
+-- No feedback divider that the walk takes lies beyond its two ends.
+abbrev pub WalkWithinEnds : Type 0
+WalkWithinEnds =
+    (input low high fb : ℕ) → lowest_of input ≡ value low → highest_of input ≡ value high → Among fb (walked_of input)
+    → (low ≤ fb) × (fb ≤ high)
 
 -- what the search chooses from: the reference is the input
 pub record Candidate (input : ℕ) (c : PllConfig) : Type 0 where
