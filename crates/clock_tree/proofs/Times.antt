@@ -5,6 +5,7 @@ use Rattle.config.specs.declared.PeriClkSrc.{PeriClkSrc}
 use mathlib.Core.{Bool.Bool, Bool.false, Bool.◌||◌, Path.◌≡◌, Path.refl, Path.ap, Path.◌∙◌}
 use mathlib.Core.List.{List, [], ◌∷◌}
 use Prim.Native.Nat.{ℕ, suc, ◌≤◌}
+use native.Mathlib.Omega.{arith}
 use lib.{Dec.eqb, Dec.ltb, ListN.take, ListN.drop}
 use Rattle.base.specs.Choice.{pick}
 use Rattle.std.proofs.lemmas.Bool.{or_parts}
@@ -185,6 +186,13 @@ peri-runs c hz (Some src) f now system divider file before after e0 e1 e2 e3 =
 peri-runs c hz None f now system divider file before after e0 e1 e2 e3 =
     e0 ∙ peri-absent c hz file (CLK_PERI_CTRL c) ∙ e1
 
+peri-off : (c : Chip) (hz : ℕ) (o : Option PeriClkSrc) (file before after : ℕ → ℕ)
+    → after (CLK_PERI_CTRL c) ≡ carried_out c (peri_part hz o) file (CLK_PERI_CTRL c)
+    → file (CLK_PERI_CTRL c) ≡ before (CLK_PERI_CTRL c) → has_peri o ≡ false
+    → after (CLK_PERI_CTRL c) ≡ before (CLK_PERI_CTRL c)
+peri-off c hz (Some src) file before after e0 e1 h = let z : ◌≡◌ {A = ℕ} 0 1 = cc in absurd (omega arith)
+peri-off c hz None file before after e0 e1 h = e0 ∙ peri-absent c hz file (CLK_PERI_CTRL c) ∙ e1
+
 usb-runs : (c : Chip) (hz : ℕ) (o : Option AuxClkConfig) (f : Sources) (file before after : ℕ → ℕ) → AuxSmall o
     → let set = carried_out c (aux_part kind.UsbDivider kind.UsbControl 7 hz o) file in
     after (CLK_USB_CTRL c) ≡ set (CLK_USB_CTRL c) → after (CLK_USB_DIV c) ≡ set (CLK_USB_DIV c)
@@ -275,6 +283,12 @@ true_of reading s before ok t one now same =
           (holds 13 8 reading s before (CLK_PERI_CTRL c) (peri-free c).0.0)
           (stays 8 reading s before (CLK_PERI_CTRL c) (peri-free c).1.0) system
           (divider-same c after before (stays 13 reading s before CLK_PERI_DIV (peri-free c).2.0) ∙ one);
+      peri_off =
+          peri-off c f.peri s.peri (up_to 8 reading s before) before after
+          (holds 13 8 reading s before (CLK_PERI_CTRL c) (peri-free c).0.0)
+          (stays 8 reading s before (CLK_PERI_CTRL c) (peri-free c).1.0);
+      peri_divider_kept =
+          divider-same c after before (stays 13 reading s before CLK_PERI_DIV (peri-free c).2.0);
       usb =
           usb-runs c f.usb s.usb (sources_in s) (up_to 9 reading s before) before after
           (aux-divider s.usb (aux-fits f.usb_source s.usb (a 12)))

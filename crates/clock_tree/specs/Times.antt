@@ -31,13 +31,16 @@ Runs true hz stored control before after = hz ≡ stored
 Runs false hz stored control before after = after control ≡ before control
 
 -- the frequencies that the registers give after the steps are those that the sheet stores, f. No step touches the
--- peripheral divider of the RP235x: that clock's frequency is true where the divider is 1, as after a reset
+-- peripheral divider of the RP235x: that clock's frequency is true where the divider is 1, as after a reset, and a sheet leaves
+-- the divider as it was, so as after any sheets from then on
 pub record AllTrue (s : Settings) (f : Frequencies) (c : Chip) (now : Sources) (before after : ℕ → ℕ) : Type 0 where
   pub sources : now ≡ f.sources
   pub reference : ref_at c now after ≡ f.reference
   pub sys : sys_at c now after ≡ f.sys
   pub peri : peri_divider c before ≡ 1
       → Runs (has_peri s.peri) (peri_at c now after) f.peri (CLK_PERI_CTRL c) before after
+  pub peri_off : has_peri s.peri ≡ false → after (CLK_PERI_CTRL c) ≡ before (CLK_PERI_CTRL c)
+  pub peri_divider_kept : peri_divider c after ≡ peri_divider c before
   pub usb : Runs (has_aux s.usb) (usb_at c now after) f.usb (CLK_USB_CTRL c) before after
   pub adc : Runs (has_aux s.adc) (adc_at c now after) f.adc (CLK_ADC_CTRL c) before after
   pub rtc : Runs (has_rtc s.board.rtc) (rtc_at now after) f.rtc CLK_RTC_CTRL before after
