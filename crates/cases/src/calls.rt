@@ -138,15 +138,15 @@ pub(crate) fn write_bench_run(out: &mut Writer<'_, u8>, words: &Words)
     write(out, r, &bench, b"");
 }
 
-// The row of words, slots and steps that a sleep or a wake leaves. The index goes on by hand: a writer was tried, and the check does
-// not find that the row is what it put.
+// The row of words, slots and steps that a sleep or a wake leaves.
 fn changed_row(words: &[u32; 11], slots: &[u32; 48], steps: &[u32; 28]) -> [u32; 87]
     ensures { result ≡ changed_row words.now slots.now steps.now }
 {
     let mut row = [0u32; 87];
-    let at = base::put_all(&mut row, 0, words);
-    let at = base::put_all(&mut row, at, slots);
-    let _end = base::put_all(&mut row, at, steps);
+    let mut out = Writer::new(&mut row);
+    out.put_all(words);
+    out.put_all(slots);
+    out.put_all(steps);
     row
 }
 
