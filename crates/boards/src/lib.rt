@@ -47,8 +47,8 @@ impl Bench {
         self.boards[board as usize].poll(kept, sheet, ready)
     }
 
-    // One call for a board by value: its answer, and the bench after it. The calls by value are the public
-    // forms beside those in place (docs/DECISIONS.md, 19 and 20).
+    // One call for a board by value: its answer, and the bench after it. The calls by value stand beside those in
+    // place, since a public call is not taken away (docs/DECISIONS.md, 20).
     pub fn advance(self, board: u8, sheet: &[u8], ready: bool) -> (Result<Reply, Refusal>, Self)
         ensures { outcome (answer_of result.0) result.1 ≡ bench_of self board sheet.now ready }
     {

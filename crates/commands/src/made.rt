@@ -9,8 +9,8 @@ use orders::Planned;
 // The number of bytes written or a refusal; None where the words are not READING ORDER.
 pub type Made = Option<Result<usize, Refusal>>;
 
-// Writes the sheet of the ordered plan; None where there is no order. A refusal is passed on by hand: `and_then` would take the lent
-// sheet into a closure, of which all that `init` promises would have to be said again.
+// Writes the sheet of the ordered plan; None where there is no order. `and_then` was tried, and its proof does not close: the library
+// does not say that a closure that is not called leaves the sheet it holds as it was.
 fn write(order: Option<Planned>, reading: u8, sheet: &mut [u8]) -> Made
     ensures { MadeCall (answer_in order) reading sheet.old result sheet.new }
 {

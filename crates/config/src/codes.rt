@@ -85,7 +85,8 @@ impl SysClkSrc {
         u8::from(self).saturating_sub(1)
     }
 
-    // Decodes the AUXSRC code; any number from 3 on gives the crystal. It is no `From`, which would be of the number of all five sources.
+    // Decodes the AUXSRC code; any number from 3 on gives the crystal. It is no `From`: that is there, and takes
+    // the number of all five sources.
     pub fn from_aux(code: u64) -> SysClkSrc
         ensures { result ≡ sys_from code }
     {

@@ -6,22 +6,19 @@ ghost use Rattle.base.specs.Choice.{bit};
 ghost use Rattle.base.specs.Writing.{Puts};
 ghost use Rattle.meanings.specs.Form.{clock_name, mask_text, is_field, piece_of, formed};
 
-use crate::rows::row;
 use base::Writer;
 use std::slice::Iter;
+use step::Clock;
 
-// A step's field is any number, so the table has a last row for no clock; a lemma would have to tie its other rows to the names of
-// `step::Clock` one by one.
-static CLOCKS: [&str; 11] = [
-    "rosc", "xosc", "pll_sys", "pll_usb", "ref", "sys", "peri", "usb", "adc", "rtc", "no clock",
-];
-
-// The name of a clock; from 10 on there is no clock.
+// The name of a clock. A step's field is any number; from 10 on there is no clock.
 #[tactic(auto, unfolding(crate::specs::Form::clock_rows, crate::specs::Form::clock_name, crate::specs::Rows::row_text))]
 fn clock_name(clock: u64) -> &'static [u8]
     ensures { result.now ≡ clock_name clock }
 {
-    row(&CLOCKS, clock.min(10) as u8)
+    match Clock::ALL.get(clock.min(10) as usize) {
+        Some(clock) => clock.name().as_bytes(),
+        None => b"no clock",
+    }
 }
 
 // Writes the 28 low bits in hex.

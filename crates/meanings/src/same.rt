@@ -6,7 +6,8 @@ ghost use Rattle.meanings.specs.Differences.{agreeing};
 use settings::Settings;
 
 // Whether the two have the same chip, ring, crystal, system PLL, USB PLL, voltage code, settling step, reference, system,
-// peripheral, USB, ADC and RTC clock, in the order of docs/FORMAT.md, Settings that count. A PLL is absent with its crystal.
+// peripheral, USB, ADC and RTC clock, in the order of docs/FORMAT.md, Settings that count. A PLL is absent with its crystal. One `==`
+// of the settings would be no plainer: the answer names the parts that differ, by a bit for each.
 pub(crate) fn same_parts(a: Settings, b: Settings) -> [bool; 13]
     ensures { result ≡ agreeing (parts_of a) (parts_of b) }
 {

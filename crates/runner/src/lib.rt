@@ -135,8 +135,8 @@ impl Runner {
         self.stepper.poll(kept, sheet, ready)
     }
 
-    // One call by value: its answer, and the runner after it. The calls by value are the public forms beside those in place
-    // (docs/DECISIONS.md, 19 and 20).
+    // One call by value: its answer, and the runner after it. The calls by value stand beside those in place, since a public call
+    // is not taken away (docs/DECISIONS.md, 20).
     pub fn advance(self, sheet: &[u8], ready: bool) -> (Result<Reply, Refusal>, Self)
         ensures { outcome (answer_of result.0) result.1 ≡ advance_of self sheet.now ready }
     {
@@ -187,7 +187,7 @@ fn keep(sheet: &[u8]) -> [u8; MAX_BYTES]
 }
 
 // Whether a and b hold the same bytes. It looks at all of them, so that it is short and compares several bytes at a time; the
-// library's `==` of slices takes 1556 bytes of a firmware, which has the 5120 that it may have.
+// library's `==` of slices takes 1556 bytes of a firmware, which is at its limit of 5120 (docs/BOARD.md).
 fn same_bytes(a: &[u8], b: &[u8]) -> bool
     ensures { result ≡ same a.now b.now }
 {

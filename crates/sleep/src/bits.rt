@@ -2,8 +2,8 @@
 ghost use Rattle.std.specs.Prelude.{◌≡◌, ◌+◌, ◌^◌, ◌<◌};
 ghost use Rattle.sleep.specs.Bits.{field, with_field, pll_off, pll_runs, crystal_runs};
 
-// A field of a register word: the `size` bits from bit `low` up. `bits` of step is the same over 64 bits, whose answers would have to be
-// cut to the 32 of a register.
+// A field of a register word: the `size` bits from bit `low` up. `bits` of step is private, is over 64 bits, and takes the bit above
+// the field in place of the size.
 #[derive(Clone, Copy)]
 pub(crate) struct Field {
     low: u32,

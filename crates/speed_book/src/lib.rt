@@ -18,8 +18,8 @@ use pll::PllConfig;
 pub const ENTRIES: usize = 1988;
 
 // The table of a book: an output and its setting as the decimal digits of one number. It is no struct with methods, since a
-// program in C holds an open book as numbers and hands it in: so there are `open` and `lookup_in` beside `book` and `lookup`, which
-// take no table; `entry_in` takes any table too (docs/DECISIONS.md, 46).
+// program in C holds an open book as numbers and hands it in: so there are `open`, `lookup_in` and `entry_in` beside `book`, `lookup`
+// and `entry`, which take no table (docs/DECISIONS.md, 46).
 pub type Book = [u64; ENTRIES];
 
 // A line of the book: an output in whole hertz and its setting.

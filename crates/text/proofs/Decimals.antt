@@ -3,11 +3,14 @@
 use mathlib.Core.{Path.◌≡◌, Path.refl, Path.ap, Path.◌∙◌, Bool.Bool, Bool.true, Bool.false, Bool.◌&&◌}
 use mathlib.Core.List.{List, [], ◌∷◌, ◌++◌}
 use Prim.Native.Nat.{ℕ, zero, suc, ◌+◌, ◌-◌, ◌*◌, ◌/◌, ◌%◌, ◌^◌, ◌≤◌, ◌<◌}
-use native.Mathlib.{Decide.dec_lt, Nat.pow-suc, Numerals.add-one, Omega.arith}
-use borrow.Author.Tests.{lt-ltb, le-ltb, le-leb, lt-leb}
-use lib.{Dec.leb, Dec.ltb, ListN.length, ListN.drop, ListN.get_or, ListN.length-append, Seq.drop-cons}
+use native.Mathlib.{Decide.dec_le, Decide.dec_lt, Nat.pow-suc, Omega.arith}
+use borrow.Author.{Rules.rules, Tests.tests, Tests.lt-ltb, Tests.le-ltb, Tests.le-leb, Tests.lt-leb}
+use lib.{Dec.leb, Dec.ltb, ListN.length, ListN.length-append}
 use Rattle.base.specs.{Answer.value, Answer.refusal, Choice.pick, Choice.in_range}
-use Rattle.std.proofs.lemmas.Bool.{and_parts}
+use Rattle.std.specs.Prelude.{Result, Ok, Err}
+use Rattle.std.specs.{Char.is_ascii_digit, List.list_all, Result.MatchResult, Str.IsUtf8, Str.Parse.ParsesUnsigned}
+use Rattle.std.proofs.lemmas.{Bool.and_parts, Fmt.IsAscii-from_digits, Str.IsUtf8-from_ascii}
+use Rattle.std.proofs.lemmas.Str.Parse.{IsNumeralModel, numerals_by_fold, parse_digits}
 use Rattle.text.specs.Decimal.{last_digit, digits_of, decimal_of, is_digit, all_digits, value_after, value_of, is_number, number_of}
 
 digits-small : (k n : ℕ) → n < 10 → digits_of (suc k) n ≡ last_digit n ∷ []
@@ -88,42 +91,30 @@ length-decimal (suc k) n h =
       | no l ↦ rw (decimal_more n (omega arith)) (simp length-append (omega arith))
     ]
 
--- a value does not decrease with more digits
-pub value_grows : (cs : List ℕ) (n : ℕ) → n ≤ value_after n cs
-value_grows [] n = omega arith
-value_grows (c ∷ cs) n = let h = value_grows cs (n * 10 + (c - 48)) in omega arith
-
--- the value and the digit test, with one byte more read
-module _ (s : List ℕ) (i : ℕ) (inside : i < length s) where
-  pub value-step : (n : ℕ) → value_after n (drop i s) ≡ value_after (n * 10 + (get_or s i 0 - 48)) (drop (i + 1) s)
-  value-step n = rw (add-one, drop-cons s i 0 inside)
-
-  pub digits_step : all_digits (drop i s) ≡ (is_digit (get_or s i 0) && all_digits (drop (i + 1) s))
-  digits_step = rw (add-one, drop-cons s i 0 inside)
-
--- bytes that spell no number: a wrong length, a byte that is no digit, a value above 32 bits
+-- bytes that spell no number: a wrong length, a value above 32 bits, bytes that are not 1 to 10 digits
 pub bad-length : (cs : List ℕ) → in_range 1 10 (length cs) ≡ false → number_of cs ≡ refusal 24
 unfolding number_of is_number
 bad-length cs e = rw e
-
-second : (a b c : Bool) → b ≡ false → (a && b && c) ≡ false
-second true b c e = rw e
-second false b c e = refl
 
 third : (a b c : Bool) → c ≡ false → (a && b && c) ≡ false
 third true true c e = e
 third true false c e = refl
 third false b c e = refl
 
-pub bad-digits : (cs : List ℕ) → all_digits cs ≡ false → number_of cs ≡ refusal 24
-unfolding number_of is_number
-bad-digits cs e = rw (second (in_range 1 10 (length cs)) (all_digits cs) (leb (value_of cs) 4294967295) e)
-
 pub bad-value : (cs : List ℕ) → 4294967295 < value_of cs → number_of cs ≡ refusal 24
 unfolding number_of is_number
 bad-value cs h =
     let e : leb (value_of cs) 4294967295 ≡ false = lt-leb (value_of cs) 4294967295 h in
     rw (third (in_range 1 10 (length cs)) (all_digits cs) (leb (value_of cs) 4294967295) e)
+
+pub not_digits : (cs : List ℕ) → (in_range 1 10 (length cs) && all_digits cs) ≡ false → number_of cs ≡ refusal 24
+unfolding number_of is_number
+not_digits cs e = rw (neither (in_range 1 10 (length cs)) (all_digits cs) (leb (value_of cs) 4294967295) e)
+  where
+    neither : (a b c : Bool) → (a && b) ≡ false → (a && b && c) ≡ false
+    neither true true c e = absurd (search (rules, e))
+    neither true false c e = refl
+    neither false b c e = refl
 
 -- bytes that spell one
 pub good-number : (cs : List ℕ) → 1 ≤ length cs → length cs ≤ 10 → all_digits cs ≡ true → value_of cs ≤ 4294967295
@@ -138,3 +129,32 @@ decimal-back n h =
     let l = length-decimal 9 n (omega arith) in
     let v = value-decimal n in
     good-number (decimal_of n) l.0 l.1 (digits_decimal n) (omega arith) ∙ ap value v
+
+-- all bytes are digits just where each is
+pub each_digit : (cs : List ℕ) → list_all is_ascii_digit cs ≡ all_digits cs
+each_digit [] = refl
+each_digit (c ∷ cs) = rw (each_digit cs)
+
+-- the digits and their value are those that the library's `parse` reads
+numerals : IsNumeralModel (λ cs. all_digits cs ≡ true) value_of
+unfolding value_of
+numerals = numerals_by_fold _ (search rules) value_after (search rules)
+
+pub digits_utf8 : (cs : List ℕ) → all_digits cs ≡ true → IsUtf8 cs
+digits_utf8 cs e = IsUtf8-from_ascii cs (IsAscii-from_digits cs (numerals.to cs e))
+
+-- what `parse` makes of 1 to 10 digits is the number that they spell, or no number where it is above 32 bits
+pub parsed : {E : Type 0} (cs : List ℕ) (r : Result ℕ E) → ParsesUnsigned 32 10 cs r
+    → (in_range 1 10 (length cs) && all_digits cs) ≡ true → MatchResult r (λ n. number_of cs ≡ value n) (λ e. number_of cs ≡ refusal 24)
+unfolding number_of is_number
+parsed {E} cs (Ok n) h e =
+    let p = and_parts (in_range 1 10 (length cs)) (all_digits cs) e in
+    let k = parse_digits numerals {E = E} 32 cs (Ok n) h p.1 in
+    rw (k.1, p.0, p.1, le-leb (value_of cs) 4294967295 (omega (arith, k.0.1))) refl
+parsed {E} cs (Err x) h e =
+    let p = and_parts (in_range 1 10 (length cs)) (all_digits cs) e in
+    let some : 0 < length cs = search (rules, tests, p.0) in
+    elim (dec_le (value_of cs) 4294967295) [
+      | yes l ↦ absurd (parse_digits numerals {E = E} 32 cs (Err x) h p.1 (some, omega (arith, l)))
+      | no l ↦ bad-value cs (omega (arith, l))
+    ]

@@ -3,10 +3,11 @@
 
 mod named;
 
-ghost use Rattle.std.specs.Prelude.{◌≡◌, ◌%◌, ◌≤◌, ◌<◌, length};
+ghost use Rattle.std.specs.Prelude.{◌≡◌, ◌%◌, ◌≤◌, ◌<◌, ◌&&◌, length};
+ghost use Rattle.base.specs.Choice.{in_range};
 ghost use Rattle.base.specs.Answer.{answer_of};
 ghost use Rattle.base.specs.Writing.{Puts};
-ghost use Rattle.text.specs.Decimal.{last_digit, decimal_of, number_of};
+ghost use Rattle.text.specs.Decimal.{last_digit, decimal_of, all_digits, number_of};
 ghost use Rattle.text.specs.Hex.{hex_digit, hex_pair, hex_of, hex_value};
 ghost use Rattle.text.specs.Hex.{are_pairs, pair_values, is_hex_word, HexReading};
 ghost use Rattle.text.specs.Words.{up_to, line_number_of};
@@ -54,25 +55,24 @@ pub fn write_hex(out: &mut Writer<'_, u8>, s: &[u8])
     }
 }
 
-// The number that s spells: 1 to 10 decimal digits, at most 4294967295. Refusal: 24 where s spells no such number. It is not
-// `parse`: behind the tests of length and digits that a sign and more zeros ask for, it is no shorter.
+// Whether s is 1 to 10 decimal digits.
+fn are_digits(s: &[u8]) -> bool
+    ensures { result ≡ (in_range 1 10 (length s.now) && all_digits s.now) }
+{
+    (1..=10).contains(&s.len()) && s.iter().all(|c| c.is_ascii_digit())
+}
+
+// The number that s spells: 1 to 10 decimal digits, at most 4294967295. Refusal: 24 where s spells no such number. `parse` alone
+// would take a sign, and more zeros.
+#[tactic(auto, using(crate::proofs::Decimals::not_digits, crate::proofs::Decimals::digits_utf8, crate::proofs::Decimals::parsed))]
 pub fn number(s: &[u8]) -> Result<u32, Refusal>
     ensures { answer_of result ≡ number_of s.now }
 {
-    if !(1..=10).contains(&s.len()) {
+    if !are_digits(s) {
         return Err(Refusal::UnreadableInput);
     }
-    let mut n: u64 = 0;
-    for c in s {
-        if !c.is_ascii_digit() {
-            return Err(Refusal::UnreadableInput);
-        }
-        n = n * 10 + u64::from(*c - b'0');
-        if u64::from(u32::MAX) < n {
-            return Err(Refusal::UnreadableInput);
-        }
-    }
-    Ok(n as u32)
+    let digits = str::from_utf8(s).map_err(|_| Refusal::UnreadableInput)?;
+    digits.parse().map_err(|_| Refusal::UnreadableInput)
 }
 
 // The index of the first b, which is the count of the bytes before it; the end of s where there is none.
