@@ -10,3 +10,4 @@ pub mod Waits
 pub mod Running
 pub mod Switched
 pub mod Presets
+pub mod Awake

@@ -17,7 +17,7 @@ use Rattle.registers.specs.Map.{RESET, XOSC_CTRL, ROSC_CTRL, CLK_REF_CTRL, CLK_S
 use Rattle.sheet_steps.specs.Steps.{mark_steps, head_part, ring_part, voltage_part, crystal_part}
 use Rattle.clock_tree.specs.Machine.{bits_at, held, carried_out}
 use Rattle.clock_tree.specs.Tree.{oscillates}
-use Rattle.clock_tree.specs.Waits.{all_waits, pll_runs, ref_runs, source_runs}
+use Rattle.clock_tree.specs.Waits.{all_waits, pll_runs, ref_runs, source_runs, Awake}
 use Rattle.clock_tree.proofs.Addresses.{member}
 use Rattle.clock_tree.proofs.Parts.{voltage_own, crystal_own, crystal_steps}
 use Rattle.clock_tree.proofs.Parts.{voltage as voltage-calm, crystal as crystal_on}
@@ -26,10 +26,6 @@ use Rattle.clock_tree.proofs.Set.{range-on, PllSet, CrystalSet, crystal-sets}
 use Rattle.clock_tree.proofs.{Hz.pll-on, Times.held_none, Waits.sys-cleared, Waits.ref-cleared}
 
 -- ---- the file between the parts
-
-pub record Awake (c : Chip) (file : ℕ → ℕ) : Type 0 where
-  pub ring : oscillates (file (ROSC_CTRL c)) ≡ true
-  pub reference : ref_runs c file ≡ true
 
 pub record Headed (c : Chip) (file : ℕ → ℕ) : Type 0 where
   pub ring : oscillates (file (ROSC_CTRL c)) ≡ true
@@ -170,7 +166,7 @@ unfolding pll_hz
 pll-runs c w hz (Some p) file on out set nonzero = rw (on, pll-on c w file out set.0)
 pll-runs c w hz None file on out set nonzero = absurd (nonzero refl)
 
-running : (c : Chip) (r : Option RoscConfig) (x : Option Crystal) (file : ℕ → ℕ) → oscillates (file (ROSC_CTRL c)) ≡ true
+pub running : (c : Chip) (r : Option RoscConfig) (x : Option Crystal) (file : ℕ → ℕ) → oscillates (file (ROSC_CTRL c)) ≡ true
     → file (RESET c) ≡ 0 → CrystalSet c x file → Running c (sources_of r x) file
 unfolding sources_of
 running c r (Some x) file on reset set =

@@ -139,7 +139,7 @@ last Rp235x mask = record { walk = λ file p. (refl, tt) }
 zero-over : (n d : ℕ) → n ≡ 0 → n / d ≡ 0
 zero-over n d e = omega (arith, e, div-le_self n d)
 
-ref-source : (f : Sources) (r : RefClkConfig) → reference_bad (ref_hz f r) ≡ false → NonZero (ref_source f r.src)
+pub ref-source : (f : Sources) (r : RefClkConfig) → reference_bad (ref_hz f r) ≡ false → NonZero (ref_source f r.src)
 unfolding reference_bad ref_hz
 ref-source f r e still =
     eqb-false (ref_hz f r) 0 (or_parts (eqb (ref_hz f r) 0) _ e).0 (zero-over (ref_source f r.src) r.div still)

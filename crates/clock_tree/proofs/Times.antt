@@ -57,7 +57,7 @@ power-free : (c : Chip) → Free c 1 4 (PLL_PWR c 0 ∷ PLL_PWR c 1 ∷ [])
 power-free Rp2040 = (refl, (refl, tt))
 power-free Rp235x = (refl, (refl, tt))
 
-ring-free : (c : Chip) → Free c 2 13 (ROSC_CTRL c ∷ [])
+pub ring-free : (c : Chip) → Free c 2 13 (ROSC_CTRL c ∷ [])
 ring-free Rp2040 = (refl, tt)
 ring-free Rp235x = (refl, tt)
 
@@ -70,7 +70,7 @@ pll-free : (c : Chip) → Free c 4 12 (PLL_PWR c 0 ∷ PLL_PWR c 1 ∷ [])
 pll-free Rp2040 = ((refl, (refl, tt)), (refl, (refl, (refl, (refl, (refl, (refl, tt)))))))
 pll-free Rp235x = ((refl, (refl, tt)), (refl, (refl, (refl, (refl, (refl, (refl, tt)))))))
 
-ref-free : (c : Chip) → Free c 6 13 (CLK_REF_CTRL c ∷ CLK_REF_DIV c ∷ [])
+pub ref-free : (c : Chip) → Free c 6 13 (CLK_REF_CTRL c ∷ CLK_REF_DIV c ∷ [])
 ref-free Rp2040 = (refl, (refl, tt))
 ref-free Rp235x = (refl, (refl, tt))
 
@@ -108,12 +108,12 @@ reset-before reading s before =
     let c : Chip = s.board.chip in
     holds 12 1 reading s before (RESET c) (reset-free c).0 ∙ (head-sets c (up_to 1 reading s before)).0
 
-record Ended (reading : ℕ) (s : Settings) (before : ℕ → ℕ) : Type 0 where
-  reset : up_to 13 reading s before (RESET s.board.chip) ≡ 0
-  sys : up_to 13 reading s before (PLL_PWR s.board.chip 0) ≡ up_to 12 reading s before (PLL_PWR s.board.chip 0)
-  usb : up_to 13 reading s before (PLL_PWR s.board.chip 1) ≡ up_to 12 reading s before (PLL_PWR s.board.chip 1)
+pub record Ended (reading : ℕ) (s : Settings) (before : ℕ → ℕ) : Type 0 where
+  pub reset : up_to 13 reading s before (RESET s.board.chip) ≡ 0
+  pub sys : up_to 13 reading s before (PLL_PWR s.board.chip 0) ≡ up_to 12 reading s before (PLL_PWR s.board.chip 0)
+  pub usb : up_to 13 reading s before (PLL_PWR s.board.chip 1) ≡ up_to 12 reading s before (PLL_PWR s.board.chip 1)
 
-ended : (reading : ℕ) (s : Settings) (before : ℕ → ℕ) → Ended reading s before
+pub ended : (reading : ℕ) (s : Settings) (before : ℕ → ℕ) → Ended reading s before
 ended reading s before =
     let c : Chip = s.board.chip in
     let mask : ℕ = release_mask c s.peri s.usb s.adc s.board.rtc in
@@ -132,7 +132,7 @@ crystal-moves c (Some x) f g e sys usb h =
     record { on = ap oscillates e ∙ h.on; sys = sys x.sys h.sys; usb = usb x.usb h.usb }
 crystal-moves c None f g e sys usb h = (sys None h.0, usb None h.1)
 
-crystal-ends : (reading : ℕ) (s : Settings) (before : ℕ → ℕ)
+pub crystal-ends : (reading : ℕ) (s : Settings) (before : ℕ → ℕ)
     → CrystalSet s.board.chip s.xosc (up_to 13 reading s before)
 crystal-ends reading s before =
     let c : Chip = s.board.chip in

@@ -14,7 +14,7 @@ use Rattle.registers.specs.Access.{access_of, op_of, address_of, mask_of, value_
 use Rattle.registers.specs.Map.{RESET, RESET_DONE, CLK_REF_CTRL, CLK_REF_SELECTED, CLK_SYS_CTRL, CLK_SYS_SELECTED}
 use Rattle.registers.specs.Map.{XOSC_CTRL, XOSC_STATUS, ROSC_CTRL, PLL_CS}
 use Rattle.sheet_steps.specs.Steps.{steps_of}
-use Rattle.clock_tree.specs.{Machine.bits_at, Machine.done, Tree.oscillates, Tree.pll_at, Tree.vco_on, Tree.pll_on}
+use Rattle.clock_tree.specs.{Machine.bits_at, Machine.done, Machine.carried_out, Tree.oscillates, Tree.pll_at, Tree.vco_on, Tree.pll_on}
 
 -- a PLL locks if it has power, its crystal oscillates, and its dividers give a reference and a VCO within their ranges
 abbrev pub locks : Chip → ℕ → ℕ → (ℕ → ℕ) → Bool
@@ -76,7 +76,12 @@ source_runs c a file =
     pick (eqb (address_of a) (CLK_SYS_SELECTED c)) (sys_runs c file)
     (pick (eqb (address_of a) (CLK_REF_SELECTED c)) (ref_runs c file) true)
 
--- provided that the ring and the reference clock run before, as after a reset of the chip
+-- the ring oscillates and the source of the reference clock runs, as after a reset of the chip
+pub record Awake (c : Chip) (file : ℕ → ℕ) : Type 0 where
+  pub ring : oscillates (file (ROSC_CTRL c)) ≡ true
+  pub reference : ref_runs c file ≡ true
+
+-- provided that the ring and the reference clock run before, as after a reset of the chip or after other sheets (`StaysAwake`)
 abbrev pub SourcesRun : Type 0
 SourcesRun =
     (p : ClockConfig) (reading : ℕ) → Accepted p reading → (before : ℕ → ℕ)
@@ -84,3 +89,19 @@ SourcesRun =
     let c = s.board.chip in
     oscillates (before (ROSC_CTRL c)) ≡ true → ref_runs c before ≡ true
     → all_waits c (source_runs c) (steps_of reading s) before ≡ true
+
+-- the sheet of an accepted plan for the chip
+pub record Sheet (c : Chip) : Type 0 where
+  pub plan : ClockConfig
+  pub reading : ℕ
+  pub accepted : Accepted plan reading
+  pub chip : (settings_of plan reading).board.chip ≡ c
+
+-- the file after sheets, one after another
+abbrev pub after_sheets : (c : Chip) → List (Sheet c) → (ℕ → ℕ) → (ℕ → ℕ)
+after_sheets c [] file = file
+after_sheets c (x ∷ xs) file = after_sheets c xs (carried_out c (steps_of x.reading (settings_of x.plan x.reading)) file)
+
+-- sheets leave the chip as they want to find it
+abbrev pub StaysAwake : Type 0
+StaysAwake = (c : Chip) (sheets : List (Sheet c)) (before : ℕ → ℕ) → Awake c before → Awake c (after_sheets c sheets before)

@@ -1,0 +1,79 @@
+-- After a sheet the ring and the source of the reference clock run: both are set, or left, by one part of the sheet, and no later
+-- part changes them.
+use Rattle.std.specs.Prelude.{Option, Some, None}
+use mathlib.Core.{Bool.true, Bool.false, Path.◌≡◌, Path.refl, Path.subst, Path.ap, Path.◌∙◌, List.[], List.◌∷◌}
+use Prim.Native.Nat.{ℕ}
+use lib.ListN.{take}
+use Rattle.chip.specs.declared.{Chip.Chip, Chip.TheVariants.Rp2040, Chip.TheVariants.Rp235x}
+use Rattle.chip.specs.Chips.{facts_of}
+use Rattle.config.specs.declared.{RoscConfig.RoscConfig, RefClkSrc.RefClkSrc}
+use Rattle.config.specs.Codes.{ref_code}
+use Rattle.settings.specs.declared.{Settings.Settings, Sources.Sources}
+use Rattle.settings.specs.Settings.{settings_of}
+use Rattle.settings.specs.Frequencies.{ref_source, sources_in, frequencies_of}
+use Rattle.refusals.specs.Refusals.{refusal_of}
+use Rattle.refusals.proofs.Accepted.{accepted-by}
+use Rattle.registers.specs.Access.{has, access_of}
+use Rattle.registers.specs.Map.{ROSC_CTRL, CLK_REF_CTRL, REF_SRC}
+use Rattle.sheet_steps.specs.Steps.{ring_part, clocks_part, steps_of}
+use Rattle.clock_tree.specs.Machine.{carried_out}
+use Rattle.clock_tree.specs.Tree.{oscillates}
+use Rattle.clock_tree.specs.Waits.{ref_runs, Awake, StaysAwake}
+use Rattle.clock_tree.proofs.Addresses.{member}
+use Rattle.clock_tree.proofs.Parts.{owns}
+use Rattle.clock_tree.proofs.Sheet.{joined, up_to, holds, stays}
+use Rattle.clock_tree.proofs.Set.{range-on, ref-sets}
+use Rattle.clock_tree.proofs.Times.{ring-free, ref-free, ended, crystal-ends}
+use Rattle.clock_tree.proofs.Running.{NonZero, Running, running}
+use Rattle.clock_tree.proofs.Switched.{ref-source}
+
+-- a ring that oscillates still does after the ring's part
+ring-stays : (c : Chip) (pass : ℕ) (r : Option RoscConfig) (file : ℕ → ℕ) → oscillates (file (ROSC_CTRL c)) ≡ true
+    → oscillates (carried_out c (ring_part pass r) file (ROSC_CTRL c)) ≡ true
+unfolding access_of has ring_part
+ring-stays Rp2040 pass (Some r) file on = range-on r.range
+ring-stays Rp235x pass (Some r) file on = range-on r.range
+ring-stays Rp2040 pass None file on = on
+ring-stays Rp235x pass None file on = on
+
+-- the source that the reference part selects runs
+selected : (c : Chip) (f : Sources) (src : RefClkSrc) (file : ℕ → ℕ) → file (CLK_REF_CTRL c) ≡ REF_SRC (ref_code src)
+    → Running c f file → NonZero (ref_source f src) → ref_runs c file ≡ true
+selected c f RefClkSrc.Rosc file e p nonzero = rw e p.ring
+selected c f RefClkSrc.Xosc file e p nonzero = rw e (p.xosc nonzero)
+selected c f RefClkSrc.PllUsb file e p nonzero = rw e (p.usb nonzero)
+
+ring-first : (c : Chip) → member (ROSC_CTRL c) (joined (take 2 (owns c))) ≡ false
+ring-first Rp2040 = refl
+ring-first Rp235x = refl
+
+-- one sheet
+awake-after : (reading : ℕ) (s : Settings) → refusal_of s reading ≡ None → (before : ℕ → ℕ)
+    → oscillates (before (ROSC_CTRL s.board.chip)) ≡ true → Awake s.board.chip (carried_out s.board.chip (steps_of reading s) before)
+unfolding steps_of clocks_part
+awake-after reading s ok before on =
+    let c : Chip = s.board.chip in
+    let after : ℕ → ℕ = up_to 13 reading s before in
+    let start = ap oscillates (stays 2 reading s before (ROSC_CTRL c) (ring-first c)) ∙ on in
+    let ring : oscillates (after (ROSC_CTRL c)) ≡ true =
+    ap oscillates (holds 13 2 reading s before (ROSC_CTRL c) (ring-free c).0)
+    ∙ ring-stays c (facts_of c).pass s.rosc (up_to 2 reading s before) start in
+    record {
+      ring = ring;
+      reference =
+          selected c (sources_in s) s.reference.src after
+          (holds 13 6 reading s before (CLK_REF_CTRL c) (ref-free c).0
+          ∙ (ref-sets c (frequencies_of s).reference s.reference (up_to 6 reading s before)).0)
+          (running c s.rosc s.xosc after ring (ended reading s before).reset (crystal-ends reading s before))
+          (ref-source (sources_in s) s.reference (accepted-by s reading ok 8));
+    }
+
+pub stays-awake : StaysAwake
+stays-awake c [] before h = h
+stays-awake c (x ∷ xs) before h =
+    let s = settings_of x.plan x.reading in
+    let after : ℕ → ℕ = carried_out c (steps_of x.reading s) before in
+    let next : Awake c after =
+    subst (λ (k : Chip). oscillates (before (ROSC_CTRL k)) ≡ true → Awake k (carried_out k (steps_of x.reading s) before)) x.chip
+    (awake-after x.reading s x.accepted before) h.ring in
+    stays-awake c xs after next
