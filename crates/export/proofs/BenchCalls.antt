@@ -24,6 +24,7 @@ use Rattle.numbers.specs.Bench.{runner_at, bench_in, bench_number, fresh_numbers
 use Rattle.numbers.proofs.Boards.{board-at, over-leaves}
 use Rattle.export.specs.Calls.{Held, held_of, held_after, run_numbers, IsBench, bench_call_leaves, bench_held_after, bench_numbers}
 use Rattle.export.specs.Calls.{ExportedSingle, ExportedSame}
+use Rattle.export.specs.State.{bench_held}
 use Rattle.export.proofs.{Rows.mark-same, Calls.taken, Calls.answered, Calls.after-start}
 use Rattle.sleep.proofs.Replay.{either_way}
 use Rattle.export.proofs.Benches.{bench-decoded, bench-held}
@@ -34,10 +35,6 @@ started_by h o = record { numbers = start_all_leaves o.answer h.numbers o.next.l
 after_one : (b : Bench) (e : BenchEvent) (es : List BenchEvent) → bench_after (bench_after b (e ∷ [])) es ≡ bench_after b (e ∷ es)
 after_one b (start sheet) es = refl
 after_one b (poll n sheet ready) es = refl
-
--- the bench that numbers and bytes hold
-abbrev pub bench_held : Held → Bench
-bench_held h = bench_in h.numbers h.bytes
 
 started-bench : (h : Held) (sheet : List ℕ) → bad_size (length sheet) ≡ false
     → (bench_held (bench_call_leaves h (start sheet)) ≡ (start_all_of (bench_held h) sheet).next)

@@ -48,7 +48,7 @@ ten-same a b i k e =
     rw (e0, e 1 (omega arith), e 2 (omega arith), e 3 (omega arith), e 4 (omega arith))
     (rw (e 5 (omega arith), e 6 (omega arith), e 7 (omega arith), e 8 (omega arith), e 9 (omega arith)))
 
-ten-whole : (l : List ℕ) → length l ≡ 10 → ten_at l 0 ≡ l
+pub ten-whole : (l : List ℕ) → length l ≡ 10 → ten_at l 0 ≡ l
 ten-whole = row-whole 10
 
 module _ (ns : List ℕ) (long : length ns ≡ 113) (n : ℕ) (few : n ≤ 7) (b : Stepper) (ten : length b.freqs ≡ 10) where

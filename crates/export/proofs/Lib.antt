@@ -7,3 +7,4 @@ pub mod Benches
 pub mod BenchCalls
 pub mod Sleeps
 pub mod Untouched
+pub mod State

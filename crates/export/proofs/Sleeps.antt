@@ -1,13 +1,12 @@
 -- The numbers of slots read back as the slots, and slots are written as the same numbers. So what holds of slots holds of any
 -- sequence of exported sleeps and wakes.
 use Rattle.std.specs.Prelude.{Some}
-use mathlib.Core.{Bool.Bool, Bool.true, Bool.◌&&◌}
+use mathlib.Core.{Bool.true}
 use mathlib.Core.{List.List, List.[], List.◌∷◌, Path.◌≡◌, Path.refl, Path.sym, Path.ap, Path.◌∙◌}
 use Prim.Native.Nat.{ℕ, zero, suc, ◌+◌, ◌≤◌}
 use native.Mathlib.Omega.{arith}
-use borrow.Author.Tests.{le-ltb, ltb-false, leb-true}
-use lib.{Dec.eqb, Dec.leb, Dec.ltb, ListN.length, ListN.set, ListN.replicate, Seq.sets}
-use Rattle.std.proofs.lemmas.Bool.{and_parts}
+use borrow.Author.Tests.{le-ltb, ltb-false}
+use lib.{Dec.eqb, Dec.ltb, ListN.length, ListN.set, ListN.replicate, Seq.sets}
 use Rattle.fields.specs.Row.{nth}
 use Rattle.sleep.specs.declared.{Slot.Slot}
 use Rattle.sleep.specs.Sleep.{SleepOutcome, fresh_slots, slot_at, sleep_of, woken, wake_of}
@@ -17,28 +16,13 @@ use Rattle.numbers.specs.Slots.{words_at, slots_in, slots_numbers}
 use Rattle.numbers.proofs.{PartRows.row-whole, Asked.sets-all}
 use Rattle.numbers.specs.SleepCall.{are_slots, asked_with}
 use Rattle.export.specs.Calls.{slots_left, slots_after, Elevens, ExportedWakes}
-use Rattle.export.proofs.Rows.{mark-back, mark-same, mark-good}
+use Rattle.export.specs.State.{IsSlots}
+use Rattle.export.proofs.Rows.{mark-good}
+use Rattle.export.proofs.State.{Given, slot_of, four, four-back, again}
 
 -- all zeros are slots with nothing saved
 pub zeros-fresh : slots_in (replicate 48 0) 0 ≡ fresh_slots
 zeros-fresh = refl
-
--- 48 numbers, of which the four flags are 1 or 0
-pub record IsSlots (ns : List ℕ) : Type 0 where
-  pub all : length ns ≡ 48
-  pub flags : are_slots ns ≡ true
-
--- a slot given by its flag and eleven numbers of a row, and four of these
-record Given : Type 0 where
-  pub flag : Bool
-  pub row : List ℕ
-  pub place : ℕ
-
-abbrev slot_of : Given → Slot
-slot_of g = record { saved = g.flag; words = words_at g.row g.place }
-
-abbrev four : Given → Given → Given → Given → List Slot
-four a b c d = slot_of a ∷ slot_of b ∷ slot_of c ∷ slot_of d ∷ []
 
 -- the slots written over 48 numbers read back as themselves
 record Back (ns : List ℕ) (s : List Slot) : Type 0 where
@@ -49,8 +33,7 @@ back : (ns : List ℕ) → length ns ≡ 48 → (a b c d : Given) → Back ns (f
 back ns e a b c d =
     let all = sets-all (slots_numbers (four a b c d)) ns (sym e) in
     record {
-      read = ap (λ (l : List ℕ). slots_in l 0) all
-          ∙ rw (mark-back a.flag, mark-back b.flag, mark-back c.flag, mark-back d.flag);
+      read = ap (λ (l : List ℕ). slots_in l 0) all ∙ four-back a b c d;
       slots = record {
         all = ap length all;
         flags = ap are_slots all ∙ rw (mark-good a.flag, mark-good b.flag, mark-good c.flag, mark-good d.flag);
@@ -68,19 +51,9 @@ set-four P all a b c d e (suc (suc (suc (suc n)))) h = absurd (omega arith)
 abbrev at : List ℕ → ℕ → Given
 at ns i = record { flag = eqb (nth ns i) 1; row = ns; place = i + 1 }
 
--- slots that are read and written again give the same numbers
-again : (ns : List ℕ) → IsSlots ns → sets ns 0 (slots_numbers (slots_in ns 0)) ≡ ns
-again ns is =
-    let h = and_parts ((leb (nth ns 0) 1 && leb (nth ns 12) 1) && leb (nth ns 24) 1) (leb (nth ns 36) 1) is.flags in
-    let k = and_parts (leb (nth ns 0) 1 && leb (nth ns 12) 1) (leb (nth ns 24) 1) h.0 in
-    let m = and_parts (leb (nth ns 0) 1) (leb (nth ns 12) 1) k.0 in
-    sets-all (slots_numbers (slots_in ns 0)) ns (sym is.all)
-    ∙ rw (
-      mark-same (nth ns 0) (leb-true _ 1 m.0),
-      mark-same (nth ns 12) (leb-true _ 1 m.1),
-      mark-same (nth ns 24) (leb-true _ 1 k.1),
-      mark-same (nth ns 36) (leb-true _ 1 h.1),
-    ) (row-whole 48 ns is.all)
+-- and so do slots that are set over their own numbers
+set-again : (ns : List ℕ) → IsSlots ns → sets ns 0 (slots_numbers (slots_in ns 0)) ≡ ns
+set-again ns is = sets-all (slots_numbers (slots_in ns 0)) ns (sym is.all) ∙ again ns is
 
 asked : (call : List Slot → ℕ → List ℕ → SleepOutcome) (ns : List ℕ) → IsSlots ns → (slot : ℕ) (words : List ℕ)
     → asked_with call ns slot words ≡ Some (call (slots_in ns 0) slot (words_at words 0))
@@ -104,7 +77,7 @@ module _ (ns : List ℕ) (is : IsSlots ns) (slot : ℕ) (words : List ℕ) where
   wake-left =
       rw (asked wake_of ns is slot words)
       (either_way (ltb 3 slot) (λ e. rw e) (λ e. rw e
-      (either_way (slot_at (slots_in ns 0) slot).saved (λ f. rw f (again ns is)) (λ f. rw f))))
+      (either_way (slot_at (slots_in ns 0) slot).saved (λ f. rw f (set-again ns is)) (λ f. rw f))))
 
 wake-slots : (slots : List Slot) (slot : ℕ) (ws : List ℕ) → (wake_of slots slot ws).slots ≡ slots
 unfolding wake_of
@@ -145,6 +118,6 @@ exported-wakes h t slot few ws last eleven words steps slots' words' steps' r ha
     let o = rw call at c in
     record {
       words_back = o.words_left ∙ sets-all ws words (eleven ∙ sym handed);
-      slots_kept = o.slots_left ∙ again (slots_after h) before.1;
+      slots_kept = o.slots_left ∙ set-again (slots_after h) before.1;
       written = o.steps_left;
     }

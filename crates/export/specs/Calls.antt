@@ -1,6 +1,6 @@
 -- Sequences of exported calls: the numbers and bytes that the caller holds after each, and the answers. The theorems are in
 -- proofs/Calls (a runner), proofs/BenchCalls (a bench) and proofs/Sleeps (slots): after any calls the caller holds the numbers of
--- the runner, bench or slots after the same calls.
+-- the runner, bench or slots after the same calls. What their numbers mean is in specs/State.
 use Rattle.std.specs.Prelude.{Some}
 use mathlib.Core.{Bool.Bool, Bool.false, Path.◌≡◌, List.List, List.[], List.◌∷◌}
 use Rattle.std.specs.Prelude.{ℕ, zero, suc, ◌+◌, ◌*◌, ◌≤◌, ◌<◌}

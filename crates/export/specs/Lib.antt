@@ -4,3 +4,4 @@ pub mod UsbFirst
 pub mod Ranges
 pub mod Calls
 pub mod Untouched
+pub mod State
