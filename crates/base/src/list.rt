@@ -4,7 +4,7 @@ ghost use Rattle.std.specs.Prelude.{◌≡◌, ◌<◌, ◌≤◌, [], ◌∷◌
 use std::marker::Model;
 
 // The list is the first `len` items, and a contract sees it alone. It is no ArrayVec of the library, which would ask a step for a
-// default value and stand in every archive.
+// default value.
 #[derive(Drop)]
 pub struct BoundedList<T, const N: usize> {
     items: [T; N],

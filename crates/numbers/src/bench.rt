@@ -4,30 +4,25 @@ ghost use Rattle.std.specs.Prelude.{◌≡◌, ◌*◌};
 ghost use Rattle.std.proofs.lemmas.List.Edits.{sets};
 ghost use Rattle.numbers.specs.Bench.{runner_at, fourteen};
 
-// The 15 numbers of a board as a runner. They are listed, since `array::from_fn` gets no proof at fifteen numbers.
+use base::Writer;
+
+// The 15 numbers of a board as a runner.
+#[tactic(auto, using(base::proofs::Writing::put_more))]
 pub fn runner_at(n: &[u32], board: u8) -> [u32; 15]
     ensures { result ≡ runner_at n.now board }
 {
     let at = 14 * usize::from(board);
-    let first = 14 * u16::from(board) + 4;
-    let f = fields::ten_at(n, first);
-    [
+    let mut runner = [0; 15];
+    let mut out = Writer::new(&mut runner);
+    out.put_all(&[
         fields::number_at(n, at),
         fields::number_at(n, at + 1),
         fields::number_at(n, at + 2),
         fields::number_at(n, at + 3),
         fields::number_at(n, 112),
-        f[0],
-        f[1],
-        f[2],
-        f[3],
-        f[4],
-        f[5],
-        f[6],
-        f[7],
-        f[8],
-        f[9],
-    ]
+    ]);
+    out.put_all(&fields::ten_at(n, 14 * u16::from(board) + 4));
+    runner
 }
 
 // Writes a runner's numbers back as a board; the kept length stays.

@@ -1,11 +1,13 @@
 // The lines of the clocks, and of the blocks that the last release leaves out.
+ghost use Rattle.std.specs.Prelude.{◌≡◌};
 ghost use Rattle.std.specs.Prelude.{[]};
 ghost use Rattle.base.specs.Choice.{pick};
 ghost use Rattle.base.specs.Writing.{Puts};
-ghost use Rattle.phrases.specs.Lines.{ref_line, sys_line, peri_line, aux_line, rtc_line, left_out_line};
+ghost use Rattle.phrases.specs.Lines.{ref_line, sys_line, peri_line, aux_line, rtc_line, is_rp2040, left_out_line};
 
 use crate::names::write_named;
 use base::Writer;
+use chip::Chip;
 use config::{AuxClkConfig, PeriClkSrc, RefClkConfig, RtcClkConfig, SysClkSrc};
 
 // Writes the line of the reference clock: frequency, source and divider.
@@ -98,10 +100,10 @@ pub fn write_rtc(out: &mut Writer<'_, u8>, hz: u64, rtc: Option<RtcClkConfig>)
     }
 }
 
-// What decides which blocks the last release leaves out: whether the chip is the RP2040, and which clocks are absent.
+// What decides which blocks the last release leaves out: the chip, and which clocks are absent.
 #[derive(Clone, Copy)]
 pub struct Absent {
-    pub old: bool,
+    pub chip: Chip,
     pub peri: bool,
     pub usb: bool,
     pub adc: bool,
@@ -115,17 +117,25 @@ fn write_where(out: &mut Writer<'_, u8>, test: bool, s: &[u8])
     out.put_all(if test { s } else { b"" });
 }
 
+// Whether the chip is the RP2040.
+fn is_old(chip: Chip) -> bool
+    ensures { result ≡ is_rp2040 chip }
+{
+    chip == Chip::Rp2040
+}
+
 // Writes the blocks that the last release leaves out: those of absent clocks, and HSTX of the RP235x.
 #[tactic(auto, using(base::proofs::Writing::writing), unfolding(crate::specs::Lines::left_out_line))]
 pub fn write_left_out(out: &mut Writer<'_, u8>, no: Absent)
-    ensures { Puts out.old (left_out_line no.old no.peri no.usb no.adc no.rtc) out.new }
+    ensures { Puts out.old (left_out_line (is_rp2040 no.chip) no.peri no.usb no.adc no.rtc) out.new }
 {
+    let old = is_old(no.chip);
     out.put_all(b"left out of the last release:");
     write_where(out, no.adc, b" adc");
-    write_where(out, !no.old, b" hstx");
-    write_where(out, no.old & no.rtc, b" rtc");
+    write_where(out, !old, b" hstx");
+    write_where(out, old & no.rtc, b" rtc");
     write_where(out, no.peri, b" spi0 spi1");
-    write_where(out, no.old & no.peri, b" uart0 uart1");
-    write_where(out, no.old & no.usb, b" usb");
+    write_where(out, old & no.peri, b" uart0 uart1");
+    write_where(out, old & no.usb, b" usb");
     out.put_all(b"\n");
 }

@@ -63,8 +63,8 @@ impl Stage {
         u64::from(self.score(posts)) * KEYS + (KEYS - 1 - u64::from(key))
     }
 
-    // Whether an output is more than d over the target, and whether it is more than d under it. Neither divides, and one
-    // test of both sides would be slower.
+    // Whether an output is more than d over the target, and whether it is more than d under it. Neither divides. One
+    // test of both sides took 1479 instructions for an exact hit, whose bar is 1400 (docs/SPEED.md, What was tried).
     #[tactic(auto, using(crate::proofs::Scores::farther))]
     fn too_high(self, d: u64, posts: Posts) -> bool
         requires { d ≤ 140737488355328 }

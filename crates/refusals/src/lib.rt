@@ -23,24 +23,24 @@ fn pll_invalid(pll: Option<PllConfig>, known_hz: u32) -> bool
     pll.is_some() && known_hz == 0
 }
 
-// Whether a crystal's system PLL is invalid, and whether its USB PLL is. The promise is for each case, so `map_or` is no plainer.
+// Whether a crystal's system PLL is invalid, and whether its USB PLL is.
+#[tactic(auto, unfolding(settings::specs::Frequencies::sources_of, crate::specs::Rules::sys_pll_invalid, crate::specs::Rules::usb_pll_invalid))]
 fn plls_invalid(crystal: Option<Crystal>, f: Sources) -> (bool, bool)
     ensures { (ring : Option RoscConfig) → f ≡ sources_of ring crystal → (result.0 ≡ sys_pll_invalid crystal) × (result.1 ≡ usb_pll_invalid crystal) }
 {
-    match crystal {
-        Some(on) => (
+    crystal.map_or((false, false), |on| {
+        (
             pll_invalid(on.sys, f.pll_sys),
             pll_invalid(on.usb, f.pll_usb),
-        ),
-        None => (false, false),
-    }
+        )
+    })
 }
 
-// This refusal if its test holds, else that of the tests after it. The calls read better with a name than `then_some` and `or`.
+// This refusal if its test holds, else that of the tests after it.
 fn refused_if(test: bool, why: Refusal, rest: Option<Refusal>) -> Option<Refusal>
     ensures { result ≡ pick test (Some why) rest }
 {
-    if test { Some(why) } else { rest }
+    test.then_some(why).or(rest)
 }
 
 // The first refusal that holds, tested in the order 18, then 1 to 14.
@@ -61,8 +61,8 @@ fn refusal_of(s: Settings, f: Frequencies, reading: u8) -> Option<Refusal>
     let usb = rules::aux_bad(f.usb_source, s.usb);
     let adc = rules::aux_bad(f.adc_source, s.adc);
     let rtc = rules::rtc_bad(f.rtc_source, f.rtc, s.board.rtc);
-    // The tests go from the last to the first, so that an earlier one overrides. A return at each refusal, or a search among the
-    // tests, takes more instructions for each sheet (docs/SPEED.md, What was tried).
+    // The tests go from the last to the first, so that an earlier one overrides. A return at each refusal
+    // takes more instructions for each sheet (docs/SPEED.md, What was tried).
     let n = refused_if(rtc, Refusal::RtcClock, None);
     let n = refused_if(adc, Refusal::AdcClock, n);
     let n = refused_if(usb, Refusal::UsbClock, n);

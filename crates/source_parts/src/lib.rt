@@ -31,7 +31,8 @@ fn put_head(words: &mut Words, at: usize, chip: Chip) -> usize
     add(words, at, Kind::WaitReleased, [u64::from(k.plls)])
 }
 
-// Writes the chip mark and the head from the first word on. Each chip has its arm, as a constant chip gives constant words.
+// Writes the chip mark and the head from the first word on. Each chip has its arm, as a constant chip gives constant words (20
+// instructions less for each sheet: docs/SPEED.md, Two chips).
 pub fn put_start(words: &mut Words, chip: Chip) -> usize
     ensures { held words.new result ≡ pushes (held words.old 0) (mark_steps chip ++ head_part chip) }
 {
@@ -75,7 +76,8 @@ fn put_settling(words: &mut Words, at: usize, settling: Option<u64>) -> usize
     }
 }
 
-// Appends the voltage step. Each chip has its arm, as a constant kind compiles to a few shifts.
+// Appends the voltage step. Each chip has its arm, as a constant kind compiles to a few shifts: by the kind in `facts()` a sheet takes 97
+// instructions more, and 277 where the voltage changes; a random plan's is eight below its bar (docs/SPEED.md).
 fn put_code(words: &mut Words, at: usize, chip: Chip, code: u64) -> usize
     ensures { held words.new result ≡ pushed (held words.old at) (step1 (facts_of chip).voltage code) }
 {

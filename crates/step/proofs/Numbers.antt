@@ -2,7 +2,7 @@
 use mathlib.Core.{Bool.Bool, Bool.true, Bool.false, Bool.◌&&◌, Bool.not, Path.◌≡◌, Path.refl, Path.sym, Path.ap, Path.◌∙◌}
 use Prim.Native.Nat.{ℕ, zero, suc, ◌≤◌, ◌<◌}
 use native.Mathlib.Omega.{arith}
-use lib.{Dec.eqb, Dec.leb, ListN.get_or-eq_default}
+use lib.{Dec.eqb, ListN.get_or-eq_default}
 use borrow.Author.Tests.{eqb-true, eqb-false, eq-eqb, ltb-true, ltb-false}
 use lib.Dec.{ltb}
 use Rattle.std.specs.Prelude.{cond}

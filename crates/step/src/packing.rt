@@ -158,7 +158,8 @@ fn unpack_as(kind: Kind, word: u64) -> Result<Step, Refusal>
 }
 
 // The step of a word; 20 for an unknown kind, a set spare bit or a store that is not allowed. Each kind has an arm, since a call
-// with a constant kind compiles to the few shifts of that kind.
+// with a constant kind compiles to the few shifts of that kind: with two arms, for an unknown kind and for the others, a call of a runner
+// takes 81 instructions more (docs/SPEED.md, What was tried).
 pub(crate) fn unpack(word: u64) -> Result<Step, Refusal>
     ensures { answer_of result ≡ unpack_of word }
 {

@@ -24,7 +24,7 @@ fn last_digit(n: u64) -> u8
 
 // Writes n in decimal, without leading zeros. It calls itself for the digits before the last, which come first; a loop finds the
 // last one first, and would need a buffer for them. It is no `write!`: of a formatter the library promises nothing where it fails, and
-// not that a writer of ours never does.
+// not that a writer of ours never does; nor `itoa`, since all stands on the standard library alone (docs/DECISIONS.md, 95).
 #[tactic(auto, using(base::proofs::Writing::put_more, crate::proofs::Decimals::decimal_small, crate::proofs::Decimals::decimal_more))]
 pub fn write_decimal(out: &mut Writer<'_, u8>, n: u64)
     ensures { Puts out.old (decimal_of n) out.new }

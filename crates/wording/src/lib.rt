@@ -7,7 +7,6 @@ ghost use Rattle.wording.specs.Words.{line_of, setting_line, setting_lines, left
 ghost use Rattle.wording.specs.Words.{refused_lines, explain_text};
 
 use base::Writer;
-use chip::Chip;
 use config::ClockConfig;
 use numbers::plan_row::{self, Row};
 use phrases::clocks::{self, Absent};
@@ -77,7 +76,7 @@ fn write_left_out(out: &mut Writer<'_, u8>, s: Settings)
     ensures { Puts out.old (left_out_text s) out.new }
 {
     let no = Absent {
-        old: matches!(s.board.chip, Chip::Rp2040),
+        chip: s.board.chip,
         peri: s.peri.is_none(),
         usb: s.usb.is_none(),
         adc: s.adc.is_none(),

@@ -5,8 +5,8 @@ ghost use Rattle.numbers.specs.Parts.{fit_from, is_part};
 
 use fields::number_at;
 
-// Whether each number is at most its limit, and 0 in an absent part. It is no `all` over the same pairs: that was tried, and the check
-// does not find its proof, which is an induction over them, where it finds that of the loop by `fit_step`.
+// Whether each number is at most its limit, and 0 in an absent part. It is no `all` over the same pairs, whose proof is an induction
+// over them, where the loop's is one invariant.
 #[tactic(auto, using(std::proofs::lemmas::Bool::Decides::nat_tests, crate::proofs::Fits::fit_step))]
 pub(crate) fn fits(n: &[u32], i: u8, limits: &[u32], there: bool) -> bool
     ensures { result ≡ fit_from there n.now i limits.now }

@@ -1,7 +1,6 @@
 -- `step::packing::unpack_as` meets its contract: the layout gives the widths, `bits` each field and `low` the spare bits; the
 -- kind is known by the precondition, so the test of the code decides (`unpack-known`). The equations stand in both answers, since
 -- the facts of each are a record of its own: a lemma would take all eleven as premises, and be longer.
-use native.Mathlib.Omega.{arith}
 use Rattle.step.specs.Layout.{widths}
 use Rattle.step.specs.Steps.{kind_in, step_in, spare_in}
 use Rattle.step.proofs.{Laws.unpack-known}
