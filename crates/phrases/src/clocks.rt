@@ -118,7 +118,7 @@ fn write_where(out: &mut Writer<'_, u8>, test: bool, s: &[u8])
 }
 
 // Whether the chip is the RP2040.
-fn is_old(chip: Chip) -> bool
+fn is_rp2040(chip: Chip) -> bool
     ensures { result ≡ is_rp2040 chip }
 {
     chip == Chip::Rp2040
@@ -129,7 +129,7 @@ fn is_old(chip: Chip) -> bool
 pub fn write_left_out(out: &mut Writer<'_, u8>, no: Absent)
     ensures { Puts out.old (left_out_line (is_rp2040 no.chip) no.peri no.usb no.adc no.rtc) out.new }
 {
-    let old = is_old(no.chip);
+    let old = is_rp2040(no.chip);
     out.put_all(b"left out of the last release:");
     write_where(out, no.adc, b" adc");
     write_where(out, !old, b" hstx");

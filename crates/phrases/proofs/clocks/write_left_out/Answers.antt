@@ -17,6 +17,6 @@ returns c =
       c.write_where-2.ensures,
       c.write_where.ensures,
       c.put_all.ensures,
-      c.is_old-old.ensures,
+      c.is_rp2040-old.ensures,
     )
     (simp (put_more, append_assoc))
