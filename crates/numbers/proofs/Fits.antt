@@ -1,16 +1,20 @@
--- The test of a row against its limits takes one number and one limit at a time.
-use mathlib.Core.{Path.◌≡◌, Bool.Bool, Bool.◌&&◌, List.List}
-use Prim.Native.Nat.{ℕ, suc, ◌+◌, ◌<◌}
+-- The test of each number and its limit, by their index, is the test of a row against its limits.
+use mathlib.Core.{Path.◌≡◌, Path.refl, Path.ap, Path.◌∙◌, Bool.Bool, Bool.◌&&◌, List.List, List.[], List.◌∷◌}
+use Prim.Native.Nat.{ℕ, suc, ◌+◌}
 use native.Mathlib.Omega.{arith}
-use lib.{Dec.leb, ListN.length, ListN.drop, ListN.get_or, Seq.drop-cons}
+use lib.{Dec.leb}
+use Rattle.std.specs.List.{list_all, enumerate_from}
 use Rattle.base.specs.Choice.{pick}
 use Rattle.fields.specs.Row.{nth}
 use Rattle.numbers.specs.Parts.{fit_from}
 
-pub fit_step : (there : Bool) (n limits : List ℕ) (at k : ℕ) → k < length limits
-    → fit_from there n at (drop k limits)
-    ≡ leb (nth n at) (pick there (get_or limits k 0) 0) && fit_from there n (at + 1) (drop (k + 1) limits)
-fit_step there n limits at k h =
-    let one : k + 1 ≡ suc k = omega arith in
-    let two : at + 1 ≡ suc at = omega arith in
-    rw (drop-cons limits k 0 h, one, two)
+abbrev pub within : Bool → List ℕ → ℕ → ℕ × ℕ → Bool
+within there n i p = leb (nth n (i + p.0)) (pick there p.1 0)
+
+pub each_within : (there : Bool) (n : List ℕ) (i k : ℕ) (limits : List ℕ)
+    → list_all (within there n i) (enumerate_from k limits) ≡ fit_from there n (i + k) limits
+each_within there n i k [] = refl
+each_within there n i k (limit ∷ limits) =
+    let e : list_all (within there n i) (enumerate_from (k + 1) limits) ≡ fit_from there n (suc (i + k)) limits =
+    each_within there n i (k + 1) limits ∙ ap (λ (at : ℕ). fit_from there n at limits) (omega arith) in
+    ap (λ (t : Bool). leb (nth n (i + k)) (pick there limit 0) && t) e

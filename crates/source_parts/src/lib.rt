@@ -32,7 +32,7 @@ fn put_head(words: &mut Words, at: usize, chip: Chip) -> usize
 }
 
 // Writes the chip mark and the head from the first word on. Each chip has its arm, as a constant chip gives constant words (20
-// instructions less for each sheet: docs/SPEED.md, Two chips).
+// instructions less for each sheet: docs/SPEED.md, What was tried).
 pub fn put_start(words: &mut Words, chip: Chip) -> usize
     ensures { held words.new result ≡ pushes (held words.old 0) (mark_steps chip ++ head_part chip) }
 {

@@ -5,19 +5,14 @@ ghost use Rattle.numbers.specs.Parts.{fit_from, is_part};
 
 use fields::number_at;
 
-// Whether each number is at most its limit, and 0 in an absent part. It is no `all` over the same pairs, whose proof is an induction
-// over them, where the loop's is one invariant.
-#[tactic(auto, using(std::proofs::lemmas::Bool::Decides::nat_tests, crate::proofs::Fits::fit_step))]
+// Whether each number is at most its limit, and 0 in an absent part.
 pub(crate) fn fits(n: &[u32], i: u8, limits: &[u32], there: bool) -> bool
     ensures { result ≡ fit_from there n.now i limits.now }
 {
-    for (k, &limit) in limits.iter().enumerate() {
+    limits.iter().enumerate().all(|(k, &limit)| {
         let top = if there { limit } else { 0 };
-        if top < number_at(n, usize::from(i) + k) {
-            return false;
-        }
-    }
-    true
+        number_at(n, usize::from(i) + k) <= top
+    })
 }
 
 // Whether the numbers are of an optional part: all within their limits where its flag is 1, otherwise all 0.
