@@ -20,7 +20,8 @@ pub fn first(s: &[u8], n: usize) -> &[u8]
 }
 
 // Writes x at index `at` if the buffer has that index, and answers the index after it, at most the buffer's length, so that a
-// sequence of calls places the values of all calls one after another. A `Writer` keeps the index between its calls.
+// sequence of calls places the values of all calls one after another. It takes the index, since `Writer`, which keeps one, is made
+// of it.
 pub fn put<T: Copy>(buf: &mut [T], at: usize, x: T) -> usize
     ensures { Placed buf.old at (x ∷ []) result buf.new }
 {
@@ -31,7 +32,8 @@ pub fn put<T: Copy>(buf: &mut [T], at: usize, x: T) -> usize
     buf.len()
 }
 
-// Writes the values xs from index `at` on and answers the index after them; those past the buffer's end are dropped.
+// Writes the values xs from index `at` on and answers the index after them; those past the buffer's end are dropped. It takes the index
+// for the same reason.
 pub fn put_all<T: Copy>(buf: &mut [T], at: usize, xs: &[T]) -> usize
     ensures { Placed buf.old at xs.now result buf.new }
 {

@@ -3,8 +3,8 @@ ghost use Rattle.std.specs.Prelude.{◌≡◌, ◌<◌, ◌≤◌, [], ◌∷◌
 
 use std::marker::Model;
 
-// The list is the first `len` items, and a contract sees it alone. It is no ArrayVec of the library, which would ask a step for a
-// default value.
+// The list is the first `len` items, and a contract sees it alone. It is no `ArrayVec` of arrayvec, a crate beside the standard
+// library (docs/DECISIONS.md, 95), whose `new` would ask a step for a default value.
 #[derive(Drop)]
 pub struct BoundedList<T, const N: usize> {
     items: [T; N],

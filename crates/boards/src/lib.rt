@@ -48,7 +48,7 @@ impl Bench {
     }
 
     // One call for a board by value: its answer, and the bench after it. The calls by value stand beside those in
-    // place, since a public call is not taken away (docs/DECISIONS.md, 20).
+    // place: they leave the caller's own as it was, and answer the one after the call (docs/DECISIONS.md, 20).
     pub fn advance(self, board: u8, sheet: &[u8], ready: bool) -> (Result<Reply, Refusal>, Self)
         ensures { outcome (answer_of result.0) result.1 ≡ bench_of self board sheet.now ready }
     {

@@ -10,4 +10,4 @@ pub mod plan;
 pub mod plan_row;
 pub mod read;
 pub mod sleep_call;
-mod slots;
+pub mod slots;

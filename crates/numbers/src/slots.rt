@@ -4,7 +4,7 @@ mod put;
 ghost use Rattle.std.specs.Prelude.{◌≡◌, ◌+◌, ◌≤◌};
 ghost use Rattle.numbers.specs.Slots.{slot_in, slots_in};
 
-pub(crate) use put::{put_slots, put_steps};
+pub use put::{put_slots, put_steps};
 use sleep::Slot;
 
 // The slot from index i on: a flag, then its words.
@@ -22,7 +22,7 @@ fn slot_at(n: &[u32; 48], i: usize) -> Slot
 }
 
 // The four slots.
-pub(crate) fn slots(n: &[u32; 48]) -> [Slot; 4]
+pub fn slots(n: &[u32; 48]) -> [Slot; 4]
     ensures { result ≡ slots_in n.now 0 }
 {
     [

@@ -118,7 +118,7 @@ fn write_where(out: &mut Writer<'_, u8>, test: bool, s: &[u8])
 }
 
 // Whether the chip is the RP2040.
-fn is_rp2040(chip: Chip) -> bool
+pub fn is_rp2040(chip: Chip) -> bool
     ensures { result ≡ is_rp2040 chip }
 {
     chip == Chip::Rp2040

@@ -90,7 +90,7 @@ pub fn write_pll(out: &mut Writer<'_, u8>, name: &[u8], hz: u32, pll: Option<Pll
     }
 }
 
-// The core voltage of a code, in mV.
+// The core voltage of a code, in mV. The code is a number, as `Volts` has it for both chips.
 #[tactic(auto, unfolding(crate::specs::Lines::millivolts))]
 fn millivolts(chip: Chip, code: u8) -> u64
     ensures { result ≡ millivolts chip code }

@@ -35,7 +35,8 @@ pub(crate) fn div_from(code: u64) -> u8
     if code == 0 { 4 } else { cut8(code) }
 }
 
-// Decodes a voltage of either chip; an unknown code gives `other`. A larger code than 255 clamps to 255, which is unknown.
+// Decodes a voltage of either chip; an unknown code gives `other`. A larger code than 255 clamps to 255, which is unknown. It is
+// no `From`, as it takes what an unknown code gives.
 pub(crate) fn voltage_from<V: Copy + TryFrom<u8, Error = Refusal>>(code: u64, other: V) -> V
     ensures { (r : Result V Refusal) × V.try_from_gives (min code 255) r × (result ≡ result_unwrap_or r other) }
 {

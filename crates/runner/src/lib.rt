@@ -17,7 +17,7 @@ pub use step::Clock;
 use step::{MAX_BYTES, MAX_STEPS, Step};
 pub use stepping::store;
 
-// The state of a runner without the frequencies.
+// The state of a runner without the frequencies. `stopped` is a mark of the C interface, with no value beside it for an Option.
 #[derive(Clone, Copy)]
 pub struct State {
     pub position: usize,
@@ -135,8 +135,8 @@ impl Runner {
         self.stepper.poll(kept, sheet, ready)
     }
 
-    // One call by value: its answer, and the runner after it. The calls by value stand beside those in place, since a public call
-    // is not taken away (docs/DECISIONS.md, 20).
+    // One call by value: its answer, and the runner after it. The calls by value stand beside those in place: they leave the
+    // caller's own as it was, and answer the one after the call (docs/DECISIONS.md, 20).
     pub fn advance(self, sheet: &[u8], ready: bool) -> (Result<Reply, Refusal>, Self)
         ensures { outcome (answer_of result.0) result.1 ≡ advance_of self sheet.now ready }
     {

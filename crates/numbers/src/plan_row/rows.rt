@@ -76,7 +76,8 @@ pub(crate) fn pll(pll: Option<PllConfig>) -> [u32; 5]
     }
 }
 
-// Voltage code; flag and µs of the settling time; source and divider of the reference clock.
+// Voltage code; flag and µs of the settling time; source and divider of the reference clock. The code is a number, as `Volts` has it for
+// both chips.
 pub(crate) fn first(code: u8, given: Option<u32>, reference: RefClkConfig) -> [u32; 5]
     ensures { result ≡ first_row code given reference }
 {

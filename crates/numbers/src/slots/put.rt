@@ -18,7 +18,7 @@ fn put_slot(out: &mut Writer<'_, u32>, slot: &Slot)
 
 // Writes the four slots, 48 numbers.
 #[tactic(auto, using(base::proofs::Writing::put_more))]
-pub(crate) fn put_slots(out: &mut Writer<'_, u32>, slots: &[Slot; 4])
+pub fn put_slots(out: &mut Writer<'_, u32>, slots: &[Slot; 4])
     ensures { Puts out.old (slots_numbers slots.now) out.new }
 {
     for slot in slots {
@@ -40,7 +40,7 @@ fn put_step(out: &mut Writer<'_, u32>, step: Step)
 }
 
 // Writes the steps, two numbers each.
-pub(crate) fn put_steps(out: &mut Writer<'_, u32>, steps: &Steps)
+pub fn put_steps(out: &mut Writer<'_, u32>, steps: &Steps)
     ensures { Puts out.old (steps_numbers steps.now) out.new }
 {
     for &step in steps.as_slice() {
