@@ -1,15 +1,12 @@
 -- The answers of the cases that lend a buffer, a runner, a bench or slots, from the row n of their numbers (docs/CASES.md). The
 -- words of a case are named above its definition.
-use Rattle.std.specs.Prelude.{Option}
+use Rattle.std.specs.Prelude.{Option, Some, None}
 use mathlib.Core.{Bool.Bool, List.List, List.[], List.◌++◌}
 use Rattle.std.specs.Prelude.{ℕ, ◌-◌}
 use lib.{Dec.eqb, Dec.ltb, ListN.length, ListN.take, ListN.drop, ListN.replicate, Seq.sets}
 use Rattle.base.specs.{Answer.Answer, Answer.value, Answer.refusal, Choice.pick}
 use Rattle.chip.specs.declared.{Chip.Chip, Chip.TheVariants.Rp2040, Chip.TheVariants.Rp235x}
-use Rattle.chip.specs.declared.voltage.CoreVoltage.{CoreVoltage}
-use Rattle.chip.specs.Voltage.{core_voltage_of}
 use Rattle.config.specs.declared.ClockConfig.{ClockConfig}
-use Rattle.config.specs.Presets.{manual_plan}
 use Rattle.lister.specs.Lister.{listed_of, listed_in}
 use Rattle.sleep.specs.Sleep.{SleepOutcome, sleep_of, wake_of}
 use Rattle.sleep.specs.declared.steps.Step.{Step}
@@ -17,6 +14,7 @@ use Rattle.numbers.specs.Slots.{slots_numbers, steps_numbers}
 use Rattle.runner.specs.Run.{start_of}
 use Rattle.fields.specs.Row.{nth, byte_at, half_at, room_at, pll_at, ten_at}
 use Rattle.numbers.specs.Answers.{answer_number, itself, malformed, chip_numbered, divider_numbered, gpout_number}
+use Rattle.numbers.specs.Manual.{manual_by_code}
 use Rattle.numbers.specs.Run.{runner_in, run_number, run_leaves, go_number, start_leaves}
 use Rattle.boards.specs.Bench.{start_all_of}
 use Rattle.numbers.specs.Bench.{bench_in, bench_number, bench_leaves, start_all_leaves}
@@ -50,13 +48,13 @@ list_in input target buffer =
 unfoldable pub list_text : List ℕ → List ℕ
 list_text n = list_in (nth n 0) (nth n 1) (lent (room_at n 2))
 
--- HZ REFDIV FBDIV POST1 POST2 CODE
-abbrev pub manual_with : List ℕ → Answer CoreVoltage → List ℕ
-manual_with n (value v) = planned_text (manual_plan (nth n 0) (pll_at n 1) v)
-manual_with n (refusal m) = one_text malformed
+-- HZ REFDIV FBDIV POST1 POST2 CODE; malformed for a code that no voltage has
+abbrev pub plan_text : Option (Answer ClockConfig) → List ℕ
+plan_text (Some plan) = planned_text plan
+plan_text None = one_text malformed
 
 abbrev pub manual_text : List ℕ → List ℕ
-manual_text n = manual_with n (core_voltage_of Rp2040 (byte_at n 5))
+manual_text n = plan_text (manual_by_code (nth n 0) (pll_at n 1) (byte_at n 5))
 
 -- READING ROOM CHIP PLAN
 abbrev pub plan_at : List ℕ → ℕ → List ℕ

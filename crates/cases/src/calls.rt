@@ -8,11 +8,10 @@ ghost use Rattle.words.specs.Words.{sheet_at};
 use crate::say::{write, write_one, write_planned, write_written};
 use base::Writer;
 use chip::Chip;
-use chip::voltage::CoreVoltage;
-use config::ClockConfig;
 use export::bench::{dizbaral_bench_run, dizbaral_bench_start};
 use fields::{byte_at, half_at, number_at, pll_at, room_at, ten_at};
 use numbers::answers::MALFORMED;
+use numbers::manual::manual;
 use step::MAX_BYTES;
 use words::Words;
 
@@ -62,9 +61,9 @@ pub(crate) fn write_list(out: &mut Writer<'_, u8>, n: &[u32; 128])
 pub(crate) fn write_manual(out: &mut Writer<'_, u8>, n: &[u32; 128])
     ensures { Says out.old (manual_text n.now) out.new }
 {
-    match CoreVoltage::try_from(byte_at(n, 5)) {
-        Ok(v) => write_planned(out, ClockConfig::manual_pll(n[0], pll_at(n, 1), v)),
-        Err(_) => write_one(out, MALFORMED),
+    match manual(n[0], pll_at(n, 1), byte_at(n, 5)) {
+        Some(plan) => write_planned(out, plan),
+        None => write_one(out, MALFORMED),
     }
 }
 

@@ -8,3 +8,4 @@ pub mod BenchCalls
 pub mod Sleeps
 pub mod Untouched
 pub mod State
+pub mod PlansBack

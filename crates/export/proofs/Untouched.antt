@@ -46,7 +46,7 @@ use Rattle.registers.specs.declared.Access.TheVariants as access
 use Rattle.registers.specs.Access.{access_at, op_of}
 use Rattle.numbers.proofs.Boards.{call, of-board, over-leaves, bad-leaves}
 use Rattle.export.specs.Calls.{Held, held_of, call_leaves}
-use Rattle.export.specs.Sheet.{SheetCall}
+use Rattle.export.specs.{Sheet.SheetCall, Plan.PlanCall}
 use Rattle.export.specs.Untouched.{Refused, SaveTimeout, timed_out_numbers, Untouched}
 use Rattle.export.proofs.{Ranges.word-from, Calls.read-written, Calls.ran, Calls.ran-number, Calls.formed}
 use Rattle.export.proofs.Benches.{board-again, left_is}
@@ -184,6 +184,11 @@ row_keeps : (read : Answer ClockConfig) {before after : List ℕ} {r : ℕ} → 
 row_keeps (value p) c low = absurd (omega (arith, c.answer, chip-few (board_of p.chip).chip, low.0))
 row_keeps (refusal n) c low = c.numbers
 
+plan-keeps : (plan : Option (Answer ClockConfig)) {before after : List ℕ} {r : ℕ} → PlanCall plan before r after → Refused r
+    → after ≡ before
+plan-keeps (Some read) c low = row_keeps read (record { answer = c.answer; numbers = c.numbers }) low
+plan-keeps None c low = c.numbers
+
 op-few : (a : Access) → op_of a ≤ 4
 op-few access.Nothing = omega arith
 op-few (access.Write at v) = omega arith
@@ -223,6 +228,7 @@ untouched =
       list = list-keeps;
       margin = λ input target. margin-keeps (margin_of input target);
       read_sheet = row_keeps;
+      presets = plan-keeps;
       access = access-keeps;
       slots = slots-keep;
     }

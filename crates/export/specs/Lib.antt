@@ -5,3 +5,4 @@ pub mod Ranges
 pub mod Calls
 pub mod Untouched
 pub mod State
+pub mod Plan

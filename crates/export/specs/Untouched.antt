@@ -15,7 +15,7 @@ use Rattle.numbers.specs.Answers.{refusals, itself, answer_number, done, limits_
 use Rattle.numbers.specs.Run.{run_number, run_leaves, StartCall}
 use Rattle.numbers.specs.Bench.{stepper_at, with_board, bench_number, bench_leaves, StartAllCall}
 use Rattle.numbers.specs.{SleepCall.SlotsCall, Read.RowCall, Access.AccessCall}
-use Rattle.export.specs.Sheet.{SheetCall}
+use Rattle.export.specs.{Sheet.SheetCall, Plan.PlanCall}
 
 -- an answer that is a refusal or malformed; values are below this range, the words of steps above it
 abbrev pub Refused : ℕ → Type 0
@@ -50,6 +50,9 @@ pub record Untouched : Type 1 where
   pub margin : (input target : ℕ) (before : List ℕ) → Refused (answer_number done (margin_of input target))
       → limits_after (margin_of input target) before ≡ before
   pub read_sheet : (read : Answer ClockConfig) {before after : List ℕ} {r : ℕ} → RowCall read before r after → Refused r
+      → after ≡ before
+  -- the presets
+  pub presets : (plan : Option (Answer ClockConfig)) {before after : List ℕ} {r : ℕ} → PlanCall plan before r after → Refused r
       → after ≡ before
   -- `dizbaral_access`
   pub access : (chip : Option Chip) (sheet : List ℕ) (position : ℕ) {before after : List ℕ} {r : ℕ}

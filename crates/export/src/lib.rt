@@ -3,6 +3,7 @@
 #![tactic(auto)]
 
 pub mod bench;
+pub mod presets;
 pub mod read;
 pub mod slots;
 

@@ -3,6 +3,7 @@
 #![tactic(auto)]
 
 mod bench;
+mod presets;
 mod read;
 mod slots;
 

@@ -9,3 +9,4 @@ pub mod Read
 pub mod Run
 pub mod SleepCall
 pub mod Access
+pub mod Manual

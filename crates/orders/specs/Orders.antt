@@ -8,12 +8,10 @@ use lib.{Dec.ltb, ListN.length, ListN.take}
 use Rattle.base.specs.{Answer.Answer, Answer.value, Answer.refusal, Choice.pick}
 use Rattle.text.specs.Ascii.{ascii, same}
 use Rattle.chip.specs.declared.{Chip.Chip, Chip.TheVariants.Rp2040, Chip.TheVariants.Rp235x}
-use Rattle.chip.specs.declared.voltage.CoreVoltage.{CoreVoltage}
-use Rattle.chip.specs.Voltage.{core_voltage_of}
 use Rattle.config.specs.declared.ClockConfig.{ClockConfig}
-use Rattle.config.specs.Presets.{default_plan, crystal_plan, rosc_plan, system_plan, system_plan_from, manual_plan}
+use Rattle.config.specs.Presets.{default_plan, crystal_plan, rosc_plan, system_plan, system_plan_from}
 use Rattle.fields.specs.Row.{nth, byte_at, pll_at}
-use Rattle.numbers.specs.Plan.{plan_numbered}
+use Rattle.numbers.specs.{Plan.plan_numbered, Manual.manual_by_code}
 use Rattle.readback.specs.Read.{read_of}
 use Rattle.words.specs.{Line.word_after, Line.rest_after, Words.unread, Words.sheet_at, Words.given}
 use Rattle.orders.specs.declared.names.Preset.{Preset}
@@ -29,15 +27,8 @@ abbrev pub row : String → String → (Chip → List ℕ → Option (Answer Clo
 row name letters plan = record { name = ascii name; letters = ascii letters; plan = plan }
 
 -- `manual` takes HZ REFDIV FBDIV POST1 POST2 CODE, for the RP2040 only; an unknown voltage code gives none
-abbrev pub manual_with : List ℕ → Answer CoreVoltage → Option (Answer ClockConfig)
-manual_with n (value v) = Some (manual_plan (nth n 0) (pll_at n 1) v)
-manual_with n (refusal m) = None
-
-unfoldable pub manual_of : List ℕ → Option (Answer ClockConfig)
-manual_of n = manual_with n (core_voltage_of Rp2040 (byte_at n 5))
-
 abbrev pub manual_on : Chip → List ℕ → Option (Answer ClockConfig)
-manual_on Rp2040 n = manual_of n
+manual_on Rp2040 n = manual_by_code (nth n 0) (pll_at n 1) (byte_at n 5)
 manual_on Rp235x n = None
 
 -- `plan` takes 43 numbers for the RP235x and 48 for the RP2040, so the last five may be absent; their plan is `plan_in`

@@ -5,30 +5,20 @@ mod names;
 
 ghost use Rattle.std.specs.Prelude.{◌≡◌};
 ghost use Rattle.base.specs.Answer.{answer_in};
-ghost use Rattle.orders.specs.Orders.{is_order, manual_of, preset_of, plan_in, order_with};
+ghost use Rattle.orders.specs.Orders.{is_order, preset_of, plan_in, order_with};
 ghost use Rattle.orders.specs.Orders.{order_on, sheet_order, order_of};
 
 use base::Refusal;
 use chip::Chip;
-use chip::voltage::CoreVoltage;
 use config::ClockConfig;
 use fields::number_at;
 pub use names::Preset;
+use numbers::manual::manual;
 use text::find_named;
 use words::{Words, next_word};
 
 // The plan that is ordered, or its refusal.
 pub type Planned = Result<ClockConfig, Refusal>;
-
-// The plan of the RP2040 from crystal, dividers and voltage code; None for an unknown voltage code.
-#[tactic(auto, unfolding(crate::specs::Orders::manual_of))]
-fn manual(n: &[u32]) -> Option<Planned>
-    ensures { answer_in result ≡ manual_of n.now }
-{
-    let pll = fields::pll_at(n, 1);
-    let voltage = CoreVoltage::try_from(fields::byte_at(n, 5)).ok()?;
-    Some(ClockConfig::manual_pll(number_at(n, 0), pll, voltage))
-}
 
 // The plan of a preset for a chip, from its numbers. Refusals 5, 15 and 25; None for `plan`, and for manual on the RP235x.
 #[tactic(auto, unfolding(crate::specs::Orders::preset_of))]
@@ -43,7 +33,7 @@ pub fn preset(kind: Preset, chip: Chip, n: &[u32]) -> Option<Planned>
         Preset::Rosc => Some(Ok(ClockConfig::rosc(chip))),
         Preset::Default => Some(Ok(ClockConfig::default(chip))),
         Preset::Manual => match chip {
-            Chip::Rp2040 => manual(n),
+            Chip::Rp2040 => manual(hz, fields::pll_at(n, 1), fields::byte_at(n, 5)),
             Chip::Rp235x => None,
         },
         Preset::Plan => None,

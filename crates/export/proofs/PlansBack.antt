@@ -1,0 +1,161 @@
+-- A preset's plan is read back from its numbers, since they fit their types: those that the preset gives are small, and a PLL that is
+-- searched for, or valid, has dividers of the datasheet's ranges.
+use Rattle.std.specs.Prelude.{Option, Some, None}
+use mathlib.Core.{Bool.Bool, Bool.true, Bool.false, Path.◌≡◌, Path.refl, Path.ap, Path.subst}
+use Prim.Native.Nat.{ℕ, ◌≤◌}
+use native.Mathlib.Omega.{arith}
+use lib.{Dec.eqb}
+use Rattle.base.specs.{Answer.Answer, Answer.value, Answer.refusal, Choice.pick}
+use Rattle.chip.specs.declared.{Chip.Chip, Chip.TheVariants.Rp2040, Chip.TheVariants.Rp235x, voltage.CoreVoltage.CoreVoltage}
+use Rattle.chip.specs.declared.voltage.CoreVoltage.TheVariants as volts
+use Rattle.chip.specs.Chips.{facts_of}
+use Rattle.pll.specs.declared.PllConfig.{PllConfig}
+use Rattle.pll.specs.{Setting.valid_of, Search.search_of, Usb.usb_of, Law.RightAnswer}
+use Rattle.pll.proofs.{Right.search-right, Valid.valid, UsbRight.usb-found}
+use Rattle.config.specs.declared.{ClockConfig.ClockConfig, RoscConfig.RoscConfig, RoscRange.RoscRange}
+use Rattle.config.specs.Presets.{from_plls, feeding_both, feeding, with_found, ring_config, rosc_plan, default_plan, crystal_plan, system_voltage, system_plan, system_plan_from, manual_plan}
+use Rattle.fields.specs.Row.{u32}
+use Rattle.numbers.specs.Typed.{PllTyped, RingTyped}
+use Rattle.numbers.proofs.Inverse.{plan-back}
+use Rattle.export.specs.Plan.{Back, PresetsBack}
+
+-- what holds of a plan that is answered
+abbrev ForPlan : Chip → Answer ClockConfig → Type 0
+ForPlan chip (value p) = Back chip p
+ForPlan chip (refusal n) = Unit {0}
+
+-- a plan with both PLLs
+plls-back : (chip : Chip) (v : CoreVoltage) (hz : ℕ) (sys usb : PllConfig) (ring : Option RoscConfig) → hz ≤ u32
+    → PllTyped (Some sys) → PllTyped (Some usb) → RingTyped ring → Back chip (from_plls chip v ring (feeding_both hz sys usb))
+plls-back Rp2040 v hz sys usb ring few s u r =
+    plan-back (from_plls Rp2040 v ring (feeding_both hz sys usb)) (record {
+      chip = (omega arith, omega arith, (omega arith, omega arith, omega arith));
+      rosc = r;
+      xosc = (few, omega arith, s, u);
+      reference = omega arith;
+      usb = (omega arith, omega arith);
+      adc = (omega arith, omega arith);
+      settling = tt;
+    })
+plls-back Rp235x v hz sys usb ring few s u r =
+    plan-back (from_plls Rp235x v ring (feeding_both hz sys usb)) (record {
+      chip = (omega arith, omega arith);
+      rosc = r;
+      xosc = (few, omega arith, s, u);
+      reference = omega arith;
+      usb = (omega arith, omega arith);
+      adc = (omega arith, omega arith);
+      settling = tt;
+    })
+
+-- the rings of the presets
+ring-typed : (hz div : ℕ) → hz ≤ u32 → div ≤ 65535 → (range : RoscRange) → RingTyped (ring_config hz range div)
+ring-typed hz div few small range =
+    (few, omega arith, omega arith, omega arith, omega arith, omega arith, omega arith, omega arith, omega arith, omega (arith, small))
+
+rosc-back : (chip : Chip) → Back chip (rosc_plan chip)
+rosc-back Rp2040 =
+    plan-back (rosc_plan Rp2040) (record {
+      chip = (omega arith, omega arith, (omega arith, omega arith, omega arith));
+      rosc = ring-typed 140000000 1 (omega arith) (omega arith) RoscRange.High;
+      xosc = tt;
+      reference = omega arith;
+      usb = tt;
+      adc = (omega arith, omega arith);
+      settling = tt;
+    })
+rosc-back Rp235x =
+    plan-back (rosc_plan Rp235x) (record {
+      chip = (omega arith, omega arith);
+      rosc = ring-typed 140000000 1 (omega arith) (omega arith) RoscRange.High;
+      xosc = tt;
+      reference = omega arith;
+      usb = tt;
+      adc = (omega arith, omega arith);
+      settling = tt;
+    })
+
+default-back : (chip : Chip) → Back chip (default_plan chip)
+default-back Rp2040 =
+    plan-back (default_plan Rp2040) (record {
+      chip = (omega arith, omega arith, tt);
+      rosc = tt;
+      xosc = tt;
+      reference = omega arith;
+      usb = tt;
+      adc = tt;
+      settling = tt;
+    })
+default-back Rp235x =
+    plan-back (default_plan Rp235x) (record {
+      chip = (omega arith, omega arith);
+      rosc = tt;
+      xosc = tt;
+      reference = omega arith;
+      usb = tt;
+      adc = tt;
+      settling = tt;
+    })
+
+medium : RingTyped (ring_config 6500000 RoscRange.Medium 16)
+medium = ring-typed 6500000 16 (omega arith) (omega arith) RoscRange.Medium
+
+post-small : (chip : Chip) → (facts_of chip).preset_post ≤ 7
+post-small Rp2040 = omega arith
+post-small Rp235x = omega arith
+
+crystal-back : (chip : Chip) (hz : ℕ) → hz ≤ u32 → Back chip (crystal_plan chip hz)
+crystal-back chip hz few =
+    plls-back chip volts.V1_10 hz _ _ _ few (omega arith, omega arith, omega (arith, post-small chip), omega arith)
+    (omega arith, omega arith, omega arith, omega arith) medium
+
+-- a setting that is valid fits its types, and so does one that is searched for
+valid-typed : (c : PllConfig) (input : ℕ) → valid_of c input ≡ true → PllTyped (Some c)
+valid-typed c input e = let v = valid c input e in
+    (omega (arith, v.refdiv.1), omega (arith, v.fbdiv.1), omega (arith, v.post1.1), omega (arith, v.post2.1))
+
+found-typed : (input target : ℕ) (c : PllConfig) → search_of input target ≡ value c → PllTyped (Some c)
+found-typed input target c e =
+    let m = (subst (RightAnswer input target) e (search-right input target)).candidate in
+    (omega (arith, m.reference), omega (arith, m.feedback_high), omega (arith, m.post1_high), omega (arith, m.post1_high, m.post2_high))
+
+from-back : (chip : Chip) (from hz : ℕ) (p : ClockConfig) → from ≤ u32 → system_plan_from chip from hz ≡ value p → Back chip p
+unfolding system_plan_from
+from-back chip from hz p few = go (search_of from hz) (usb_of from) refl refl
+  where
+    go : (s u : Answer PllConfig) → search_of from hz ≡ s → usb_of from ≡ u → with_found chip from hz s u ≡ value p → Back chip p
+    go (value s) (value u) e f h =
+        subst (ForPlan chip) h
+        (plls-back chip (system_voltage hz) from s u _ few (found-typed from hz s e) (valid-typed u from (usb-found from u f).valid) medium)
+    go (value s) (refusal n) e f h = subst (λ (t : Type 0). t) (ap (ForPlan chip) h) tt
+    go (refusal n) u e f h = subst (λ (t : Type 0). t) (ap (ForPlan chip) h) tt
+
+system-back : (chip : Chip) (hz : ℕ) (p : ClockConfig) → system_plan chip hz ≡ value p → Back chip p
+unfolding system_plan
+system-back chip hz p = go (eqb hz (facts_of chip).preset_hz)
+  where
+    go : (same : Bool) → pick same (value (crystal_plan chip 12000000)) (system_plan_from chip 12000000 hz) ≡ value p → Back chip p
+    go true h = subst (ForPlan chip) h (crystal-back chip 12000000 (omega arith))
+    go false h = from-back chip 12000000 hz p (omega arith) h
+
+manual-back : (hz : ℕ) (pll : PllConfig) (v : CoreVoltage) (p : ClockConfig) → hz ≤ u32 → manual_plan hz pll v ≡ value p → Back Rp2040 p
+unfolding manual_plan
+manual-back hz pll v p few = go (valid_of pll hz) refl
+  where
+    go : (ok : Bool) → valid_of pll hz ≡ ok → pick ok (value (from_plls Rp2040 v None (feeding hz pll))) (refusal 5) ≡ value p
+        → Back Rp2040 p
+    go true e h =
+        subst (ForPlan Rp2040) h
+        (plls-back Rp2040 v hz pll _ None few (valid-typed pll hz e) (omega arith, omega arith, omega arith, omega arith) tt)
+    go false e h = subst (λ (t : Type 0). t) (ap (ForPlan Rp2040) h) tt
+
+pub presets-back : PresetsBack
+presets-back =
+    record {
+      crystal = crystal-back;
+      rosc = rosc-back;
+      default = default-back;
+      system = system-back;
+      system_from = from-back;
+      manual = manual-back;
+    }

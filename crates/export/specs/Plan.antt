@@ -1,0 +1,38 @@
+-- The exported calls that write the numbers of a preset's plan (docs/FORMAT.md, Presets).
+use Rattle.std.specs.Prelude.{Option, Some, None, ℕ, ◌≤◌}
+use mathlib.Core.{Path.◌≡◌, List.List}
+use Rattle.base.specs.Answer.{Answer, value}
+use Rattle.chip.specs.declared.{Chip.Chip, Chip.TheVariants.Rp2040, voltage.CoreVoltage.CoreVoltage}
+use Rattle.pll.specs.declared.PllConfig.{PllConfig}
+use Rattle.config.specs.declared.ClockConfig.{ClockConfig}
+use Rattle.config.specs.Presets.{crystal_plan, rosc_plan, default_plan, system_plan, system_plan_from, manual_plan}
+use Rattle.fields.specs.Row.{u32}
+use Rattle.numbers.specs.{Answers.answer_number, Answers.malformed, Read.plan_chip, Read.row_after, Row.plan_row, Plan.plan_numbered}
+
+-- the chip of the plan, or the preset's refusal; malformed where there is no such preset
+abbrev pub plan_number : Option (Answer ClockConfig) → ℕ
+plan_number (Some plan) = answer_number plan_chip plan
+plan_number None = malformed
+
+-- the plan's numbers, followed by the old ones; a refusal changes nothing
+abbrev pub plan_after : Option (Answer ClockConfig) → List ℕ → List ℕ
+plan_after (Some plan) row = row_after plan row
+plan_after None row = row
+
+-- the call's contract: its answer r, and all numbers after it
+pub record PlanCall (plan : Option (Answer ClockConfig)) (before : List ℕ) (r : ℕ) (after : List ℕ) : Type 0 where
+  pub answer : r ≡ plan_number plan
+  pub numbers : after ≡ plan_after plan before
+
+-- the numbers of a plan are read back as the plan, so `dizbaral_plan_sheet` of what a preset wrote makes the preset's sheet
+abbrev pub Back : Chip → ClockConfig → Type 0
+Back chip p = plan_numbered chip (plan_row p) ≡ Some p
+
+pub record PresetsBack : Type 0 where
+  pub crystal : (chip : Chip) (hz : ℕ) → hz ≤ u32 → Back chip (crystal_plan chip hz)
+  pub rosc : (chip : Chip) → Back chip (rosc_plan chip)
+  pub default : (chip : Chip) → Back chip (default_plan chip)
+  pub system : (chip : Chip) (hz : ℕ) (p : ClockConfig) → system_plan chip hz ≡ value p → Back chip p
+  pub system_from : (chip : Chip) (from hz : ℕ) (p : ClockConfig) → from ≤ u32 → system_plan_from chip from hz ≡ value p → Back chip p
+  pub manual : (hz : ℕ) (pll : PllConfig) (volts : CoreVoltage) (p : ClockConfig) → hz ≤ u32 → manual_plan hz pll volts ≡ value p
+      → Back Rp2040 p
