@@ -110,6 +110,17 @@ uint64_t dizbaral_system_sheet_from(uint8_t chip, uint32_t crystal_hz, uint32_t 
 uint64_t dizbaral_plan_sheet(uint8_t chip, const uint32_t *plan, uint64_t numbers, uint8_t reading, uint8_t *sheet,
                              uint64_t length);
 
+/* The presets: the numbers of the plan that the Rust's function of that name makes, as dizbaral_plan_sheet takes them. The
+ * plan's chip, with as many numbers as dizbaral_read_sheet writes. dizbaral_system_freq_from has refusals 15, then 25;
+ * dizbaral_manual_pll, whose chip is the RP2040, has refusal 5 and is malformed for a code that no voltage has. */
+uint64_t dizbaral_crystal(uint8_t chip, uint32_t crystal_hz, uint32_t plan[48]);
+uint64_t dizbaral_rosc(uint8_t chip, uint32_t plan[48]);
+uint64_t dizbaral_default(uint8_t chip, uint32_t plan[48]);
+uint64_t dizbaral_system_freq(uint8_t chip, uint32_t hz, uint32_t plan[48]);
+uint64_t dizbaral_system_freq_from(uint8_t chip, uint32_t crystal_hz, uint32_t hz, uint32_t plan[48]);
+uint64_t dizbaral_manual_pll(uint32_t crystal_hz, uint8_t refdiv, uint16_t fbdiv, uint8_t post_div1, uint8_t post_div2,
+                             uint8_t voltage, uint32_t plan[48]);
+
 /* read_sheet: writes the numbers of the plan whose sheet at this reading is exactly these bytes, with the smallest delay
  * multiplier and the smallest settling time, which is given. The plan's chip: DIZBARAL_RP2040 with 48 numbers,
  * DIZBARAL_RP235X with 43; numbers past them keep their values. Refusals 18, 26. */

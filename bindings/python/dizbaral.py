@@ -203,11 +203,46 @@ class Plan(NamedTuple):
     numbers: tuple[int, ...]
 
 
+def _plan(name, *words) -> Plan:
+    """The plan of a function that writes its numbers and answers its chip."""
+    numbers = (_U32 * 48)()
+    chip = Chip(_answer(_call(name, *words, numbers)))
+    return Plan(chip, tuple(numbers[: 48 if chip == Chip.RP2040 else 43]))
+
+
+def crystal(chip: Chip, crystal_hz: int) -> Plan:
+    """The preset of a crystal: 125 MHz of 12 MHz on the RP2040, 150 MHz on the RP235x."""
+    return _plan("crystal", (_U8, chip), (_U32, crystal_hz))
+
+
+def rosc(chip: Chip) -> Plan:
+    """The preset of the ring alone, at 140 MHz."""
+    return _plan("rosc", (_U8, chip))
+
+
+def default(chip: Chip) -> Plan:
+    """The plan without ring and crystal, of which there is no sheet (refusal 8)."""
+    return _plan("default", (_U8, chip))
+
+
+def system_freq(chip: Chip, hz: int) -> Plan:
+    """The plan of a 12 MHz crystal and a system frequency."""
+    return _plan("system_freq", (_U8, chip), (_U32, hz))
+
+
+def system_freq_from(chip: Chip, crystal_hz: int, hz: int) -> Plan:
+    """The plan of a crystal, a system frequency and the PLLs found for them. Refusals 15, 25."""
+    return _plan("system_freq_from", (_U8, chip), (_U32, crystal_hz), (_U32, hz))
+
+
+def manual_pll(crystal_hz: int, pll: PllConfig, voltage: int) -> Plan:
+    """The plan of the RP2040 with this system PLL and the voltage of a code, without a ring. Refusal 5."""
+    return _plan("manual_pll", *pll._words(crystal_hz), (_U8, voltage))
+
+
 def read_sheet(sheet: bytes, reading: int) -> Plan:
     """The plan whose sheet at a reading is exactly these bytes. Refusals 18, 26."""
-    numbers = (_U32 * 48)()
-    chip = Chip(_answer(_call("read_sheet", *_sheet(sheet), (_U8, reading), numbers)))
-    return Plan(chip, tuple(numbers[: 48 if chip == Chip.RP2040 else 43]))
+    return _plan("read_sheet", *_sheet(sheet), (_U8, reading))
 
 
 def list(input_hz: int, target_hz: int, room: int = _LIST_BYTES) -> tuple[PllConfig, ...]:

@@ -114,6 +114,22 @@ class Sheets(Test):
         self.refused(5, dizbaral.plan_sheet, Chip.RP2040, CRYSTAL[:17] + (321,) + CRYSTAL[18:], 11)
         self.assertRaises(Malformed, dizbaral.plan_sheet, Chip.RP2040, (2,) + CRYSTAL[1:], 11)
 
+    def test_presets(self):
+        self.assertEqual(dizbaral.crystal(Chip.RP2040, 12 * MHZ), (Chip.RP2040, CRYSTAL))
+        for chip, hz in BOTH:
+            plan = dizbaral.system_freq(chip, hz)
+            self.assertEqual(plan, dizbaral.crystal(chip, 12 * MHZ))
+            self.assertEqual(dizbaral.plan_sheet(chip, plan.numbers, 11), dizbaral.system_sheet(chip, hz, 11))
+            self.assertTrue(dizbaral.plan_sheet(chip, dizbaral.rosc(chip).numbers, 11))
+            self.refused(8, dizbaral.plan_sheet, chip, dizbaral.default(chip).numbers, 11)
+            self.refused(15, dizbaral.system_freq_from, chip, 5 * MHZ - 1, 125 * MHZ)
+            self.refused(25, dizbaral.system_freq_from, chip, 13 * MHZ, 125 * MHZ)
+        pll = PllConfig(1, 133, 6, 2)
+        plan = dizbaral.manual_pll(12 * MHZ, pll, 12)
+        self.assertEqual((plan.chip, plan.numbers[0], plan.numbers[16:20], plan.numbers[25]), (Chip.RP2040, 0, pll, 12))
+        self.refused(5, dizbaral.manual_pll, 12 * MHZ, PllConfig(1, 15, 6, 2), 12)
+        self.assertRaises(Malformed, dizbaral.manual_pll, 12 * MHZ, pll, 3)
+
     def test_read_back(self):
         for chip, hz in BOTH:
             sheet = dizbaral.system_sheet(chip, hz, 11)

@@ -4,7 +4,7 @@ use Rattle.std.specs.Prelude.{Option, Some, None}
 use mathlib.Core.{Bool.Bool, List.List, List.[], List.◌++◌}
 use Rattle.std.specs.Prelude.{ℕ, ◌-◌}
 use lib.{Dec.eqb, Dec.ltb, ListN.length, ListN.take, ListN.drop, ListN.replicate, Seq.sets}
-use Rattle.base.specs.{Answer.Answer, Answer.value, Answer.refusal, Choice.pick}
+use Rattle.base.specs.{Answer.Answer, Choice.pick}
 use Rattle.chip.specs.declared.{Chip.Chip, Chip.TheVariants.Rp2040, Chip.TheVariants.Rp235x}
 use Rattle.config.specs.declared.ClockConfig.{ClockConfig}
 use Rattle.lister.specs.Lister.{listed_of, listed_in}
@@ -49,12 +49,12 @@ unfoldable pub list_text : List ℕ → List ℕ
 list_text n = list_in (nth n 0) (nth n 1) (lent (room_at n 2))
 
 -- HZ REFDIV FBDIV POST1 POST2 CODE; malformed for a code that no voltage has
-abbrev pub plan_text : Option (Answer ClockConfig) → List ℕ
-plan_text (Some plan) = planned_text plan
-plan_text None = one_text malformed
+abbrev pub plan_or_malformed : Option (Answer ClockConfig) → List ℕ
+plan_or_malformed (Some plan) = planned_text plan
+plan_or_malformed None = one_text malformed
 
 abbrev pub manual_text : List ℕ → List ℕ
-manual_text n = plan_text (manual_by_code (nth n 0) (pll_at n 1) (byte_at n 5))
+manual_text n = plan_or_malformed (manual_by_code (nth n 0) (pll_at n 1) (byte_at n 5))
 
 -- READING ROOM CHIP PLAN
 abbrev pub plan_at : List ℕ → ℕ → List ℕ

@@ -5,7 +5,7 @@ use Rattle.std.specs.Option.{option_and_then, option_map}
 use mathlib.Core.{Bool.Bool, List.List, List.[], List.◌∷◌}
 use Prim.Native.{Nat.ℕ, String.String}
 use lib.{Dec.ltb, ListN.length, ListN.take}
-use Rattle.base.specs.{Answer.Answer, Answer.value, Answer.refusal, Choice.pick}
+use Rattle.base.specs.{Answer.Answer, Answer.value, Choice.pick}
 use Rattle.text.specs.Ascii.{ascii, same}
 use Rattle.chip.specs.declared.{Chip.Chip, Chip.TheVariants.Rp2040, Chip.TheVariants.Rp235x}
 use Rattle.config.specs.declared.ClockConfig.{ClockConfig}
