@@ -13,7 +13,8 @@ use Rattle.pll.specs.declared.PllConfig.{PllConfig}
 use Rattle.pll.specs.{Setting.valid_of, Search.search_of, Usb.usb_of, Law.RightAnswer}
 use Rattle.pll.proofs.{Right.search-right, Valid.valid, UsbRight.usb-found}
 use Rattle.config.specs.declared.{ClockConfig.ClockConfig, RoscConfig.RoscConfig, RoscRange.RoscRange}
-use Rattle.config.specs.Presets.{from_plls, feeding_both, feeding, with_found, ring_config, rosc_plan, default_plan, crystal_plan, system_voltage, system_plan, system_plan_from, manual_plan}
+use Rattle.config.specs.Presets.{from_plls, feeding_both, feeding, with_found, ring_config, rosc_plan}
+use Rattle.config.specs.Presets.{default_plan, crystal_plan, system_voltage, system_plan, system_plan_from, manual_plan}
 use Rattle.fields.specs.Row.{u32}
 use Rattle.numbers.specs.Typed.{PllTyped, RingTyped}
 use Rattle.numbers.proofs.Inverse.{plan-back}
