@@ -1,27 +1,29 @@
 -- A runner given as numbers: a store changes one of its frequencies, its position keeps to 32 bits, and the step that it hands
 -- out is the word at its position.
-use mathlib.Core.{Bool.Bool, Bool.true, Bool.false, List.List, List.[], List.append-nil, Path.◌≡◌, Path.refl, Path.sym}
-use Prim.Native.Nat.{ℕ, ◌*◌, ◌≤◌}
+use mathlib.Core.{Bool.Bool, Bool.true, Bool.false, List.List, List.◌++◌, Path.◌≡◌, Path.refl, Path.sym, Path.ap, Path.◌∙◌}
+use Prim.Native.Nat.{ℕ, ◌+◌, ◌*◌, ◌≤◌}
 use native.Mathlib.Omega.{arith}
-use borrow.Rule.Slice.PartMut.{put_mid, mid_of}
-use lib.{ListN.length, ListN.drop, ListN.drop_of_length-le, ListN.length-drop, Seq.take_all}
-use Rattle.step.specs.declared.Step.{Step}
+use lib.{ListN.set, ListN.take, ListN.drop, ListN.take-append-drop, Seq.take-set-le, Seq.drop-set-add}
 use Rattle.step.specs.Access.{word_at}
 use Rattle.step.proofs.Accesses.{read-sound}
 use Rattle.runner.specs.declared.{State.State, Runner.Runner}
-use Rattle.runner.specs.Run.{Outcome, outside, stored_by, turn_of, joined, in_runner, advance_of, stepper_of}
+use Rattle.runner.specs.Run.{Outcome, outside, turn_of, joined, in_runner, advance_of, stepper_of}
 use Rattle.numbers.specs.{Answers.answer_number, Run.with_freqs, Run.progress_number, Run.progress_with}
 use Rattle.runner.proofs.{Calls.inside, Calls.call-outside, Calls.every-turn, Steps.turn_formed}
 use Rattle.std.proofs.lemmas.Bool.Decides.{nat_tests}
 
 -- the frequencies follow the four numbers of the state and the kept length
-pub stored_behind : (ns freqs : List ℕ) (step : Step) → length ns ≡ 15 → freqs ≡ stored_by step (mid_of 5 10 ns)
-    → put_mid 5 10 ns freqs ≡ with_freqs (stored_by step (drop 5 ns)) ns
+pub set_behind : (ns : List ℕ) (i x : ℕ) → set ns (5 + i) x ≡ with_freqs (set (drop 5 ns) i x) ns
 unfolding with_freqs
-stored_behind ns freqs step h e =
-    let none : drop 10 (drop 5 ns) ≡ [] = drop_of_length-le (drop 5 ns) {i = 10} (simp length-drop (omega arith)) in
-    let all : mid_of 5 10 ns ≡ drop 5 ns = take_all 10 (drop 5 ns) (simp length-drop (omega arith)) in
-    rw (none, append-nil, e, all)
+set_behind ns i x =
+    sym (take-append-drop 5 (set ns (5 + i) x))
+    ∙ ap (λ (front : List ℕ). front ++ drop 5 (set ns (5 + i) x)) (take-set-le 5 ns (5 + i) x (omega arith))
+    ∙ ap (λ (back : List ℕ). take 5 ns ++ back) (drop-set-add 5 ns i x)
+
+-- the frequencies that the numbers already hold
+pub held_behind : (ns freqs : List ℕ) → drop 5 ns ≡ freqs → ns ≡ with_freqs freqs ns
+unfolding with_freqs
+held_behind ns freqs e = sym (take-append-drop 5 ns) ∙ ap (λ (back : List ℕ). take 5 ns ++ back) e
 
 -- the position after a call still fits 32 bits: inside the sheet it is small, and outside a call leaves it
 pub position_fits : (s : State) (len : ℕ) (kept sheet : List ℕ) (ready : Bool) → s.position ≤ 4294967295

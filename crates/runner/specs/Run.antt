@@ -105,7 +105,7 @@ turn_of s len kept sheet ready =
     (pick (not (same (take len kept) sheet)) (outcome (refusal 27) s)
     (onward_of s sheet ready)))
 
--- the ten frequencies after a step: a store sets the frequency of its clock
+-- the frequencies after a step: a store sets the frequency of its clock
 unfoldable pub stored_by : Step → List ℕ → List ℕ
 stored_by step freqs = pick (is step.kind kind.Store) (set freqs step.f0 step.f1) freqs
 

@@ -15,7 +15,7 @@ ghost use Rattle.runner.specs.Run.{fresh_stepper, fresh, freq_of, padded};
 use base::Refusal;
 pub use step::Clock;
 use step::{MAX_BYTES, MAX_STEPS, Step};
-pub use stepping::store;
+use stepping::store;
 
 // The state of a runner without the frequencies. `stopped` is a mark of the C interface, with no value beside it for an Option.
 #[derive(Clone, Copy)]

@@ -74,7 +74,7 @@ impl State {
 
 // A store that is handed out sets the frequency of its clock; any other step changes nothing.
 #[tactic(auto, using(std::proofs::lemmas::Bool::Decides::nat_tests, crate::proofs::Steps::store_fits), unfolding(crate::specs::Run::stored_by))]
-pub fn store(step: Step, freqs: &mut [u32])
+pub(crate) fn store(step: Step, freqs: &mut [u32])
     requires formed { WellFormed step }
     requires ten { length freqs.old ≡ 10 }
     ensures { freqs.new ≡ stored_by step freqs.old }

@@ -9,7 +9,7 @@ ghost use Rattle.numbers.specs.Run.{state_in, with_state, with_freqs, progress_w
 use crate::answers;
 use base::Refusal;
 use runner::{Reply, State};
-use step::Step;
+use step::{Kind, Step};
 
 // The state of a runner: position, lock polls, total and stopped mark.
 pub(crate) fn state(numbers: &[u32; 15]) -> State
@@ -36,13 +36,16 @@ pub(crate) fn put_state(numbers: &mut [u32; 15], s: State)
     numbers[3] = u32::from(s.stopped);
 }
 
-// A store that is handed out sets the frequency of its clock.
-#[tactic(auto, using(crate::proofs::Runners::stored_behind))]
+// A store that is handed out sets the frequency of its clock. The runner's own `store` asks for a step of a sheet, so it is private,
+// and so is this: a public one would have to test the clock and the Hz, which takes 36 bytes of a firmware that is at its limit.
+#[tactic(auto, using(std::proofs::lemmas::Bool::Decides::nat_tests, runner::proofs::Steps::store_fits, crate::proofs::Runners::set_behind, crate::proofs::Runners::held_behind), unfolding(runner::specs::Run::stored_by))]
 fn put_store(numbers: &mut [u32; 15], step: Step)
     requires { WellFormed step }
     ensures { numbers.new ≡ with_freqs (stored_by step (drop 5 numbers.old)) numbers.old }
 {
-    runner::store(step, &mut numbers[5..]);
+    if step.kind == Kind::Store {
+        numbers[5 + step.f0 as usize] = step.f1 as u32;
+    }
 }
 
 // The number of a reply, where `word` is the sheet's word at the position; a store that is handed out sets its frequency.
