@@ -12,11 +12,12 @@ use Rattle.chip.specs.Chips.{facts_of}
 use Rattle.pll.specs.declared.PllConfig.{PllConfig}
 use Rattle.pll.specs.{Setting.valid_of, Search.search_of, Usb.usb_of, Law.RightAnswer}
 use Rattle.pll.proofs.{Right.search-right, Valid.valid, UsbRight.usb-found}
-use Rattle.config.specs.declared.{ClockConfig.ClockConfig, RoscConfig.RoscConfig, RoscRange.RoscRange}
-use Rattle.config.specs.Presets.{from_plls, feeding_both, feeding, with_found, ring_config, rosc_plan}
+use Rattle.config.specs.declared.{ClockConfig.ClockConfig, RoscConfig.RoscConfig, RoscRange.RoscRange, RtcClkConfig.RtcClkConfig}
+use Rattle.config.specs.Board.{board_of}
+use Rattle.config.specs.Presets.{plain, from_plls, feeding_both, feeding, with_found, ring_config, rosc_plan}
 use Rattle.config.specs.Presets.{default_plan, crystal_plan, system_voltage, system_plan, system_plan_from, manual_plan}
 use Rattle.fields.specs.Row.{u32}
-use Rattle.numbers.specs.Typed.{PllTyped, RingTyped}
+use Rattle.numbers.specs.Typed.{PllTyped, RingTyped, ClockTyped, ChipTyped, PlanTyped}
 use Rattle.numbers.proofs.Inverse.{plan-back}
 use Rattle.export.specs.Plan.{Back, PresetsBack}
 
@@ -25,22 +26,25 @@ abbrev ForPlan : Chip → Answer ClockConfig → Type 0
 ForPlan chip (value p) = Back chip p
 ForPlan chip (refusal n) = Unit {0}
 
+-- the chip's part of a preset is of its chip, and fits its types where its RTC does
+plain-chip : (chip : Chip) (v : CoreVoltage) (rtc : Option RtcClkConfig) → (board_of (plain chip v rtc)).chip ≡ chip
+plain-chip Rp2040 v rtc = refl
+plain-chip Rp235x v rtc = refl
+
+plain-typed : (chip : Chip) (v : CoreVoltage) (rtc : Option RtcClkConfig) → ClockTyped rtc → ChipTyped (plain chip v rtc)
+plain-typed Rp2040 v rtc few = (omega arith, omega arith, few)
+plain-typed Rp235x v rtc few = (omega arith, omega arith)
+
+back : (chip : Chip) (p : ClockConfig) → (board_of p.chip).chip ≡ chip → PlanTyped p → Back chip p
+back chip p e t = subst (λ (on : Chip). Back on p) e (plan-back p t)
+
 -- a plan with both PLLs
 plls-back : (chip : Chip) (v : CoreVoltage) (hz : ℕ) (sys usb : PllConfig) (ring : Option RoscConfig) → hz ≤ u32
     → PllTyped (Some sys) → PllTyped (Some usb) → RingTyped ring → Back chip (from_plls chip v ring (feeding_both hz sys usb))
-plls-back Rp2040 v hz sys usb ring few s u r =
-    plan-back (from_plls Rp2040 v ring (feeding_both hz sys usb)) (record {
-      chip = (omega arith, omega arith, (omega arith, omega arith, omega arith));
-      rosc = r;
-      xosc = (few, omega arith, s, u);
-      reference = omega arith;
-      usb = (omega arith, omega arith);
-      adc = (omega arith, omega arith);
-      settling = tt;
-    })
-plls-back Rp235x v hz sys usb ring few s u r =
-    plan-back (from_plls Rp235x v ring (feeding_both hz sys usb)) (record {
-      chip = (omega arith, omega arith);
+plls-back chip v hz sys usb ring few s u r =
+    back chip (from_plls chip v ring (feeding_both hz sys usb)) (plain-chip chip v _)
+    (record {
+      chip = plain-typed chip v _ (omega arith, omega arith, omega arith);
       rosc = r;
       xosc = (few, omega arith, s, u);
       reference = omega arith;
@@ -55,19 +59,10 @@ ring-typed hz div few small range =
     (few, omega arith, omega arith, omega arith, omega arith, omega arith, omega arith, omega arith, omega arith, omega (arith, small))
 
 rosc-back : (chip : Chip) → Back chip (rosc_plan chip)
-rosc-back Rp2040 =
-    plan-back (rosc_plan Rp2040) (record {
-      chip = (omega arith, omega arith, (omega arith, omega arith, omega arith));
-      rosc = ring-typed 140000000 1 (omega arith) (omega arith) RoscRange.High;
-      xosc = tt;
-      reference = omega arith;
-      usb = tt;
-      adc = (omega arith, omega arith);
-      settling = tt;
-    })
-rosc-back Rp235x =
-    plan-back (rosc_plan Rp235x) (record {
-      chip = (omega arith, omega arith);
+rosc-back chip =
+    back chip (rosc_plan chip) (plain-chip chip volts.V1_10 _)
+    (record {
+      chip = plain-typed chip volts.V1_10 _ (omega arith, omega arith, omega arith);
       rosc = ring-typed 140000000 1 (omega arith) (omega arith) RoscRange.High;
       xosc = tt;
       reference = omega arith;
@@ -77,19 +72,10 @@ rosc-back Rp235x =
     })
 
 default-back : (chip : Chip) → Back chip (default_plan chip)
-default-back Rp2040 =
-    plan-back (default_plan Rp2040) (record {
-      chip = (omega arith, omega arith, tt);
-      rosc = tt;
-      xosc = tt;
-      reference = omega arith;
-      usb = tt;
-      adc = tt;
-      settling = tt;
-    })
-default-back Rp235x =
-    plan-back (default_plan Rp235x) (record {
-      chip = (omega arith, omega arith);
+default-back chip =
+    back chip (default_plan chip) (plain-chip chip volts.V1_10 None)
+    (record {
+      chip = plain-typed chip volts.V1_10 None tt;
       rosc = tt;
       xosc = tt;
       reference = omega arith;

@@ -11,7 +11,8 @@ use config::ClockConfig;
 use numbers::answers;
 use numbers::manual::manual;
 
-// Writes the numbers of a plan and answers its chip; a refused plan answers its refusal, and no plan is malformed.
+// Writes the numbers of a plan and answers its chip; a refused plan answers its refusal, and no plan is malformed. By `map_or` the proof
+// does not close: the library does not say that a closure that is not called leaves the numbers it holds as they were.
 fn write(plan: Option<Result<ClockConfig, Refusal>>, numbers: &mut [u32; 48]) -> u64
     ensures { PlanCall (answer_in plan) numbers.old result numbers.new }
 {
