@@ -2,7 +2,8 @@
 ghost use Rattle.std.specs.Prelude.{[], ◌∷◌, ◌≡◌};
 ghost use Rattle.base.specs.Writing.{Puts, IsNew};
 
-// A lent buffer, and the index up to which it is written. What does not fit is dropped, so a text is cut at the buffer's end.
+// A lent buffer, and the index up to which it is written. What does not fit is dropped, so a text is cut at the buffer's end. Who has a
+// whole buffer makes a writer, writes, and answers `at`: a function that takes what writes as a closure would be no shorter to call.
 #[derive(Drop)]
 pub struct Writer<'a, T> {
     pub buf: &'a mut [T],

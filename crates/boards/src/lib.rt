@@ -80,7 +80,7 @@ impl Bench {
     }
 
     // The frequency in Hz that a board holds for a clock, by the number of the clock; a clock over 9 has 0 Hz. Refuses
-    // with 28 a board over 7. The clock is a number of the C interface, so it is no `Clock`, which would admit ten alone.
+    // with 28 a board over 7. The clock is a number, since any may be asked for; a `Clock` would admit ten alone.
     #[tactic(auto, using(std::proofs::lemmas::Bool::Decides::nat_tests), unfolding(crate::specs::Bench::board_hz))]
     pub fn clock_freq(&self, board: u8, clock: u8) -> Result<u32, Refusal>
         ensures { answer_of result ≡ board_hz self.now board clock }

@@ -116,7 +116,8 @@ pub(crate) fn write_run(out: &mut Writer<'_, u8>, words: &Words)
     write(out, r, &runner, b"");
 }
 
-// The case `bench_start`: SHEET KEPT BOARD BENCH; a start ignores BOARD.
+// The case `bench_start`: SHEET KEPT BOARD BENCH; a start ignores BOARD. With `start` it shares five lines, of which each has its own row,
+// place of the count and call; so have `bench_run` and `run`.
 pub(crate) fn write_bench_start(out: &mut Writer<'_, u8>, words: &Words)
     ensures { Says out.old (bench_start_text words.now.row words.now.kept (sheet_at words.now 0)) out.new }
 {
@@ -149,7 +150,7 @@ fn changed_row(words: &[u32; 11], slots: &[u32; 48], steps: &[u32; 28]) -> [u32;
     row
 }
 
-// The cases `sleep` and `wake`: SLOT, eleven words, four slots.
+// The cases `sleep` and `wake`: SLOT, eleven words, four slots. A flag says which, as in `change`.
 pub(crate) fn write_change(out: &mut Writer<'_, u8>, wakes: bool, n: &[u32; 128])
     ensures { Says out.old (change_text wakes n.now) out.new }
 {

@@ -1,6 +1,6 @@
 // Writes the sheet of an order.
-ghost use Rattle.std.specs.Prelude.{◌≡◌};
-ghost use Rattle.base.specs.Answer.{answer_of, answer_in};
+ghost use Rattle.std.specs.Prelude.{Some};
+ghost use Rattle.base.specs.Answer.{answer_of};
 ghost use Rattle.commands.specs.Made.{MadeCall, reading_in, order_in, MakeCall};
 
 use base::Refusal;
@@ -9,15 +9,11 @@ use orders::Planned;
 // The number of bytes written or a refusal; None where the words are not READING ORDER.
 pub type Made = Option<Result<usize, Refusal>>;
 
-// Writes the sheet of the ordered plan; None where there is no order. `and_then` was tried, and its proof does not close: the library
-// does not say that a closure that is not called leaves the sheet it holds as it was.
-fn write(order: Option<Planned>, reading: u8, sheet: &mut [u8]) -> Made
-    ensures { MadeCall (answer_in order) reading sheet.old result sheet.new }
+// Writes the sheet of the ordered plan, or answers the order's refusal.
+fn write(order: Planned, reading: u8, sheet: &mut [u8]) -> Result<usize, Refusal>
+    ensures { MadeCall (Some (answer_of order)) reading sheet.old (Some result) sheet.new }
 {
-    match order? {
-        Ok(plan) => Some(sheet::init(plan, reading, sheet)),
-        Err(why) => Some(Err(why)),
-    }
+    sheet::init(order?, reading, sheet)
 }
 
 // Writes the sheet of the order in the rest of a line; None for a reading that is no number or over 255.
@@ -25,7 +21,7 @@ fn write_at(reading: Result<u32, Refusal>, rest: &[u8], sheet: &mut [u8]) -> Mad
     ensures { MadeCall (order_in (answer_of reading) rest.now) (reading_in (answer_of reading)) sheet.old result sheet.new }
 {
     let reading = u8::try_from(reading.ok()?).ok()?;
-    write(orders::read_order(rest, reading), reading, sheet)
+    Some(write(orders::read_order(rest, reading)?, reading, sheet))
 }
 
 // Writes the sheet of an order at a reading to the start of the caller's bytes: the words are READING ORDER, and None where they

@@ -8,7 +8,8 @@ use boards::Bench;
 use numbers::answers;
 use step::MAX_BYTES;
 
-// Starts eight fresh boards with one sheet and answers 0; any numbers may be given before. Refusal: 20.
+// Starts eight fresh boards with one sheet and answers 0; any numbers may be given before. Refusal: 20. It is `start` of a board over
+// other numbers and another type, which is all that it says.
 #[tactic(auto, using(step::proofs::Sizes::size_fits), unfolding(boards::specs::Bench::start_all_of))]
 #[unsafe(no_mangle)]
 pub extern "C" fn dizbaral_bench_start(

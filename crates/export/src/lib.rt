@@ -166,6 +166,7 @@ pub extern "C" fn dizbaral_gpout_frequency(
 
 // Writes a plan's sheet and answers its length; a refused plan answers its refusal, and no plan is malformed. `and_then` was
 // tried, and its proof does not close: the library does not say that a closure that is not called leaves the sheet it holds as it was.
+// By `?` it would be two functions in place of three arms.
 fn write(plan: Option<Result<ClockConfig, Refusal>>, reading: u8, sheet: &mut [u8]) -> u64
     ensures { SheetCall (answer_in plan) reading sheet.old result sheet.new }
 {

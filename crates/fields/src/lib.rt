@@ -21,7 +21,7 @@ pub fn byte_at(row: &[u32], i: usize) -> u8
     u8::try_from(number_at(row, i)).unwrap_or(u8::MAX)
 }
 
-// The number at index i, clamped to 65535.
+// The number at index i, clamped to 65535. It is no one function with `byte_at`: the library has no trait for a type's greatest value.
 pub fn half_at(row: &[u32], i: usize) -> u16
     ensures { result ≡ half_at row.now i }
 {

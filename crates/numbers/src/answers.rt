@@ -20,11 +20,18 @@ const ABSENT: u64 = 1 << 32;
 // The answer where the numbers given are of no chip, no plan, no runner or no slots.
 pub const MALFORMED: u64 = 1 << 49;
 
-// The number of a refusal.
+// The answer that tells refusal n, whichever the number.
+pub fn refused_by(number: u8) -> u64
+    ensures { result ≡ refusals + number }
+{
+    REFUSAL + u64::from(number)
+}
+
+// The answer that tells a refusal.
 pub fn refused(why: Refusal) -> u64
     ensures { result ≡ refusals + number_of why }
 {
-    REFUSAL + u64::from(u8::from(why))
+    refused_by(u8::from(why))
 }
 
 // A number as itself, or the number of its refusal.
@@ -93,7 +100,8 @@ fn divider_of(chip: Chip, whole: u32, fraction: u16) -> Option<GpoutDiv>
     }
 }
 
-// The divider of a Gpout on the chip of a number; None for an unknown chip or a fraction of too many bits.
+// The divider of a Gpout on the chip of a number; None for an unknown chip, which is malformed as in `chip`, or a fraction of too many
+// bits.
 pub fn divider(number: u8, whole: u32, fraction: u16) -> Option<GpoutDiv>
     ensures { result ≡ divider_numbered whole fraction (chip_numbered number) }
 {

@@ -8,7 +8,8 @@ use chip::voltage::CoreVoltage;
 use config::ClockConfig;
 use pll::PllConfig;
 
-// The plan of the RP2040 from crystal, dividers and voltage code. Refusal: 5; None for a code that no voltage has.
+// The plan of the RP2040 from crystal, dividers and voltage code. Refusal: 5; None for a code that no voltage has: the code is a number,
+// since it comes from C, which may give any.
 pub fn manual(crystal_hz: u32, pll: PllConfig, code: u8) -> Option<Result<ClockConfig, Refusal>>
     ensures { answer_in result ≡ manual_by_code crystal_hz pll code }
 {

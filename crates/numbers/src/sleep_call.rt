@@ -18,8 +18,8 @@ fn are_slots(n: &[u32; 48]) -> bool
     (n[0] <= 1) & (n[12] <= 1) & (n[24] <= 1) & (n[36] <= 1)
 }
 
-// A wake or a sleep, as the flag says. It is a flag in the definitions too: with a closure each caller would state `sleep_of` or
-// `wake_of` of words and slots once more.
+// A wake or a sleep, as the flag says. It is a flag in the definitions too, so an enum would be turned into it by each contract; with a
+// closure each caller would state `sleep_of` or `wake_of` of words and slots once more.
 fn asked(
     wakes: bool,
     slots: &mut [Slot; 4],

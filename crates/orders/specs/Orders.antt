@@ -4,7 +4,7 @@ use Rattle.std.specs.Prelude.{Option, Some, None, is_some, find}
 use Rattle.std.specs.Option.{option_and_then, option_map}
 use mathlib.Core.{Bool.Bool, List.List, List.[], List.◌∷◌}
 use Prim.Native.{Nat.ℕ, String.String}
-use lib.{Dec.ltb, ListN.length, ListN.take}
+use lib.{Dec.eqb, Dec.ltb, ListN.length, ListN.take}
 use Rattle.base.specs.{Answer.Answer, Answer.value, Choice.pick}
 use Rattle.text.specs.Ascii.{ascii, same}
 use Rattle.chip.specs.declared.{Chip.Chip, Chip.TheVariants.Rp2040, Chip.TheVariants.Rp235x}
@@ -40,6 +40,13 @@ presets Rosc = row "rosc" "" (λ chip n. Some (value (rosc_plan chip)))
 presets Default = row "default" "" (λ chip n. Some (value (default_plan chip)))
 presets Manual = row "manual" "wbhbbb" manual_on
 presets Plan = row "plan" "wwwwwwwwwwwwwwwwwwwwwwwwwwwwwwwwwwwwwwwwwwwooooo" (λ chip n. None)
+
+-- the preset of a number: 0 to 5 in the order above; any other gives no plan of its own
+abbrev pub preset_numbered : ℕ → Preset
+preset_numbered n =
+    pick (eqb n 0) System
+    (pick (eqb n 1) SystemFrom
+    (pick (eqb n 2) Crystal (pick (eqb n 3) Rosc (pick (eqb n 4) Default (pick (eqb n 5) Manual Plan)))))
 
 abbrev pub name_of : Preset → List ℕ
 name_of p = (presets p).name

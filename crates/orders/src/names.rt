@@ -1,6 +1,6 @@
 // The orders that have a name.
 ghost use Rattle.std.specs.Prelude.{◌≡◌};
-ghost use Rattle.orders.specs.Orders.{name_of, letters_of};
+ghost use Rattle.orders.specs.Orders.{name_of, letters_of, preset_numbered};
 
 use text::Named;
 
@@ -38,6 +38,23 @@ impl Preset {
             Preset::Rosc | Preset::Default => b"",
             Preset::Manual => b"wbhbbb",
             Preset::Plan => b"wwwwwwwwwwwwwwwwwwwwwwwwwwwwwwwwwwwwwwwwwwwooooo",
+        }
+    }
+}
+
+// The preset of a number: 0 to 5 in the order above; any other gives no plan of its own, as `plan` gives none.
+impl From<u8> for Preset {
+    ghost from_gives = { λ number preset. preset ≡ preset_numbered number };
+
+    fn from(number: u8) -> Preset {
+        match number {
+            0 => Preset::System,
+            1 => Preset::SystemFrom,
+            2 => Preset::Crystal,
+            3 => Preset::Rosc,
+            4 => Preset::Default,
+            5 => Preset::Manual,
+            _ => Preset::Plan,
         }
     }
 }

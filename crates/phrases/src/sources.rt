@@ -101,7 +101,7 @@ fn millivolts(chip: Chip, code: u8) -> u64
     }
 }
 
-// Writes the line of the core voltage: mV and code.
+// Writes the line of the core voltage: mV and code, which is a number, as in `millivolts`.
 #[tactic(auto, using(base::proofs::Writing::writing), unfolding(crate::specs::Lines::voltage_line))]
 pub fn write_voltage(out: &mut Writer<'_, u8>, chip: Chip, code: u8)
     ensures { Puts out.old (voltage_line chip code) out.new }

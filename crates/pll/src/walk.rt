@@ -124,7 +124,7 @@ fn posts_near(product: usize) -> u16
 // The lowest of `best` and the ranks at one feedback divider. Where the target goes q times into the VCO frequency,
 // post dividers with a product up to q give the target or more, and the greatest such product is nearest. Products
 // above q give less, and the least of them is nearest. For most settings one multiplication shows that they are
-// farther than `best`.
+// farther than `best`. Input and target are no struct, here as in the lister and the margin: C hands them in as two numbers.
 fn best_posts(input_hz: u32, target: u32, fbdiv: u32, best: u64) -> u64
     requires { (reference_min ≤ input_hz) × VcoPermits input_hz fbdiv × (best ≤ no_rank) }
     ensures { Lowered input_hz target (CandidatesAt input_hz fbdiv) best result }

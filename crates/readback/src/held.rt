@@ -5,7 +5,7 @@ ghost use Rattle.sheet.specs.Read.{step_at};
 use base::BoundedList;
 use step::{Kind, MAX_STEPS, Step};
 
-// The step that stands for none: no sheet has a step of kind 0.
+// The step that stands for none, as no sheet has a step of kind 0. It is no Option, since what is read ahead is only compared by its kind.
 pub(crate) const NO_STEP: Step = Step {
     kind: Kind::Unknown(0),
     f0: 0,

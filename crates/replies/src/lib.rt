@@ -3,10 +3,9 @@
 
 ghost use Rattle.std.specs.Prelude.{ℕ, ◌≡◌};
 ghost use Rattle.base.specs.Writing.{Puts};
-ghost use Rattle.base.specs.Refusals.{number_of};
 ghost use Rattle.replies.specs.Reply.{bad_case, refused_text, refused_line, spaced_by, row_text};
 
-use base::{Refusal, Writer};
+use base::Writer;
 
 // A program's whole output where its input cannot be read: `refused 24` and a newline.
 #[tactic(auto, unfolding(text::specs::Decimal::decimal_of))]
@@ -51,10 +50,10 @@ pub fn write_refused(out: &mut Writer<'_, u8>, number: u8)
 }
 
 // Writes `refused N` and a newline.
-pub fn write_refused_line(out: &mut Writer<'_, u8>, why: Refusal)
-    ensures { Puts out.old (refused_line (number_of why)) out.new }
+pub fn write_refused_line(out: &mut Writer<'_, u8>, number: u8)
+    ensures { Puts out.old (refused_line number) out.new }
 {
-    write_refused(out, u8::from(why));
+    write_refused(out, number);
     out.put(b'\n');
 }
 

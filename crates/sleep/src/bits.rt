@@ -2,8 +2,8 @@
 ghost use Rattle.std.specs.Prelude.{◌≡◌, ◌+◌, ◌^◌, ◌<◌};
 ghost use Rattle.sleep.specs.Bits.{field, with_field, pll_off, pll_runs, crystal_runs};
 
-// A field of a register word: the `size` bits from bit `low` up. By `low` of step it would be
-// `step::low(u64::from(word >> low), size) as u32`, two casts in place of a mask.
+// A field of a register word: the `size` bits from bit `low` up. `low` of step is private, and by
+// it the field would be `low(u64::from(word >> low), size) as u32`, two casts in place of a mask.
 #[derive(Clone, Copy)]
 pub(crate) struct Field {
     low: u32,

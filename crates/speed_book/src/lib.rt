@@ -29,7 +29,7 @@ pub struct Line {
     pub setting: PllConfig,
 }
 
-// The entry past the end: its output is more than twice any target, so it is never the nearer one.
+// The entry past the end: its output is more than twice any target, so it is never the nearer one, and no case of an Option is left.
 const FAR: u64 = 8589934592_000_0_0;
 
 // The book. It is a static, so that no use stores it anew.

@@ -35,7 +35,7 @@ pub fn write_decimal(out: &mut Writer<'_, u8>, n: u64)
     out.put(last_digit(n));
 }
 
-// The last hex digit of b.
+// The last hex digit of b. `char::from_digit` would leave a case for no digit, and a cast.
 pub fn hex_digit(b: u8) -> u8
     ensures { result ≡ hex_digit (b % 16) }
 {

@@ -78,9 +78,12 @@ fn write_counted(out: &mut Writer<'_, u8>, seed: u32, count: Result<u32, Refusal
     ensures { Puts out.old (load_with (value seed) (answer_of count)) out.new }
 {
     match count {
-        Ok(count) if count > MOST_COUNT => replies::write_refused_line(out, Refusal::CountOver),
+        Ok(count) if count > MOST_COUNT => replies::write_refused_line(
+            out,
+            u8::from(Refusal::CountOver),
+        ),
         Ok(count) => write_trials(out, seed, count),
-        Err(why) => replies::write_refused_line(out, why),
+        Err(why) => replies::write_refused_line(out, u8::from(why)),
     }
 }
 
@@ -93,7 +96,7 @@ fn write_load(out: &mut Writer<'_, u8>, input: &[u8])
     let after = input.get(space + 1..).unwrap_or(b"");
     match text::number_up_to(input, b' ') {
         Ok(seed) => write_counted(out, seed, text::number_up_to(after, b'\n')),
-        Err(no_seed) => replies::write_refused_line(out, no_seed),
+        Err(no_seed) => replies::write_refused_line(out, u8::from(no_seed)),
     }
 }
 

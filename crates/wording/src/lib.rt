@@ -51,7 +51,7 @@ fn write_line(out: &mut Writer<'_, u8>, k: u8, plan: ClockConfig, s: Settings, f
     }
 }
 
-// Writes the line of setting k of a plan at a reading; nothing from 13 on.
+// Writes the line of setting k of a plan at a reading; nothing from 13 on. The two are no struct, as `settings_of` takes them apart.
 #[tactic(auto, unfolding(crate::specs::Words::setting_line))]
 pub fn write_setting(out: &mut Writer<'_, u8>, k: u8, plan: ClockConfig, reading: u8)
     ensures { Puts out.old (setting_line k plan reading) out.new }

@@ -17,4 +17,4 @@ returns-in-Ok c = rw (← written-report _ c.init.ensures c.in-Ok.n c.in-Ok.is, 
 
 pub returns-in-Err : goal.returns-in-Err
 returns-in-Err c =
-    rw (← refused-report _ c.init.ensures c.requires refl c.in-Err.why c.in-Err.is) c.write_refused_line.ensures
+    rw (← refused-report _ c.init.ensures c.requires refl c.in-Err.why c.in-Err.is, ← c.from.ensures) c.write_refused_line.ensures

@@ -9,4 +9,4 @@ returns-in-Ok c = rw (← c.line_number.ensures, c.in-Ok.is) c.write_target.ensu
 
 pub returns-in-Err : goal.returns-in-Err
 unfolding report_of
-returns-in-Err c = rw (← c.line_number.ensures, c.in-Err.is) c.write_refused_line.ensures
+returns-in-Err c = rw (← c.line_number.ensures, c.in-Err.is, ← c.from.ensures) c.write_refused_line.ensures

@@ -12,4 +12,4 @@ pub returns-in-Ok : goal.returns-in-Ok
 returns-in-Ok c = rw (← c.system_freq.ensures, c.in-Ok.is) c.write_plan.ensures
 
 pub returns-in-Err : goal.returns-in-Err
-returns-in-Err c = rw (← c.system_freq.ensures, c.in-Err.is) c.write_refused_line.ensures
+returns-in-Err c = rw (← c.system_freq.ensures, c.in-Err.is, ← c.from.ensures) c.write_refused_line.ensures
