@@ -7,3 +7,5 @@ pub mod Walk
 pub mod Usb
 pub mod UsbLaw
 pub mod UsbWalk
+-- The statements of the theorems.
+pub mod Near

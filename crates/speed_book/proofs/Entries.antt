@@ -10,7 +10,7 @@ use Rattle.pll.specs.{Search.setting, Search.candidates, Search.apart, Search.di
 use Rattle.pll.specs.Walk.{key}
 use Rattle.pll.specs.declared.PllConfig.{PllConfig}
 use Rattle.pll.proofs.Candidates.{vco-is, lists-candidates}
-use Rattle.near.proofs.Near.{near-search}
+use Rattle.pll.proofs.Near.{near-search}
 use Rattle.speed_book.specs.Book.{crystal, hertz, insert, by_output, book}
 use Rattle.speed_book.proofs.Members.{In, in-lists, place_in}
 use Rattle.speed_book.proofs.Rising.{Ahead, Permitted, sound-length, sound-permitted, sound-ahead}

@@ -7,7 +7,7 @@ use Rattle.std.proofs.lemmas.Result.{err_from_is_err_and}
 use Rattle.std.specs.Prelude.{Option, Some, None, Result, Ok, Err}
 use Rattle.std.specs.{Option.SomeIff, Result.OkIff, Result.result_ok}
 use Rattle.pll.specs.declared.PllConfig.{PllConfig}
-use Rattle.near.proofs.Near.{search-between}
+use Rattle.pll.proofs.Near.{search-between}
 use Rattle.margin.specs.Law.{RightLower, RightHigher}
 use Rattle.margin.specs.Walk.{Has, First}
 use Rattle.margin.proofs.{Right.right-is-margin, Sides.refused-15}

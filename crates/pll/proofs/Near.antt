@@ -10,7 +10,7 @@ use Rattle.base.specs.Answer.{value}
 use Rattle.pll.specs.{Setting.vco_of, Setting.posts_of, Setting.output_hz, Search.apart, Search.distance, Search.search_of}
 use Rattle.pll.specs.{Law.Candidate, Law.Exact, Walk.key}
 use Rattle.pll.specs.declared.PllConfig.{PllConfig}
-use Rattle.near.specs.Near.{NearestOutput, SideBySide}
+use Rattle.pll.specs.Near.{NearestOutput, SideBySide}
 use Rattle.pll.proofs.{Candidates.vco-is, Right.LowestOf, Right.search-lowest, Right.search-right}
 use Rattle.pll.proofs.Scores.{score-cases, rank_is, Lowest, lowest-chosen}
 use Rattle.pll.proofs.{Sizes.posts-most, Sizes.posts-some, Unique.right_unique}
