@@ -7,7 +7,7 @@ use lib.{Dec.eqb, ListN.length, ListN.get_or, ListN.length-append}
 use Rattle.base.specs.Choice.{pick, in_range}
 use Rattle.text.specs.{Decimal.decimal_of, Hex.hex_digits, Hex.hex_of}
 use Rattle.text.proofs.Decimals.{length-decimal}
-use Rattle.replies.specs.Reply.{bad_case, refused_text, spaced, row_text}
+use Rattle.text.specs.Reply.{bad_case, refused_text, spaced, row_text}
 use Rattle.numbers.specs.Answers.{refusals, malformed}
 use Rattle.words.specs.Said.{number_text, hex_behind, call_text}
 

@@ -28,7 +28,7 @@ pub(crate) fn show_all(rt: &impl Print) -> io::Result<()> {
     // No digit, and no byte at all.
     show(rt, b"\n")?;
     show(rt, b"")?;
-    rt.write_all(replies::unread())?;
+    rt.write_all(text::replies::unread())?;
     // The end of the input closes the line as a newline does; no draw.
     show_load(rt, b"0 1")?;
     show_load(rt, b"0 0\n")?;
@@ -42,5 +42,5 @@ pub(crate) fn show_all(rt: &impl Print) -> io::Result<()> {
     show_load(rt, b"1  1\n")?;
     show_load(rt, b"1\n")?;
     show_load(rt, b"")?;
-    rt.write_all(replies::unread())
+    rt.write_all(text::replies::unread())
 }

@@ -12,6 +12,6 @@ fn main(rt: HostRuntime) -> io::Result<()> {
             let size = report::report(&line[..n], &mut out);
             rt.write_all(&out[..size])
         }
-        Err(_) => rt.write_all(replies::unread()),
+        Err(_) => rt.write_all(text::replies::unread()),
     }
 }

@@ -4,7 +4,7 @@ use mathlib.Core.{Path.◌≡◌, List.List, List.[], List.◌∷◌, List.◌++
 use Rattle.std.specs.Prelude.{Option, Some, None, IfSome, ℕ, ◌+◌, ◌≤◌, ◌<◌}
 use lib.{Dec.eqb, Dec.ltb, ListN.length, ListN.take, ListN.set, ListN.replicate, Seq.sets}
 use Rattle.base.specs.{Choice.pick, Placed.past}
-use Rattle.replies.specs.Reply.{bad_case}
+use Rattle.text.specs.Reply.{bad_case}
 use Rattle.cases.specs.Cases.{answer_to}
 use Rattle.lines.specs.declared.Held.{Held}
 

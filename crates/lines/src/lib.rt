@@ -48,7 +48,7 @@ impl Held {
     {
         let len = self.len;
         if 4096 < len {
-            replies::write_bad(out);
+            text::replies::write_bad(out);
         } else {
             cases::write_answer(out, &self.bytes[..len]);
         }

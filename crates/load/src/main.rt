@@ -11,6 +11,6 @@ fn main(rt: HostRuntime) -> io::Result<()> {
             let size = trial::load(&line[..n], &mut out);
             rt.write_all(&out[..size])
         }
-        Err(_) => rt.write_all(replies::unread()),
+        Err(_) => rt.write_all(text::replies::unread()),
     }
 }

@@ -14,8 +14,8 @@ use Rattle.settings.proofs.Small.{Hz}
 use Rattle.refusals.proofs.Stored.{EachHz, ten-small}
 use Rattle.sheet.proofs.Formed.{masks}
 use Rattle.sheet_steps.specs.Steps.{release_mask}
-use Rattle.replies.specs.Reply.{refused_line}
-use Rattle.replies.proofs.Refused.{refused-most}
+use Rattle.text.specs.Reply.{refused_line}
+use Rattle.text.proofs.Refused.{refused-most}
 use Rattle.report.specs.Lines.{line_of, lines_of, report_names}
 use Rattle.report.specs.Report.{reading, printed_numbers, plan_report, planned_report, target_report, report_of}
 use Rattle.report.proofs.Systems.{Served, system-accepted}

@@ -11,7 +11,7 @@ use Rattle.settings.specs.declared.Settings.{Settings}
 use Rattle.settings.specs.{Settings.settings_of, Frequencies.ten_of}
 use Rattle.sheet_steps.specs.Steps.{release_mask}
 use Rattle.sheet.specs.Writer.{refusal_in}
-use Rattle.replies.specs.Reply.{refused_line}
+use Rattle.text.specs.Reply.{refused_line}
 use Rattle.report.specs.Lines.{lines_of, report_names}
 
 -- the voltage reading that the program uses

@@ -1,6 +1,6 @@
 -- A line of the printed book has the output in hertz, the feedback divider, post 1 and post 2.
 use Rattle.std.specs.Prelude.{Option, Some, None, List, [], ◌∷◌, ◌++◌, ℕ}
-use Rattle.replies.specs.Reply.{row_text}
+use Rattle.text.specs.Reply.{row_text}
 use Rattle.speed_book.specs.declared.Line.{Line}
 
 abbrev pub entry_line : Option Line → List ℕ

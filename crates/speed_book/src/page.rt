@@ -18,7 +18,7 @@ fn write_line(out: &mut Writer<'_, u8>, line: Option<Line>)
             u64::from(setting.post_div1),
             u64::from(setting.post_div2),
         ];
-        replies::write_row(out, hz, &dividers);
+        text::replies::write_row(out, hz, &dividers);
         out.put(b'\n');
     }
 }

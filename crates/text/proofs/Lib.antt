@@ -4,3 +4,5 @@ pub mod HexWords
 pub mod Lines
 pub mod Outputs
 pub mod Same
+pub mod Refused
+pub mod Spaced

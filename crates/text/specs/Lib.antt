@@ -3,3 +3,4 @@ pub mod Hex
 pub mod Words
 pub mod Ascii
 pub mod Output
+pub mod Reply

@@ -2,6 +2,7 @@
 #![tactic(auto)]
 
 mod named;
+pub mod replies;
 
 ghost use Rattle.std.specs.Prelude.{◌≡◌, ◌%◌, ◌≤◌, ◌<◌, ◌&&◌, length};
 ghost use Rattle.base.specs.Choice.{in_range};

@@ -5,8 +5,8 @@ use lib.{Dec.ltb, ListN.length, ListN.drop, ListN.length-append}
 use Rattle.base.specs.{Answer.Answer, Answer.value, Answer.refusal, Choice.pick}
 use Rattle.text.specs.{Decimal.is_number, Decimal.number_of, Words.up_to}
 use Rattle.text.proofs.Decimals.{length-decimal}
-use Rattle.replies.specs.Reply.{refused_line}
-use Rattle.replies.proofs.Refused.{refused-most}
+use Rattle.text.specs.Reply.{refused_line}
+use Rattle.text.proofs.Refused.{refused-most}
 use Rattle.pll.specs.declared.PllConfig.{PllConfig}
 use Rattle.pll.proofs.{Inputs.search-finds, Inputs.found-valid, Valid.valid}
 use Rattle.runner.specs.declared.{State.State, Runner.Runner}

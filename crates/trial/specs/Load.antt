@@ -4,7 +4,7 @@ use Rattle.std.specs.Prelude.{ℕ, suc, ◌+◌}
 use lib.{Dec.ltb, ListN.length, ListN.drop}
 use Rattle.base.specs.{Answer.Answer, Answer.value, Answer.refusal, Choice.pick}
 use Rattle.text.specs.{Decimal.number_of, Words.up_to}
-use Rattle.replies.specs.Reply.{refused_line, row_text}
+use Rattle.text.specs.Reply.{refused_line, row_text}
 use Rattle.chip.specs.declared.Chip.TheVariants.{Rp2040}
 use Rattle.config.specs.Presets.{crystal_plan}
 use Rattle.sheet.specs.Writer.{sheet_bytes}

@@ -32,7 +32,7 @@ fn write_target(out: &mut Writer<'_, u8>, x: u32)
         return;
     };
     let posts = [u64::from(p.post_div1), u64::from(p.post_div2)];
-    replies::write_row(out, u64::from(p.fbdiv), &posts);
+    text::replies::write_row(out, u64::from(p.fbdiv), &posts);
     out.put(b'\n');
 }
 

@@ -60,7 +60,7 @@ fn write_runner(out: &mut Writer<'_, u8>, r: &Runner)
     ensures { Puts out.old (runner_line r.now) out.new }
 {
     let state = &r.stepper.state;
-    replies::write_row(out, state.position as u64, &[u64::from(state.total)]);
+    text::replies::write_row(out, state.position as u64, &[u64::from(state.total)]);
     out.put(b'\n');
 }
 
@@ -78,12 +78,12 @@ fn write_counted(out: &mut Writer<'_, u8>, seed: u32, count: Result<u32, Refusal
     ensures { Puts out.old (load_with (value seed) (answer_of count)) out.new }
 {
     match count {
-        Ok(count) if count > MOST_COUNT => replies::write_refused_line(
+        Ok(count) if count > MOST_COUNT => text::replies::write_refused_line(
             out,
             u8::from(Refusal::CountOver),
         ),
         Ok(count) => write_trials(out, seed, count),
-        Err(why) => replies::write_refused_line(out, u8::from(why)),
+        Err(why) => text::replies::write_refused_line(out, u8::from(why)),
     }
 }
 
@@ -96,7 +96,7 @@ fn write_load(out: &mut Writer<'_, u8>, input: &[u8])
     let after = input.get(space + 1..).unwrap_or(b"");
     match text::number_up_to(input, b' ') {
         Ok(seed) => write_counted(out, seed, text::number_up_to(after, b'\n')),
-        Err(no_seed) => replies::write_refused_line(out, u8::from(no_seed)),
+        Err(no_seed) => text::replies::write_refused_line(out, u8::from(no_seed)),
     }
 }
 

@@ -7,7 +7,7 @@ use Rattle.chip.specs.Chips.{facts_of}
 use Rattle.config.specs.declared.ClockConfig.{ClockConfig}
 use Rattle.settings.specs.declared.{Settings.Settings, Frequencies.Frequencies}
 use Rattle.settings.specs.{Settings.settings_of, Frequencies.frequencies_of}
-use Rattle.replies.specs.Reply.{spaced}
+use Rattle.text.specs.Reply.{spaced}
 use Rattle.numbers.specs.Row.{sys_pll_in, usb_pll_in, plan_row}
 use Rattle.readback.specs.Read.{read_of}
 use Rattle.meanings.specs.Refusals.{refusal_text}

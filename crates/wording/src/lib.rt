@@ -91,7 +91,7 @@ fn write_plan(out: &mut Writer<'_, u8>, plan: ClockConfig)
     ensures { Puts out.old (plan_line plan) out.new }
 {
     out.put_all(b"plan");
-    replies::write_spaced(out, Row::of(plan).as_slice());
+    text::replies::write_spaced(out, Row::of(plan).as_slice());
     out.put(b'\n');
 }
 
@@ -111,7 +111,7 @@ fn write_words(out: &mut Writer<'_, u8>, plan: ClockConfig, reading: u8)
 pub fn write_refused(out: &mut Writer<'_, u8>, what: &[u8], number: u8)
     ensures { Puts out.old (refused_lines what.now number) out.new }
 {
-    replies::write_refused(out, number);
+    text::replies::write_refused(out, number);
     out.put(b'\n');
     out.put_all(what);
     meanings::write_refusal(out, number);

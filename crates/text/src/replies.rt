@@ -1,14 +1,14 @@
 // Writes the texts that answers consist of: `bad case`, a refusal, and numbers with spaces.
-#![tactic(auto, using(base::proofs::Writing::writing))]
 
 ghost use Rattle.std.specs.Prelude.{ℕ, ◌≡◌};
 ghost use Rattle.base.specs.Writing.{Puts};
-ghost use Rattle.replies.specs.Reply.{bad_case, refused_text, refused_line, spaced_by, row_text};
+ghost use Rattle.text.specs.Reply.{bad_case, refused_text, refused_line, spaced_by, row_text};
 
+use crate::write_decimal;
 use base::Writer;
 
 // A program's whole output where its input cannot be read: `refused 24` and a newline.
-#[tactic(auto, unfolding(text::specs::Decimal::decimal_of))]
+#[tactic(auto, unfolding(crate::specs::Decimal::decimal_of))]
 pub fn unread() -> &'static [u8]
     ensures { result.now ≡ refused_line 24 }
 {
@@ -35,6 +35,7 @@ impl Number for u64 {
 }
 
 // Writes `bad case`.
+#[tactic(auto, using(base::proofs::Writing::writing))]
 pub fn write_bad(out: &mut Writer<'_, u8>)
     ensures { Puts out.old bad_case out.new }
 {
@@ -42,14 +43,16 @@ pub fn write_bad(out: &mut Writer<'_, u8>)
 }
 
 // Writes `refused N`. N is a number and no `Refusal`, as a call of the C interface answers one.
+#[tactic(auto, using(base::proofs::Writing::writing))]
 pub fn write_refused(out: &mut Writer<'_, u8>, number: u8)
     ensures { Puts out.old (refused_text number) out.new }
 {
     out.put_all(b"refused ");
-    text::write_decimal(out, u64::from(number));
+    write_decimal(out, u64::from(number));
 }
 
 // Writes `refused N` and a newline.
+#[tactic(auto, using(base::proofs::Writing::writing))]
 pub fn write_refused_line(out: &mut Writer<'_, u8>, number: u8)
     ensures { Puts out.old (refused_line number) out.new }
 {
@@ -58,19 +61,21 @@ pub fn write_refused_line(out: &mut Writer<'_, u8>, number: u8)
 }
 
 // Writes numbers, each after a space.
+#[tactic(auto, using(base::proofs::Writing::writing))]
 pub fn write_spaced<T: Number>(out: &mut Writer<'_, u8>, ns: &[T])
     ensures { Puts out.old (spaced_by T.number ns.now) out.new }
 {
     for n in ns {
         out.put(b' ');
-        text::write_decimal(out, (*n).into());
+        write_decimal(out, (*n).into());
     }
 }
 
 // Writes numbers with one space between.
+#[tactic(auto, using(base::proofs::Writing::writing))]
 pub fn write_row(out: &mut Writer<'_, u8>, first: u64, more: &[u64])
     ensures { Puts out.old (row_text first more.now) out.new }
 {
-    text::write_decimal(out, first);
+    write_decimal(out, first);
     write_spaced(out, more);
 }

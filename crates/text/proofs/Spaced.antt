@@ -5,7 +5,7 @@ use Prim.Native.Nat.{ℕ, ◌+◌, ◌<◌}
 use native.Mathlib.Numerals.{add-one}
 use lib.{ListN.length, ListN.take, ListN.get_or, Seq.take-suc}
 use Rattle.text.specs.Decimal.{decimal_of}
-use Rattle.replies.specs.Reply.{spaced_by}
+use Rattle.text.specs.Reply.{spaced_by}
 
 module _ {A : Type 0} (number : A → ℕ) where
   pub spaced-append : (ns ms : List A) → spaced_by number (ns ++ ms) ≡ spaced_by number ns ++ spaced_by number ms

@@ -3,7 +3,7 @@ use Prim.Native.Nat.{ℕ, suc, ◌+◌, ◌^◌, ◌≤◌, ◌<◌}
 use native.Mathlib.Omega.{arith}
 use lib.ListN.{length, length-append}
 use Rattle.text.proofs.Decimals.{length-decimal}
-use Rattle.replies.specs.Reply.{refused_line}
+use Rattle.text.specs.Reply.{refused_line}
 
 -- the number has at most k + 1 digits
 pub refused-most : (k n : ℕ) → n < 10 ^ suc k → length (refused_line n) ≤ k + 10

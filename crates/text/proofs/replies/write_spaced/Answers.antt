@@ -2,8 +2,8 @@
 use mathlib.Core.Path.{◌≡◌}
 use native.Mathlib.Omega.{arith}
 use Rattle.base.proofs.Writing.{put_then}
-use Rattle.replies.proofs.Spaced.{spaced-step}
-use Rattle.replies.proofs.write_spaced.Goals as goal
+use Rattle.text.proofs.Spaced.{spaced-step}
+use Rattle.text.proofs.replies.write_spaced.Goals as goal
 
 pub loop-n-preserved : goal.loop-n-preserved
 loop-n-preserved g c =
