@@ -14,8 +14,8 @@ use Rattle.settings.specs.Settings.{settling_step, settings_of}
 use Rattle.settings.specs.Frequencies.{pll_hz, sources_of, ref_hz, sys_hz, ten_of}
 use Rattle.settings.specs.Typed.{Typed}
 use Rattle.refusals.specs.Refusals.{Accepted}
-use Rattle.sheet_steps.specs.Steps.{head_part, ring_part, voltage_part, crystal_part, switch_steps, sys_part, peri_part, aux_part}
-use Rattle.sheet_steps.specs.Steps.{rtc_part, clocks_part, steps_of, most_steps}
+use Rattle.sheet.specs.Steps.{head_part, ring_part, voltage_part, crystal_part, switch_steps, sys_part, peri_part, aux_part}
+use Rattle.sheet.specs.Steps.{rtc_part, clocks_part, steps_of, most_steps}
 use Rattle.sheet.specs.Writer.{sheet_bytes}
 use Rattle.sheet.proofs.{Counts.chip-few, Counts.steps-few, Sheets.steps-formed, Demand3.answered}
 use Rattle.sheet.proofs.Examples.{Gives, longest_plan, longest-steps, longest235, longest-steps-235}

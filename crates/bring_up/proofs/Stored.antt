@@ -13,7 +13,7 @@ use Rattle.config.specs.Board.{board_of}
 use Rattle.settings.specs.declared.Sources.{Sources}
 use Rattle.settings.specs.Settings.{settings_of}
 use Rattle.settings.specs.Frequencies.{rtc_hz, tenth_of, stored_of, ten_of}
-use Rattle.sheet_steps.specs.Steps.{steps_of}
+use Rattle.sheet.specs.Steps.{steps_of}
 use Rattle.sheet.specs.Stores.{stores_in, stores_from}
 use Rattle.sheet.proofs.Stores.{sheet-stores}
 use Rattle.runner.specs.{Run.stored_by, Calls.stores_of}

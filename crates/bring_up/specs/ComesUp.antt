@@ -9,7 +9,7 @@ use Rattle.step.specs.Sheet.{max_steps}
 use Rattle.chip.specs.declared.Chip.{Chip}
 use Rattle.config.specs.declared.ClockConfig.{ClockConfig}
 use Rattle.settings.specs.{Settings.settings_of, Frequencies.ten_of}
-use Rattle.sheet_steps.specs.Steps.{most_steps}
+use Rattle.sheet.specs.Steps.{most_steps}
 use Rattle.sheet.specs.Writer.{sheet_bytes, InitCall}
 use Rattle.runner.specs.declared.Runner.{Runner}
 use Rattle.runner.specs.Run.{started_with, start_of, outcome}

@@ -5,7 +5,7 @@ use Rattle.base.specs.Answer.{value}
 use Rattle.step.specs.declared.Step.{Step}
 use Rattle.config.specs.declared.ClockConfig.{ClockConfig}
 use Rattle.settings.specs.{Settings.settings_of, Frequencies.ten_of}
-use Rattle.sheet_steps.specs.Steps.{steps_of}
+use Rattle.sheet.specs.Steps.{steps_of}
 use Rattle.sheet.specs.Writer.{sheet_bytes}
 use Rattle.runner.specs.declared.Runner.{Runner}
 use Rattle.runner.specs.declared.Reply.TheVariants.{Done}

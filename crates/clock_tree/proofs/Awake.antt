@@ -15,7 +15,7 @@ use Rattle.refusals.specs.Refusals.{refusal_of}
 use Rattle.refusals.proofs.Accepted.{accepted-by}
 use Rattle.registers.specs.Access.{has, access_of}
 use Rattle.registers.specs.Map.{ROSC_CTRL, CLK_REF_CTRL, REF_SRC}
-use Rattle.sheet_steps.specs.Steps.{ring_part, clocks_part, steps_of}
+use Rattle.sheet.specs.Steps.{ring_part, clocks_part, steps_of}
 use Rattle.clock_tree.specs.Machine.{carried_out}
 use Rattle.clock_tree.specs.Tree.{oscillates}
 use Rattle.clock_tree.specs.Waits.{ref_runs, Awake, StaysAwake}

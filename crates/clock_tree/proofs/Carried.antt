@@ -5,7 +5,7 @@ use Rattle.std.proofs.lemmas.Bool.{and_parts}
 use Rattle.chip.specs.declared.Chip.{Chip}
 use Rattle.step.specs.declared.Step.{Step}
 use Rattle.registers.specs.Access.{access_of}
-use Rattle.sheet_steps.specs.Steps.{clocks_part, steps_of}
+use Rattle.sheet.specs.Steps.{clocks_part, steps_of}
 use Rattle.clock_tree.specs.Carried.{is_value, carries, Carried}
 use Rattle.clock_tree.proofs.Parts.{owns}
 use Rattle.clock_tree.proofs.Sheet.{joined, All, parts_of, all-parts}

@@ -14,7 +14,7 @@ use Rattle.settings.specs.declared.{Crystal.Crystal, Sources.Sources}
 use Rattle.settings.specs.Frequencies.{pll_hz, sources_of}
 use Rattle.registers.specs.Access.{has, access_of}
 use Rattle.registers.specs.Map.{RESET, XOSC_CTRL, ROSC_CTRL, CLK_REF_CTRL, CLK_SYS_CTRL, PLL_PWR}
-use Rattle.sheet_steps.specs.Steps.{mark_steps, head_part, ring_part, voltage_part, crystal_part}
+use Rattle.sheet.specs.Steps.{mark_steps, head_part, ring_part, voltage_part, crystal_part}
 use Rattle.clock_tree.specs.Machine.{bits_at, held, carried_out}
 use Rattle.clock_tree.specs.Tree.{oscillates}
 use Rattle.clock_tree.specs.Waits.{all_waits, pll_runs, ref_runs, source_runs, Awake}

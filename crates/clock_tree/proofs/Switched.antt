@@ -19,8 +19,8 @@ use Rattle.refusals.specs.Rules.{reference_bad}
 use Rattle.refusals.proofs.Accepted.{accepted-by}
 use Rattle.registers.specs.Access.{has, access_of}
 use Rattle.registers.specs.Map.{XOSC_CTRL, ROSC_CTRL}
-use Rattle.sheet_steps.specs.Steps.{source_part, ref_part, switch_steps}
-use Rattle.sheet_steps.specs.Steps.{sys_part, release_mask, last_part, clocks_part, steps_of}
+use Rattle.sheet.specs.Steps.{source_part, ref_part, switch_steps}
+use Rattle.sheet.specs.Steps.{sys_part, release_mask, last_part, clocks_part, steps_of}
 use Rattle.clock_tree.specs.Machine.{carried_out}
 use Rattle.clock_tree.specs.Tree.{oscillates}
 use Rattle.clock_tree.specs.Waits.{pll_runs, ref_runs, source_runs, SourcesRun}

@@ -27,7 +27,7 @@ use Rattle.sheet.proofs.Facts.{none_more, aux-fits, aux-divider}
 use Rattle.registers.specs.Map.{RESET, CLK_REF_CTRL, CLK_REF_DIV, CLK_SYS_CTRL, CLK_SYS_DIV, CLK_PERI_CTRL, CLK_USB_CTRL, CLK_USB_DIV}
 use Rattle.registers.specs.Map.{CLK_ADC_CTRL, CLK_ADC_DIV, CLK_RTC_CTRL, CLK_RTC_DIV, XOSC_CTRL, ROSC_CTRL, PLL_CS, PLL_PWR}
 use Rattle.registers.specs.Map.{PLL_FBDIV_INT, PLL_PRIM}
-use Rattle.sheet_steps.specs.Steps.{crystal_part, peri_part, aux_part, rtc_part, release_mask, clocks_part, steps_of}
+use Rattle.sheet.specs.Steps.{crystal_part, peri_part, aux_part, rtc_part, release_mask, clocks_part, steps_of}
 use Rattle.clock_tree.specs.Machine.{held, carried_out}
 use Rattle.clock_tree.specs.Tree.{oscillates, sources_at, ref_at, sys_at, usb_at, adc_at, rtc_at, sys_from, peri_from}
 use Rattle.clock_tree.specs.Tree.{CLK_PERI_DIV, int_from, peri_divider}

@@ -31,8 +31,8 @@ use Rattle.registers.specs.Access.{has, access_of}
 use Rattle.registers.specs.Map.{RESET, XOSC_CTRL, CLK_REF_CTRL, CLK_SYS_CTRL, PLL_CS, PLL_FBDIV_INT, BLOCKS, REF_SRC}
 use Rattle.registers.specs.Map.{SYS_SRC, AUXSRC, REFDIV, FBDIV, CLK_PERI_CTRL, CLK_USB_CTRL, CLK_USB_DIV}
 use Rattle.registers.specs.Map.{CLK_ADC_CTRL, CLK_ADC_DIV, CLK_RTC_CTRL, CLK_RTC_DIV}
-use Rattle.sheet_steps.specs.Steps.{head_part, pll_steps, crystal_part, ref_part, switch_steps}
-use Rattle.sheet_steps.specs.Steps.{sys_part, release_mask, last_part, clocks_part, steps_of, step0, step1, step2}
+use Rattle.sheet.specs.Steps.{head_part, pll_steps, crystal_part, ref_part, switch_steps}
+use Rattle.sheet.specs.Steps.{sys_part, release_mask, last_part, clocks_part, steps_of, step0, step1, step2}
 use Rattle.clock_tree.specs.Machine.{bits_at, held, carried_out}
 use Rattle.clock_tree.specs.Tree.{oscillates, vco_on}
 use Rattle.clock_tree.specs.Waits.{locks, can_come, NoEndlessWait}

@@ -15,7 +15,7 @@ use Rattle.refusals.specs.Refusals.{Accepted}
 use Rattle.refusals.proofs.Accepted.{accepted-by}
 use lib.Seq.{take_all}
 use Rattle.step.specs.Sheet.{max_steps, encoded}
-use Rattle.sheet_steps.specs.Steps.{steps_of}
+use Rattle.sheet.specs.Steps.{steps_of}
 use Rattle.sheet.proofs.{Sheets.settings-back, Sheets.steps-formed, Counts.steps-few}
 use Rattle.sheet.specs.Writer.{sheet_bytes}
 use Rattle.settings.specs.LeastPlan.{xosc_for, time_for, plan_of}

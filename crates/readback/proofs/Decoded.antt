@@ -8,7 +8,7 @@ use Rattle.step.specs.declared.Step.{Step}
 use Rattle.step.specs.declared.kind.Kind.TheVariants as kind
 use Rattle.step.specs.{Sheet.encoded, Sheet.AllFormed, Access.read_at}
 use Rattle.step.proofs.Sheets.{length-encoded, read-encoded}
-use Rattle.sheet_steps.specs.Steps.{step0}
+use Rattle.sheet.specs.Steps.{step0}
 use Rattle.sheet.specs.Read.{step_at}
 use Rattle.readback.specs.Steps.{step_or, steps_from, steps_in, taken_at, step_in}
 

@@ -11,7 +11,7 @@ use Rattle.base.specs.Answer.{answer_in}
 use Rattle.step.specs.declared.Step.{Step}
 use Rattle.step.specs.declared.kind.Kind.TheVariants as kind
 use Rattle.step.specs.Sheet.{max_steps}
-use Rattle.sheet_steps.specs.Steps.{step0}
+use Rattle.sheet.specs.Steps.{step0}
 use Rattle.readback.specs.declared.Reader.{Reader}
 use Rattle.readback.specs.Steps.{step_in, steps_in, taken_at, MovesOn, steps_read}
 use Rattle.readback.proofs.Decoded.{length_from, step_taken}

@@ -27,7 +27,7 @@ use Rattle.sheet.proofs.{Stores.ring-source, Demand3.same-sheets}
 use Rattle.refusals.specs.Refusals.{Accepted}
 use Rattle.step.specs.declared.Step.{Step}
 use Rattle.step.proofs.Sheets.{length-encoded}
-use Rattle.sheet_steps.specs.Steps.{mark_steps, head_part, steps_of}
+use Rattle.sheet.specs.Steps.{mark_steps, head_part, steps_of}
 use Rattle.step.specs.{Sheet.encoded, Steps.pack_of, Layout.widths, Bytes.bytes8}
 use Rattle.step.specs.Kinds.{kinds, kind_of, is}
 use Rattle.step.specs.declared.kind.Kind.TheVariants as kind

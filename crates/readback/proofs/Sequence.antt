@@ -8,7 +8,7 @@ use borrow.Author.Tests.{lt-ltb, le-ltb}
 use denote.Ref.{Bor}
 use Rattle.step.specs.declared.Step.{Step}
 use Rattle.step.specs.declared.kind.Kind.TheVariants as kind
-use Rattle.sheet_steps.specs.Steps.{step0}
+use Rattle.sheet.specs.Steps.{step0}
 use Rattle.sheet.specs.Read.{step_at}
 use Rattle.readback.specs.declared.Reader.{Reader}
 use Rattle.readback.specs.Steps.{steps_in, taken_at, next_step, moved, nexts}

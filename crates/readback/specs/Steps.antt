@@ -7,7 +7,7 @@ use Rattle.base.specs.declared.refusal.Refusal.{Refusal}
 use Rattle.step.specs.declared.Step.{Step}
 use Rattle.step.specs.declared.kind.Kind.TheVariants as kind
 use Rattle.step.specs.Access.{read_at}
-use Rattle.sheet_steps.specs.Steps.{step0}
+use Rattle.sheet.specs.Steps.{step0}
 use Rattle.step.specs.Sheet.{max_steps}
 use Rattle.sheet.specs.Read.{Part, part, step_at}
 use Rattle.readback.specs.declared.Reader.{Reader}

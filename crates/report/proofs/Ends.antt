@@ -11,7 +11,7 @@ use Rattle.chip.specs.declared.Chip.TheVariants.{Rp2040}
 use Rattle.config.specs.declared.ClockConfig.{ClockConfig}
 use Rattle.config.specs.Board.{board_of}
 use Rattle.settings.specs.Settings.{settings_of}
-use Rattle.sheet_steps.specs.Steps.{steps_of, most_steps}
+use Rattle.sheet.specs.Steps.{steps_of, most_steps}
 use Rattle.sheet.specs.Writer.{sheet_bytes, InitCall}
 use Rattle.sheet.proofs.{Counts.chip-few, Kept.kept, Kept.own-refusal}
 use Rattle.text.specs.Reply.{refused_line}

@@ -6,7 +6,7 @@ use Rattle.text.specs.{Ascii.ascii, Decimal.decimal_of, Decimal.value_of, Decima
 use Rattle.divider.specs.Clock.{divided_hz}
 use Rattle.config.specs.Presets.{system_plan}
 use Rattle.settings.specs.Frequencies.{pll_hz, sources_of, ref_hz, sys_hz, ten_of}
-use Rattle.sheet_steps.specs.Steps.{release_mask}
+use Rattle.sheet.specs.Steps.{release_mask}
 use Rattle.sheet.proofs.Examples.{crystal-steps}
 use Rattle.report.specs.{Lines.line_of, Report.plan_report, Report.report_of}
 

@@ -13,7 +13,7 @@ use Rattle.settings.specs.{Settings.settings_of, Frequencies.ten_of}
 use Rattle.settings.proofs.Small.{Hz}
 use Rattle.refusals.proofs.Stored.{EachHz, ten-small}
 use Rattle.sheet.proofs.Formed.{masks}
-use Rattle.sheet_steps.specs.Steps.{release_mask}
+use Rattle.sheet.specs.Steps.{release_mask}
 use Rattle.text.specs.Reply.{refused_line}
 use Rattle.text.proofs.Refused.{refused-most}
 use Rattle.report.specs.Lines.{line_of, lines_of, report_names}

@@ -13,7 +13,7 @@ use Rattle.config.specs.declared.ClockConfig.{ClockConfig}
 use Rattle.settings.specs.declared.Settings.{Settings}
 use Rattle.settings.specs.{Settings.settings_of, Frequencies.ten_of, Typed.Typed}
 use Rattle.refusals.specs.Refusals.{Accepted}
-use Rattle.sheet_steps.specs.Steps.{release_mask, clocks_part, steps_of}
+use Rattle.sheet.specs.Steps.{release_mask, clocks_part, steps_of}
 use Rattle.sheet.specs.Writer.{sheet_bytes}
 use Rattle.std.specs.Prelude.{Result}
 use Rattle.base.specs.declared.refusal.Refusal.{Refusal}

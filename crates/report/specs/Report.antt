@@ -9,7 +9,7 @@ use Rattle.config.specs.declared.ClockConfig.{ClockConfig}
 use Rattle.config.specs.Presets.{system_plan}
 use Rattle.settings.specs.declared.Settings.{Settings}
 use Rattle.settings.specs.{Settings.settings_of, Frequencies.ten_of}
-use Rattle.sheet_steps.specs.Steps.{release_mask}
+use Rattle.sheet.specs.Steps.{release_mask}
 use Rattle.sheet.specs.Writer.{refusal_in}
 use Rattle.text.specs.Reply.{refused_line}
 use Rattle.report.specs.Lines.{lines_of, report_names}

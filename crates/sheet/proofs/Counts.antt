@@ -21,9 +21,9 @@ use Rattle.settings.specs.declared.Crystal.{Crystal}
 use Rattle.settings.specs.declared.{Settings.Settings, Frequencies.Frequencies}
 use Rattle.config.specs.Codes.{sys_select}
 use Rattle.settings.specs.Frequencies.{frequencies_of}
-use Rattle.sheet_steps.specs.Steps.{step1, step2, mark_steps, head_part, ring_part, settling_steps, voltage_part, pll_steps}
-use Rattle.sheet_steps.specs.Steps.{crystal_part, tick_steps, switch_steps, sys_part, peri_part, aux_part, rtc_part, clocks_part}
-use Rattle.sheet_steps.specs.Steps.{steps_of, most_steps}
+use Rattle.sheet.specs.Steps.{step1, step2, mark_steps, head_part, ring_part, settling_steps, voltage_part, pll_steps}
+use Rattle.sheet.specs.Steps.{crystal_part, tick_steps, switch_steps, sys_part, peri_part, aux_part, rtc_part, clocks_part}
+use Rattle.sheet.specs.Steps.{steps_of, most_steps}
 
 -- The sum of a weight over kinds, and over the kinds of steps.
 abbrev pub weight : (Kind → ℕ) → List Kind → ℕ

@@ -14,7 +14,7 @@ use Rattle.config.specs.Board.{board_of}
 use Rattle.settings.specs.declared.Settings.{Settings}
 use Rattle.settings.specs.{Settings.settings_of, Typed.Typed}
 use Rattle.refusals.specs.Refusals.{Accepted}
-use Rattle.sheet_steps.specs.Steps.{steps_of}
+use Rattle.sheet.specs.Steps.{steps_of}
 use Rattle.sheet.specs.{Read.settings_from, Writer.sheet_bytes, Writer.refusal_in, Writer.init_answer, Writer.InitCall}
 use Rattle.sheet.specs.Demand3.{SameUpTo, Demand3}
 use Rattle.sheet.proofs.{Sheets.settings-back, Sheets.steps-formed, Ends.accepted, Ends.refused-answer, Ends.short-answer}

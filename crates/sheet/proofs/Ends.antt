@@ -19,10 +19,10 @@ use Rattle.config.specs.Board.{FractionFits}
 use Rattle.settings.specs.declared.Frequencies.{Frequencies}
 use Rattle.refusals.proofs.Examined.{examined-refused, examined-accepted}
 use Rattle.refusals.specs.Refusals.{refusal_of, examined_of, Accepted}
-use Rattle.sheet_steps.specs.{Steps.steps_of, Gather.Gathered, Gather.held, Gather.word_of, Gather.pushes}
+use Rattle.sheet.specs.{Steps.steps_of, Gather.Gathered, Gather.held, Gather.word_of, Gather.pushes}
 use Rattle.sheet.proofs.Counts.{steps-few}
 use Rattle.sheet.specs.Writer.{sheet_bytes, refusal_in, init_answer, init_buffer, InitCall}
-use Rattle.sheet_steps.proofs.Gathering.{Holds, holds-pushes, turned-back}
+use Rattle.sheet.proofs.Gathering.{Holds, holds-pushes, turned-back}
 
 -- The words in use, byte-swapped as they are copied, have these bytes.
 pub record Ready (g : Gathered) (bytes : List ℕ) : Type 0 where

@@ -20,8 +20,8 @@ use Rattle.settings.specs.Typed.{Typed}
 use Rattle.refusals.specs.Rules.{strengths_over, ring_divider_over, settling_over, startup_over, sys_pll_invalid, usb_pll_invalid}
 use Rattle.refusals.specs.Rules.{divider_bad, reference_bad, whole_bad, peri_bad, aux_bad, rtc_bad}
 use Rattle.refusals.specs.Refusals.{refusal_of, Accepted}
-use Rattle.sheet_steps.specs.Steps.{step0, step1, head_part, ring_part, voltage_part, crystal_part, switch_steps, sys_part}
-use Rattle.sheet_steps.specs.Steps.{peri_part, aux_part, rtc_part, release_mask, clocks_part, steps_of}
+use Rattle.sheet.specs.Steps.{step0, step1, head_part, ring_part, voltage_part, crystal_part, switch_steps, sys_part}
+use Rattle.sheet.specs.Steps.{peri_part, aux_part, rtc_part, release_mask, clocks_part, steps_of}
 
 -- A plan within the bounds of its number types is accepted at a reading and gives a sheet of n steps.
 pub record Gives (p : ClockConfig) (reading n : ℕ) : Type 0 where

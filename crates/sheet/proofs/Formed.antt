@@ -29,9 +29,9 @@ use Rattle.settings.proofs.Decoded.{range-code, ref-code, sys-code, peri-code, a
 use Rattle.refusals.specs.Rules.{strengths_over, ring_divider_over, settling_over, startup_over, pll_invalid, sys_pll_invalid}
 use Rattle.refusals.specs.Rules.{usb_pll_invalid, whole_bad, rtc_bad}
 use Rattle.refusals.proofs.Accepted.{strengths-few, whole-good}
-use Rattle.sheet_steps.specs.Steps.{step1, step2, store_step, mark_steps, head_part, ring_part, settling_steps, voltage_part}
-use Rattle.sheet_steps.specs.Steps.{pll_steps, crystal_part, source_part, tick_steps, ref_part, switch_steps, sys_part, peri_part}
-use Rattle.sheet_steps.specs.Steps.{aux_part, rtc_part, release_mask, last_part}
+use Rattle.sheet.specs.Steps.{step1, step2, store_step, mark_steps, head_part, ring_part, settling_steps, voltage_part}
+use Rattle.sheet.specs.Steps.{pll_steps, crystal_part, source_part, tick_steps, ref_part, switch_steps, sys_part, peri_part}
+use Rattle.sheet.specs.Steps.{aux_part, rtc_part, release_mask, last_part}
 use Rattle.sheet.proofs.Facts.{none_more, AuxFits}
 
 -- The three facts that make a step well formed.

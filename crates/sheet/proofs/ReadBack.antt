@@ -28,9 +28,9 @@ use Rattle.settings.specs.declared.Crystal.{Crystal}
 use Rattle.settings.specs.declared.Settings.{Settings}
 use Rattle.settings.specs.{Settings.settings_of, Frequencies.sources_of}
 use Rattle.settings.proofs.Decoded.{range-code, ref-code, peri-code, aux-code, chip-back, Small, AuxSmall, div-back}
-use Rattle.sheet_steps.specs.Steps.{step1, store_step, mark_steps, head_part, ring_part, settling_steps, voltage_part, pll_steps}
-use Rattle.sheet_steps.specs.Steps.{crystal_part, tick_steps, switch_steps, sys_part, peri_part, aux_part, rtc_part, last_part}
-use Rattle.sheet_steps.specs.Steps.{clocks_part, steps_of}
+use Rattle.sheet.specs.Steps.{step1, store_step, mark_steps, head_part, ring_part, settling_steps, voltage_part, pll_steps}
+use Rattle.sheet.specs.Steps.{crystal_part, tick_steps, switch_steps, sys_part, peri_part, aux_part, rtc_part, last_part}
+use Rattle.sheet.specs.Steps.{clocks_part, steps_of}
 use Rattle.sheet.specs.Read.{part, Voltage, read_chip, read_ring, read_voltage, past_tick, read_pll, read_crystal, read_sys}
 use Rattle.sheet.specs.Read.{read_peri, read_aux, read_rtc, settings_from}
 

@@ -9,7 +9,7 @@ use Rattle.refusals.specs.Refusals.{Accepted}
 use Rattle.refusals.proofs.Accepted.{accepted-by, divider-good, whole-good, reference-good}
 use Rattle.refusals.proofs.Stored.{stored}
 use Rattle.settings.proofs.Decoded.{board-small}
-use Rattle.sheet_steps.specs.Steps.{clocks_part, steps_of}
+use Rattle.sheet.specs.Steps.{clocks_part, steps_of}
 use Rattle.sheet.specs.Read.{settings_from}
 use Rattle.sheet.proofs.{Facts.aux-fits, Facts.aux-divider, Facts.settling-none, Stores.ring-source}
 use Rattle.sheet.proofs.ReadBack.{readable-back}

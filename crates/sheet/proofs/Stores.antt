@@ -20,9 +20,9 @@ use Rattle.settings.specs.declared.Settings.{Settings}
 use Rattle.config.specs.Codes.{sys_select, sys_aux}
 use Rattle.settings.specs.Settings.{ring_hz}
 use Rattle.settings.specs.Frequencies.{sources_of, tenth_of, stored_of}
-use Rattle.sheet_steps.specs.Steps.{step1, step2, store_step, mark_steps, head_part, ring_part, settling_steps, voltage_part}
-use Rattle.sheet_steps.specs.Steps.{pll_steps, crystal_part, ref_part, switch_steps, sys_part, peri_part, aux_part, rtc_part}
-use Rattle.sheet_steps.specs.Steps.{last_part, clocks_part, steps_of}
+use Rattle.sheet.specs.Steps.{step1, step2, store_step, mark_steps, head_part, ring_part, settling_steps, voltage_part}
+use Rattle.sheet.specs.Steps.{pll_steps, crystal_part, ref_part, switch_steps, sys_part, peri_part, aux_part, rtc_part}
+use Rattle.sheet.specs.Steps.{last_part, clocks_part, steps_of}
 use Rattle.sheet.specs.Stores.{stores_in, stores_from}
 
 mark-stores : (chip : Chip) (ys : List Step) → stores_in (mark_steps chip ++ ys) ≡ stores_in ys

@@ -18,7 +18,7 @@ use Rattle.pll.specs.declared.PllConfig.{PllConfig}
 use Rattle.config.specs.Board.{board_of}
 use Rattle.settings.specs.declared.{Crystal.Crystal, Settings.Settings}
 use Rattle.config.specs.Codes.{range_from, ref_from, sys_from, peri_from, aux_from, div_from, chip_from}
-use Rattle.sheet_steps.specs.Steps.{step0}
+use Rattle.sheet.specs.Steps.{step0}
 
 -- The setting that a part of a sheet gives, and the steps after the part.
 pub data Part (A : Type 0) : Type 0 where

@@ -4,7 +4,7 @@ use Rattle.base.specs.Choice.{pick}
 use Rattle.step.specs.declared.Step.{Step}
 use Rattle.step.specs.Kinds.{is}
 use Rattle.step.specs.declared.kind.Kind.TheVariants as kind
-use Rattle.sheet_steps.specs.Steps.{store_step}
+use Rattle.sheet.specs.Steps.{store_step}
 
 -- The stores among steps, in their order.
 abbrev pub stores_in : List Step → List Step

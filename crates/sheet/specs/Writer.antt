@@ -8,7 +8,7 @@ use Rattle.step.specs.Sheet.{encoded}
 use Rattle.config.specs.declared.ClockConfig.{ClockConfig}
 use Rattle.settings.specs.{Settings.settings_of, Typed.Typed}
 use Rattle.refusals.specs.Refusals.{refusal_of}
-use Rattle.sheet_steps.specs.Steps.{steps_of}
+use Rattle.sheet.specs.Steps.{steps_of}
 
 -- The sheet of a plan at a reading has the bytes of the steps of its settings.
 unfoldable pub sheet_bytes : ClockConfig → ℕ → List ℕ

@@ -2,27 +2,31 @@
 
 #![tactic(auto)]
 
+pub mod clocks;
+pub mod sources;
+pub mod steps;
+
 ghost use Rattle.std.specs.Prelude.{◌≡◌};
 ghost use Rattle.settings.specs.Frequencies.{frequencies_of};
-ghost use Rattle.sheet_steps.specs.Steps.{steps_of};
-ghost use Rattle.sheet_steps.specs.Gather.{held, pushes};
+ghost use Rattle.sheet.specs.Steps.{steps_of};
+ghost use Rattle.sheet.specs.Gather.{held, pushes};
 ghost use Rattle.sheet.specs.Writer.{InitCall};
 
 use base::Refusal;
 use config::ClockConfig;
 use settings::{Frequencies, Settings};
-use sheet_steps::Words;
+use steps::Words;
 
 // Collects the steps of settings at a regulator reading, from the first word on; f has the frequencies of the settings.
 fn gather(words: &mut Words, s: Settings, f: Frequencies, reading: u8) -> usize
     ensures { f ≡ frequencies_of s → held words.new result ≡ pushes (held words.old 0) (steps_of reading s) }
 {
     let chip = s.board.chip;
-    let at = source_parts::put_start(words, chip);
-    let at = source_parts::put_ring(words, at, chip.facts().pass, s.rosc);
-    let at = source_parts::put_voltage(words, at, reading, s.board, s.settling);
-    let at = source_parts::put_crystal(words, at, s.xosc);
-    clock_parts::put_clocks(words, at, s, f)
+    let at = sources::put_start(words, chip);
+    let at = sources::put_ring(words, at, chip.facts().pass, s.rosc);
+    let at = sources::put_voltage(words, at, reading, s.board, s.settling);
+    let at = sources::put_crystal(words, at, s.xosc);
+    clocks::put_clocks(words, at, s, f)
 }
 
 // Writes the sheet of a plan at a regulator reading to the start of the caller's bytes and answers its length in bytes; 18, then

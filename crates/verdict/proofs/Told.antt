@@ -14,7 +14,7 @@ use Rattle.config.specs.declared.ClockConfig.{ClockConfig}
 use Rattle.settings.specs.declared.Settings.{Settings}
 use Rattle.settings.specs.{Settings.settings_of, Typed.Typed}
 use Rattle.step.specs.Sheet.{encoded}
-use Rattle.sheet_steps.specs.Steps.{steps_of}
+use Rattle.sheet.specs.Steps.{steps_of}
 use Rattle.refusals.specs.Refusals.{Accepted}
 use Rattle.sheet.specs.Writer.{sheet_bytes, refusal_in}
 use Rattle.sheet.proofs.Demand3.{answered}

@@ -1,6 +1,6 @@
 -- `sheet::gather` meets its contract: the equations of the five calls are the parts of `steps_of`, which `pushes-append` joins.
-use Rattle.sheet_steps.specs.Steps.{steps_of}
-use Rattle.sheet_steps.proofs.Gathering.{pushes-append}
+use Rattle.sheet.specs.Steps.{steps_of}
+use Rattle.sheet.proofs.Gathering.{pushes-append}
 use Rattle.sheet.proofs.gather.Goals as goal
 
 pub returns : goal.returns
