@@ -12,7 +12,7 @@ use Rattle.sleep.specs.Sleep.{SleepOutcome, sleep_of, wake_of}
 use Rattle.sleep.specs.declared.steps.Step.{Step}
 use Rattle.numbers.specs.Slots.{slots_numbers, steps_numbers}
 use Rattle.runner.specs.Run.{start_of}
-use Rattle.fields.specs.Row.{nth, byte_at, half_at, room_at, pll_at, ten_at}
+use Rattle.numbers.specs.Fields.{nth, byte_at, half_at, room_at, pll_at, ten_at}
 use Rattle.numbers.specs.Answers.{answer_number, itself, malformed, chip_numbered, divider_numbered, gpout_number}
 use Rattle.numbers.specs.Manual.{manual_by_code}
 use Rattle.numbers.specs.Run.{runner_in, run_number, run_leaves, go_number, start_leaves}

@@ -11,7 +11,7 @@ use Rattle.divider.specs.Pio.{pio_of}
 use Rattle.bring_up.specs.ComesUp.{longest_wait}
 use Rattle.config.specs.Presets.{default_plan, crystal_plan, rosc_plan, system_plan, system_plan_from}
 use Rattle.readback.specs.Read.{read_of}
-use Rattle.fields.specs.Row.{nth, byte_at, pll_at}
+use Rattle.numbers.specs.Fields.{nth, byte_at, pll_at}
 use Rattle.numbers.specs.Answers.{answer_number, itself, malformed, chip_numbered, on_chip, voltage_number}
 use Rattle.words.specs.declared.Words.{Words}
 use Rattle.words.specs.{Line.rest_of, Words.unread, Words.sheet_at, Words.given}

@@ -4,7 +4,7 @@ use lib.{Dec.eqb, ListN.length, ListN.take}
 use Rattle.base.specs.{Answer.Answer, Choice.pick}
 use Rattle.text.specs.{Ascii.ascii, Ascii.same, Words.up_to}
 use Rattle.config.specs.declared.ClockConfig.{ClockConfig}
-use Rattle.fields.specs.Row.{nth, byte_at}
+use Rattle.numbers.specs.Fields.{nth, byte_at}
 use Rattle.words.specs.declared.Words.{Words}
 use Rattle.words.specs.{Line.rest_of, Line.rest_after, Words.unread, Words.given}
 use Rattle.commands.specs.declared.{Command.Command, texts.Usage.Usage}

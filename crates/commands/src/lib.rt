@@ -13,8 +13,8 @@ ghost use Rattle.commands.specs.Commands.{command_name, explain_of, steps_of};
 ghost use Rattle.commands.specs.Commands.{checked, compared_of, check_of, answer_of};
 
 use base::Writer;
-use fields::byte_at;
 pub use made::{Made, make};
+use numbers::fields::byte_at;
 use orders::Planned;
 use text::{Named, find_named};
 pub use texts::{Usage, write_usage};

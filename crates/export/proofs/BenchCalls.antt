@@ -9,7 +9,7 @@ use lib.{Dec.eqb, Dec.ltb, ListN.length, ListN.get_or, ListN.replicate}
 use Rattle.base.specs.Choice.{pick}
 use Rattle.step.specs.Sheet.{max_bytes}
 use Rattle.step.specs.Size.{bad_size}
-use Rattle.fields.specs.Row.{nth, ten_at}
+use Rattle.numbers.specs.Fields.{nth, ten_at}
 use Rattle.runner.specs.declared.Runner.{Runner}
 use Rattle.runner.specs.Run.{Outcome, Begun, fresh, started_with, start_of}
 use Rattle.runner.proofs.Starts.{start-kept}

@@ -9,7 +9,7 @@ use Rattle.base.specs.{Answer.Answer, Answer.value, Answer.refusal, Choice.bit, 
 use Rattle.step.specs.declared.Step.{Step}
 use Rattle.step.specs.Kinds.{is}
 use Rattle.step.specs.declared.kind.Kind.TheVariants as kind
-use Rattle.fields.specs.Row.{nth, ten_at}
+use Rattle.numbers.specs.Fields.{nth, ten_at}
 use Rattle.runner.specs.declared.Stepper.{Stepper}
 use Rattle.runner.specs.declared.Reply.{Reply}
 use Rattle.runner.specs.declared.Reply.TheVariants.{Done, Handed, Passed, Waiting}

@@ -16,7 +16,7 @@ use Rattle.config.specs.declared.{ClockConfig.ClockConfig, RoscConfig.RoscConfig
 use Rattle.config.specs.Board.{board_of}
 use Rattle.config.specs.Presets.{plain, from_plls, feeding_both, feeding, with_found, ring_config, rosc_plan}
 use Rattle.config.specs.Presets.{default_plan, crystal_plan, system_voltage, system_plan, system_plan_from, manual_plan}
-use Rattle.fields.specs.Row.{u32}
+use Rattle.numbers.specs.Fields.{u32}
 use Rattle.numbers.specs.Typed.{PllTyped, RingTyped, ClockTyped, ChipTyped, PlanTyped}
 use Rattle.numbers.proofs.Inverse.{plan-back}
 use Rattle.export.specs.Plan.{Back, PresetsBack}

@@ -7,7 +7,7 @@ use native.Mathlib.Omega.{arith}
 use lib.{Dec.eqb, Dec.leb, ListN.length, ListN.set, ListN.length-set, Seq.sets}
 use lib.Seq.{get_or-set_same, get_or-set_other, set-get_or}
 use Rattle.base.specs.Choice.{bit}
-use Rattle.fields.specs.Row.{nth}
+use Rattle.numbers.specs.Fields.{nth}
 
 -- ---- marks
 

@@ -7,7 +7,7 @@ use Prim.Native.Nat.{ℕ, zero, suc, ◌+◌, ◌≤◌}
 use native.Mathlib.Omega.{arith}
 use borrow.Author.Tests.{le-ltb, ltb-false}
 use lib.{Dec.eqb, Dec.ltb, ListN.length, ListN.set, ListN.replicate, Seq.sets}
-use Rattle.fields.specs.Row.{nth}
+use Rattle.numbers.specs.Fields.{nth}
 use Rattle.sleep.specs.declared.{Slot.Slot}
 use Rattle.sleep.specs.Sleep.{SleepOutcome, fresh_slots, slot_at, sleep_of, woken, wake_of}
 use Rattle.sleep.specs.History.{SleepEvent, sleeps, wakes, writes, happens, board_after}

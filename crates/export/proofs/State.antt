@@ -11,7 +11,7 @@ use Rattle.std.specs.Prelude.{All}
 use Rattle.runner.specs.declared.Stepper.{Stepper}
 use Rattle.boards.specs.declared.Bench.{Bench}
 use Rattle.sleep.specs.declared.{Slot.Slot}
-use Rattle.fields.specs.Row.{nth}
+use Rattle.numbers.specs.Fields.{nth}
 use Rattle.numbers.specs.Bench.{bench_in, board_numbers, stepper_at}
 use Rattle.numbers.specs.Slots.{words_at, slots_in, slots_numbers}
 use Rattle.numbers.proofs.PartRows.{row-whole}

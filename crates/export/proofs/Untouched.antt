@@ -21,7 +21,7 @@ use Rattle.pll.specs.Search.{keep, rising, falling}
 use Rattle.lister.specs.Lister.{in_order, meets, list_of, has_room, listed_of, listed_in}
 use Rattle.margin.specs.Margin.{margin_of}
 use Rattle.margin.specs.declared.Margin.{Margin}
-use Rattle.fields.specs.Row.{nth}
+use Rattle.numbers.specs.Fields.{nth}
 use Rattle.runner.specs.declared.{Stepper.Stepper, Runner.Runner}
 use Rattle.runner.specs.declared.Reply.{Reply}
 use Rattle.runner.specs.declared.Reply.TheVariants.{Done, Handed, Passed, Waiting}

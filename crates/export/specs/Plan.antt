@@ -6,7 +6,7 @@ use Rattle.chip.specs.declared.{Chip.Chip, Chip.TheVariants.Rp2040, voltage.Core
 use Rattle.pll.specs.declared.PllConfig.{PllConfig}
 use Rattle.config.specs.declared.ClockConfig.{ClockConfig}
 use Rattle.config.specs.Presets.{crystal_plan, rosc_plan, default_plan, system_plan, system_plan_from, manual_plan}
-use Rattle.fields.specs.Row.{u32}
+use Rattle.numbers.specs.Fields.{u32}
 use Rattle.numbers.specs.{Answers.answer_number, Answers.malformed, Read.plan_chip, Read.row_after, Row.plan_row, Plan.plan_numbered}
 
 -- the chip of the plan, or the preset's refusal; malformed where there is no such preset

@@ -5,7 +5,7 @@ use Prim.Native.Nat.{ℕ, zero, suc, ◌+◌, ◌*◌, ◌<◌, ◌≤◌}
 use native.Mathlib.Omega.{arith}
 use borrow.Author.Tests.{lt-ltb, le-ltb, le-leb, lt-leb}
 use lib.{ListN.length, ListN.get_or, Seq.sets, Seq.get_or-set_same}
-use Rattle.fields.specs.Row.{nth}
+use Rattle.numbers.specs.Fields.{nth}
 use Rattle.runner.specs.declared.{Stepper.Stepper}
 use Rattle.runner.specs.Run.{Outcome, outcome, stepper_of, advance_of, Begun}
 use Rattle.base.specs.Answer.{refusal}

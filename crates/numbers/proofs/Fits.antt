@@ -5,7 +5,7 @@ use native.Mathlib.Omega.{arith}
 use lib.{Dec.leb}
 use Rattle.std.specs.List.{list_all, enumerate_from}
 use Rattle.base.specs.Choice.{pick}
-use Rattle.fields.specs.Row.{nth}
+use Rattle.numbers.specs.Fields.{nth}
 use Rattle.numbers.specs.Parts.{fit_from}
 
 abbrev pub within : Bool → List ℕ → ℕ → ℕ × ℕ → Bool

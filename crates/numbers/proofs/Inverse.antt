@@ -19,7 +19,7 @@ use Rattle.config.specs.declared.ChipConfig.TheVariants.{Rp2040 as on2040, Rp235
 use Rattle.config.specs.Board.{board_of}
 use Rattle.config.specs.Codes.{ref_code}
 use Rattle.settings.proofs.Decoded.{board-small}
-use Rattle.fields.specs.Row.{nth, byte_at, half_at, u8, u16, u32}
+use Rattle.numbers.specs.Fields.{nth, byte_at, half_at, u8, u16, u32}
 use Rattle.numbers.specs.Row.{ring_row, crystal_row, sys_pll_in, usb_pll_in, pll_row, oscillator_row, first_row, sys_row, peri_row}
 use Rattle.numbers.specs.Row.{aux_row}
 use Rattle.numbers.specs.Row.{clock_row, rtc_row, rtc_numbers, plan_row}

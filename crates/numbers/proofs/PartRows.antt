@@ -19,7 +19,7 @@ use Rattle.config.specs.declared.{RefClkConfig.RefClkConfig, RefClkSrc.RefClkSrc
 use Rattle.config.specs.Codes.{range_code, ref_code, sys_code, peri_aux, aux_code}
 use Rattle.config.specs.Codes.{range_from, ref_from, sys_source_from, peri_from, aux_from}
 use Rattle.settings.proofs.Decoded.{range-code, aux-code}
-use Rattle.fields.specs.Row.{nth, byte_at, u8, u16, u32}
+use Rattle.numbers.specs.Fields.{nth, byte_at, u8, u16, u32}
 use Rattle.numbers.specs.Row.{ring_row, pll_row, first_row, peri_row, aux_row, rtc_row}
 use Rattle.numbers.specs.Parts.{fit_from, is_part}
 use Rattle.numbers.specs.Plan.{flagged, strengths_at, ring_at, option_pll_at, divided_at}

@@ -3,7 +3,7 @@ use mathlib.Core.{Bool.Bool, Bool.◌||◌, Bool.◌&&◌, Bool.not, Path.◌≡
 use Rattle.std.specs.Prelude.{ℕ, zero, suc, ◌+◌, ◌*◌}
 use lib.{Dec.ltb, ListN.replicate, Seq.sets}
 use Rattle.base.specs.{Answer.Answer, Answer.value, Answer.refusal, Choice.pick, Choice.bit}
-use Rattle.fields.specs.Row.{nth, ten_at}
+use Rattle.numbers.specs.Fields.{nth, ten_at}
 use Rattle.runner.specs.declared.Stepper.{Stepper}
 use Rattle.boards.specs.declared.Bench.{Bench}
 use Rattle.boards.specs.Bench.{board_at, bench_of, start_all_of}

@@ -10,3 +10,4 @@ pub mod Run
 pub mod SleepCall
 pub mod Access
 pub mod Manual
+pub mod Fields

@@ -2,7 +2,7 @@
 use mathlib.Core.{Bool.Bool, Bool.true, Bool.◌&&◌, List.List, List.[], List.◌∷◌}
 use Rattle.std.specs.Prelude.{ℕ, suc, eqb, leb}
 use Rattle.base.specs.Choice.{pick}
-use Rattle.fields.specs.Row.{nth}
+use Rattle.numbers.specs.Fields.{nth}
 
 -- each number is at most its limit, and 0 in an absent part
 abbrev pub fit_from : Bool → List ℕ → ℕ → List ℕ → Bool

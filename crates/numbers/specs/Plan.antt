@@ -17,7 +17,7 @@ use Rattle.config.specs.declared.{RefClkConfig.RefClkConfig, DriveStrength.Drive
 use Rattle.config.specs.declared.ChipConfig.TheVariants.{Rp2040 as on2040, Rp235x as on235x}
 use Rattle.config.specs.declared.ClockConfig.{ClockConfig}
 use Rattle.config.specs.Codes.{range_from, ref_from, sys_source_from, peri_from, aux_from}
-use Rattle.fields.specs.Row.{nth, byte_at, half_at, pll_at, u8, u16, u32}
+use Rattle.numbers.specs.Fields.{nth, byte_at, half_at, pll_at, u8, u16, u32}
 use Rattle.numbers.specs.Parts.{fit_from, is_part}
 
 -- the greatest values: 1 for a flag, the last code for a source or a range; a PLL needs a crystal

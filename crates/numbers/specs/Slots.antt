@@ -1,7 +1,7 @@
 -- Slots and steps as numbers (docs/SLEEP.md, As numbers).
 use Rattle.std.specs.Prelude.{List, [], ◌∷◌, ℕ, ◌+◌, eqb, flat_map}
 use Rattle.base.specs.Choice.{bit}
-use Rattle.fields.specs.Row.{nth}
+use Rattle.numbers.specs.Fields.{nth}
 use Rattle.sleep.specs.declared.{Slot.Slot, steps.Step.Step}
 use Rattle.sleep.specs.declared.steps.Step.TheVariants.{Write, RingStable, CrystalStable, Locked}
 use Rattle.step.specs.Clocks.{pll_number}

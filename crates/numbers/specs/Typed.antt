@@ -4,7 +4,7 @@ use Rattle.config.specs.declared.XoscConfig.{XoscConfig}
 use Rattle.std.specs.Prelude.{ℕ, ◌≤◌, Option, Some, None}
 use Rattle.pll.specs.declared.PllConfig.{PllConfig}
 use Rattle.config.specs.declared.{AuxClkConfig.AuxClkConfig, RtcClkConfig.RtcClkConfig, ChipConfig.ChipConfig, ClockConfig.ClockConfig}
-use Rattle.fields.specs.Row.{u8, u16, u32}
+use Rattle.numbers.specs.Fields.{u8, u16, u32}
 
 abbrev pub PllTyped : Option PllConfig → Type 0
 PllTyped (Some p) =

@@ -4,6 +4,7 @@ ghost use Rattle.std.specs.Prelude.{◌≡◌, ◌*◌};
 ghost use Rattle.std.proofs.lemmas.List.Edits.{sets};
 ghost use Rattle.numbers.specs.Bench.{runner_at, fourteen};
 
+use crate::fields::{number_at, ten_at};
 use base::Writer;
 
 // The 15 numbers of a board as a runner.
@@ -15,13 +16,13 @@ pub fn runner_at(n: &[u32], board: u8) -> [u32; 15]
     let mut runner = [0; 15];
     let mut out = Writer::new(&mut runner);
     out.put_all(&[
-        fields::number_at(n, at),
-        fields::number_at(n, at + 1),
-        fields::number_at(n, at + 2),
-        fields::number_at(n, at + 3),
-        fields::number_at(n, 112),
+        number_at(n, at),
+        number_at(n, at + 1),
+        number_at(n, at + 2),
+        number_at(n, at + 3),
+        number_at(n, 112),
     ]);
-    out.put_all(&fields::ten_at(n, 14 * u16::from(board) + 4));
+    out.put_all(&ten_at(n, 14 * u16::from(board) + 4));
     runner
 }
 

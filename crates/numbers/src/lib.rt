@@ -6,6 +6,7 @@
 pub mod answers;
 pub mod bench;
 pub mod board;
+pub mod fields;
 pub mod manual;
 pub mod plan;
 pub mod plan_row;

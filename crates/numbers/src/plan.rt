@@ -5,6 +5,7 @@ mod rows;
 ghost use Rattle.std.specs.Prelude.{◌≡◌};
 ghost use Rattle.numbers.specs.Plan.{whole_oscillators, whole_clocks, whole_chip, whole_plan, plan_at, plan_numbered};
 
+use crate::fields;
 use chip::Chip;
 use config::{ChipConfig, ClockConfig, SysClkSrc};
 use rows::{fits, is_part};

@@ -10,7 +10,7 @@ use Rattle.text.specs.Ascii.{ascii, same}
 use Rattle.chip.specs.declared.{Chip.Chip, Chip.TheVariants.Rp2040, Chip.TheVariants.Rp235x}
 use Rattle.config.specs.declared.ClockConfig.{ClockConfig}
 use Rattle.config.specs.Presets.{default_plan, crystal_plan, rosc_plan, system_plan, system_plan_from}
-use Rattle.fields.specs.Row.{nth, byte_at, pll_at}
+use Rattle.numbers.specs.Fields.{nth, byte_at, pll_at}
 use Rattle.numbers.specs.{Plan.plan_numbered, Manual.manual_by_code}
 use Rattle.readback.specs.Read.{read_of}
 use Rattle.words.specs.{Line.word_after, Line.rest_after, Words.unread, Words.sheet_at, Words.given}

@@ -11,8 +11,8 @@ ghost use Rattle.orders.specs.Orders.{order_on, sheet_order, order_of};
 use base::Refusal;
 use chip::Chip;
 use config::ClockConfig;
-use fields::number_at;
 pub use names::Preset;
+use numbers::fields::{byte_at, number_at, pll_at};
 use numbers::manual::manual;
 use text::find_named;
 use words::{Words, next_word};
@@ -33,7 +33,7 @@ pub fn preset(kind: Preset, chip: Chip, n: &[u32]) -> Option<Planned>
         Preset::Rosc => Some(Ok(ClockConfig::rosc(chip))),
         Preset::Default => Some(Ok(ClockConfig::default(chip))),
         Preset::Manual => match chip {
-            Chip::Rp2040 => manual(hz, fields::pll_at(n, 1), fields::byte_at(n, 5)),
+            Chip::Rp2040 => manual(hz, pll_at(n, 1), byte_at(n, 5)),
             Chip::Rp235x => None,
         },
         Preset::Plan => None,

@@ -4,13 +4,13 @@ ghost use Rattle.numbers.specs.Plan.{strengths_at, ring_at, option_pll_at, cryst
 ghost use Rattle.numbers.specs.Plan.{reference_at, peripheral_at, divided_at, rtc_at};
 ghost use Rattle.numbers.specs.Plan.{chip_at};
 
+use crate::fields::{byte_at, half_at, number_at, pll_at};
 use chip::Chip;
 use chip::voltage::{CoreVoltage, CoreVoltage235};
 use config::{
     AuxClkConfig, AuxClkSrc, ChipConfig, DriveStrength, PeriClkSrc, RefClkConfig, RefClkSrc,
     RoscConfig, RoscRange, Rp235xConfig, Rp2040Config, RtcClkConfig, XoscConfig,
 };
-use fields::{byte_at, half_at, number_at};
 use pll::PllConfig;
 
 // The ring oscillator.
@@ -48,7 +48,7 @@ fn strengths(n: &[u32]) -> DriveStrength
 fn pll(n: &[u32], i: u8) -> Option<PllConfig>
     ensures { result ≡ option_pll_at n.now i }
 {
-    (number_at(n, usize::from(i)) == 1).then(|| fields::pll_at(n, u16::from(i) + 1))
+    (number_at(n, usize::from(i)) == 1).then(|| pll_at(n, u16::from(i) + 1))
 }
 
 // The crystal oscillator with its PLLs.

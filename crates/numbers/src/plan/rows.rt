@@ -1,9 +1,9 @@
 // Tests on a row of numbers from index i on.
 ghost use Rattle.std.specs.Prelude.{◌≡◌, leb};
-ghost use Rattle.fields.specs.Row.{nth};
+ghost use Rattle.numbers.specs.Fields.{nth};
 ghost use Rattle.numbers.specs.Parts.{fit_from, is_part};
 
-use fields::number_at;
+use crate::fields::number_at;
 
 // Whether each number is at most its limit, and 0 in an absent part.
 pub(crate) fn fits(n: &[u32], i: u8, limits: &[u32], there: bool) -> bool

@@ -1,8 +1,7 @@
 // Reads the numbers of a row by index, as 8, 16 or 32 bits.
-#![tactic(auto)]
 
 ghost use Rattle.std.specs.Prelude.{◌≡◌};
-ghost use Rattle.fields.specs.Row.{nth, byte_at, half_at, room_at, pll_at, ten_at};
+ghost use Rattle.numbers.specs.Fields.{nth, byte_at, half_at, room_at, pll_at, ten_at};
 
 use pll::PllConfig;
 use std::array;
