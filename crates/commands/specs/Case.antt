@@ -6,7 +6,7 @@ use Rattle.base.specs.{Answer.Answer, Answer.value, Answer.refusal, Choice.pick,
 use Rattle.text.specs.{Ascii.ascii, Ascii.same, Words.up_to, Decimal.number_of}
 use Rattle.words.specs.Line.{rest_of, word_after}
 use Rattle.cases.specs.Cases.{is_case, answer_to}
-use Rattle.meanings.specs.Refusals.{refusal_text}
+use Rattle.wording.specs.Refusals.{refusal_text}
 use Rattle.orders.specs.Orders.{is_order}
 use Rattle.commands.specs.declared.texts.Usage.{Usage}
 use Rattle.commands.specs.Texts.{usage_text}

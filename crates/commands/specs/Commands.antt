@@ -9,9 +9,9 @@ use Rattle.words.specs.declared.Words.{Words}
 use Rattle.words.specs.{Line.rest_of, Line.rest_after, Words.unread, Words.given}
 use Rattle.commands.specs.declared.{Command.Command, texts.Usage.Usage}
 use Rattle.wording.specs.Words.{explain_text}
-use Rattle.step_words.specs.Steps.{steps_text}
+use Rattle.wording.specs.StepLines.{steps_text}
 use Rattle.orders.specs.Orders.{order_of}
-use Rattle.verdict.specs.Verdict.{check_text}
+use Rattle.wording.specs.Verdict.{check_text}
 use Rattle.commands.specs.{Texts.help_text, Texts.usage_text, Case.case_of}
 
 abbrev pub command_name : Command → List ℕ

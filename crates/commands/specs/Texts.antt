@@ -3,7 +3,7 @@ use Rattle.std.specs.Prelude.{List, [], ◌∷◌, eqb}
 use Prim.Native.{Nat.ℕ, String.String}
 use Rattle.base.specs.Choice.{pick}
 use Rattle.text.specs.Ascii.{ascii}
-use Rattle.meanings.specs.Rows.{lines_of}
+use Rattle.wording.specs.Rows.{lines_of}
 use Rattle.commands.specs.declared.texts.Usage.{Usage}
 
 -- the commands and the forms of an order, on one screen

@@ -23,7 +23,7 @@ fn write_number(out: &mut Writer<'_, u8>, number: Result<u32, Refusal>)
     ensures { Puts out.old (number_meaning (answer_of number)) out.new }
 {
     if let Ok(n) = number {
-        meanings::write_refusal(out, n.min(255) as u8);
+        wording::meanings::write_refusal(out, n.min(255) as u8);
         out.put(b'\n');
     }
 }

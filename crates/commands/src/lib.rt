@@ -70,7 +70,7 @@ fn write_steps(out: &mut Writer<'_, u8>, rest: &[u8])
     ensures { Puts out.old (steps_of rest.now) out.new }
 {
     match Words::read(b"x", rest) {
-        Some(words) => step_words::write_steps(out, words.sheet_at(0)),
+        Some(words) => wording::steps::write_steps(out, words.sheet_at(0)),
         None => write_usage(out, Usage::Steps),
     }
 }
@@ -80,7 +80,7 @@ fn write_checked(out: &mut Writer<'_, u8>, reading: u8, sheet: &[u8], order: Opt
     ensures { Puts out.old (checked reading sheet.now (answer_in order)) out.new }
 {
     match order {
-        Some(planned) => verdict::write_verdict(out, reading, sheet, planned),
+        Some(planned) => wording::verdict::write_verdict(out, reading, sheet, planned),
         None => write_usage(out, Usage::Check),
     }
 }

@@ -1,1 +1,15 @@
 pub mod Words
+pub mod Names
+pub mod Lines
+pub mod Rows
+pub mod Refusals
+pub mod Form
+pub mod Steps
+pub mod Parts
+pub mod Differences
+pub mod StepNames
+pub mod Does
+pub mod StepLines
+pub mod Differs
+pub mod Verdict
+pub mod Told

@@ -10,9 +10,9 @@ use Rattle.settings.specs.{Settings.settings_of, Frequencies.frequencies_of}
 use Rattle.text.specs.Reply.{spaced}
 use Rattle.numbers.specs.Row.{sys_pll_in, usb_pll_in, plan_row}
 use Rattle.readback.specs.Read.{read_of}
-use Rattle.meanings.specs.Refusals.{refusal_text}
-use Rattle.phrases.specs.Lines.{chip_line, ring_line, crystal_line, pll_line, voltage_line, settling_line, ref_line, sys_line}
-use Rattle.phrases.specs.Lines.{peri_line, aux_line, rtc_line, is_rp2040, left_out_line}
+use Rattle.wording.specs.Refusals.{refusal_text}
+use Rattle.wording.specs.Lines.{chip_line, ring_line, crystal_line, pll_line, voltage_line, settling_line, ref_line, sys_line}
+use Rattle.wording.specs.Lines.{peri_line, aux_line, rtc_line, is_rp2040, left_out_line}
 
 -- the settings in the order of docs/FORMAT.md, Settings that count
 abbrev pub lines_of : ClockConfig → Settings → Frequencies → List (List ℕ)

@@ -1,6 +1,11 @@
-// A sheet in words: a line for each setting, what the last release leaves out, and the plan's numbers.
-
+// What people read: a sheet in words, which is a line for each setting, what the last release leaves out and the plan's numbers; and
+// in modules its steps, the meanings of refusals and settings, and the verdict on two plans.
 #![tactic(auto)]
+
+pub mod meanings;
+pub mod phrases;
+pub mod steps;
+pub mod verdict;
 
 ghost use Rattle.base.specs.Writing.{Puts};
 ghost use Rattle.wording.specs.Words.{line_of, setting_line, setting_lines, left_out_text, plan_line, words_of};

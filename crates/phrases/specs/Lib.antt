@@ -1,2 +1,0 @@
-pub mod Names
-pub mod Lines

@@ -1,3 +1,0 @@
-pub mod Texts
-pub mod Compared
-pub mod Told

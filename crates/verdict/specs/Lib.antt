@@ -1,3 +1,0 @@
-pub mod Differs
-pub mod Verdict
-pub mod Told
