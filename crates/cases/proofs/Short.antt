@@ -9,7 +9,7 @@ use Rattle.text.specs.{Decimal.decimal_of, Hex.hex_digits, Hex.hex_of}
 use Rattle.text.proofs.Decimals.{length-decimal}
 use Rattle.text.specs.Reply.{bad_case, refused_text, spaced, row_text}
 use Rattle.numbers.specs.Answers.{refusals, malformed}
-use Rattle.words.specs.Said.{number_text, hex_behind, call_text}
+use Rattle.cases.specs.Said.{number_text, hex_behind, call_text}
 
 -- a 64-bit number has at most 20 digits
 decimal-short : (n : ℕ) → n < 18446744073709551616 → length (decimal_of n) ≤ 20

@@ -20,7 +20,7 @@ use Rattle.boards.specs.Bench.{start_all_of}
 use Rattle.numbers.specs.Bench.{bench_in, bench_number, bench_leaves, start_all_leaves}
 use Rattle.numbers.specs.SleepCall.{asked_with, steps_number, left_asked}
 use Rattle.export.specs.Sheet.{sheet_number, sheet_buffer, plan_on}
-use Rattle.words.specs.Said.{call_text}
+use Rattle.cases.specs.Said.{call_text}
 use Rattle.cases.specs.Say.{one_text, written_text, planned_text}
 
 -- 0 is the RP2040, 1 the RP235x

@@ -13,8 +13,8 @@ use Rattle.config.specs.Presets.{default_plan, crystal_plan, rosc_plan, system_p
 use Rattle.readback.specs.Read.{read_of}
 use Rattle.numbers.specs.Fields.{nth, byte_at, pll_at}
 use Rattle.numbers.specs.Answers.{answer_number, itself, malformed, chip_numbered, on_chip, voltage_number}
-use Rattle.words.specs.declared.Words.{Words}
-use Rattle.words.specs.{Line.rest_of, Words.unread, Words.sheet_at, Words.given}
+use Rattle.cases.specs.declared.words.Words.{Words}
+use Rattle.cases.specs.{Line.rest_of, Words.unread, Words.sheet_at, Words.given}
 use Rattle.cases.specs.declared.table.Case.{Case}
 use Rattle.cases.specs.declared.table.Case.TheVariants as case
 use Rattle.cases.specs.Say.{one_text, found_text, margin_text, level_text, plan_text, planned_text}

@@ -3,9 +3,10 @@ ghost use Rattle.std.specs.Prelude.{◌≡◌, ◌≤◌, length};
 ghost use Rattle.cases.specs.Say.{Says};
 ghost use Rattle.cases.specs.Calls.{chip_at, part, kept_text, gpout_text, list_text, manual_text, plan_at, sheet_text};
 ghost use Rattle.cases.specs.Calls.{start_text, run_text, bench_start_text, bench_run_text, changed_row, change_text};
-ghost use Rattle.words.specs.Words.{sheet_at};
+ghost use Rattle.cases.specs.Words.{sheet_at};
 
 use crate::say::{write, write_one, write_planned, write_written};
+use crate::words::Words;
 use base::Writer;
 use chip::Chip;
 use export::bench::{dizbaral_bench_run, dizbaral_bench_start};
@@ -13,7 +14,6 @@ use numbers::answers::MALFORMED;
 use numbers::fields::{byte_at, half_at, number_at, pll_at, room_at, ten_at};
 use numbers::manual::manual;
 use step::MAX_BYTES;
-use words::Words;
 
 // The chip that the case's first number names.
 pub(crate) fn chip_at(n: &[u32; 128]) -> Chip

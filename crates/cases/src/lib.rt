@@ -2,8 +2,10 @@
 #![tactic(auto)]
 
 mod calls;
+pub mod lines;
 mod say;
 mod table;
+pub mod words;
 
 ghost use Rattle.std.specs.Prelude.{◌≡◌};
 ghost use Rattle.cases.specs.Say.{Says, Answered};
@@ -18,7 +20,7 @@ use numbers::fields::{byte_at, pll_at};
 use say::{write_found, write_one, write_plan, write_planned};
 use table::Case;
 use text::find_named;
-use words::Words;
+use words::{Words, first_word};
 
 // Answers a case from its words; a case's first word of hex is SHEET.
 fn write_case(out: &mut Writer<'_, u8>, case: Case, words: &Words)
@@ -72,7 +74,7 @@ pub fn is_case(word: &[u8]) -> bool
 pub fn write_answer(out: &mut Writer<'_, u8>, line: &[u8])
     ensures { Says out.old (answer_to line.now) out.new }
 {
-    let (name, rest) = words::first_word(line);
+    let (name, rest) = first_word(line);
     let Some(case) = find_named(&Case::ALL, name) else {
         return write_one(out, answers::MALFORMED);
     };

@@ -4,7 +4,7 @@ use Rattle.std.specs.Prelude.{ℕ, min}
 use lib.{ListN.take, ListN.replicate, Seq.sets}
 use Rattle.base.specs.{Answer.Answer, Answer.value, Answer.refusal, Choice.pick, Placed.past}
 use Rattle.text.specs.{Ascii.ascii, Ascii.same, Words.up_to, Decimal.number_of}
-use Rattle.words.specs.Line.{rest_of, word_after}
+use Rattle.cases.specs.Line.{rest_of, word_after}
 use Rattle.cases.specs.Cases.{is_case, answer_to}
 use Rattle.wording.specs.Refusals.{refusal_text}
 use Rattle.orders.specs.Orders.{is_order}

@@ -5,8 +5,8 @@ use Rattle.base.specs.{Answer.Answer, Choice.pick}
 use Rattle.text.specs.{Ascii.ascii, Ascii.same, Words.up_to}
 use Rattle.config.specs.declared.ClockConfig.{ClockConfig}
 use Rattle.numbers.specs.Fields.{nth, byte_at}
-use Rattle.words.specs.declared.Words.{Words}
-use Rattle.words.specs.{Line.rest_of, Line.rest_after, Words.unread, Words.given}
+use Rattle.cases.specs.declared.words.Words.{Words}
+use Rattle.cases.specs.{Line.rest_of, Line.rest_after, Words.unread, Words.given}
 use Rattle.commands.specs.declared.{Command.Command, texts.Usage.Usage}
 use Rattle.wording.specs.Words.{explain_text}
 use Rattle.wording.specs.StepLines.{steps_text}

@@ -5,7 +5,7 @@ use mathlib.Core.{Path.◌≡◌, List.List}
 use Rattle.std.specs.Prelude.{ℕ, ltb}
 use Rattle.base.specs.{Answer.Answer, Answer.value, Answer.refusal, Choice.pick}
 use Rattle.text.specs.{Words.up_to, Decimal.number_of}
-use Rattle.words.specs.Line.{rest_of}
+use Rattle.cases.specs.Line.{rest_of}
 use Rattle.config.specs.declared.ClockConfig.{ClockConfig}
 use Rattle.settings.specs.{Settings.settings_of, Typed.Typed}
 use Rattle.sheet.specs.Writer.{init_answer, init_buffer}

@@ -5,7 +5,7 @@ ghost use Rattle.commands.specs.Case.{unknown_text, number_meaning, meaning_of, 
 
 use crate::texts::{Usage, write_usage};
 use base::{Refusal, Writer};
-use words::{first_word, next_word};
+use cases::words::{first_word, next_word};
 
 // The answer to a first word that names no command and no case.
 #[tactic(auto, using(base::proofs::Writing::writing), unfolding(crate::specs::Case::unknown_text))]

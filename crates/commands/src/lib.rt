@@ -18,7 +18,7 @@ use numbers::fields::byte_at;
 use orders::Planned;
 use text::{Named, find_named};
 pub use texts::{Usage, write_usage};
-use words::{Words, first_word, next_word};
+use cases::words::{Words, first_word, next_word};
 
 // A command; any other first word is the name of a case.
 #[derive(Clone, Copy, Debug, PartialEq, Eq)]
@@ -100,7 +100,7 @@ fn write_compared(out: &mut Writer<'_, u8>, words: &Words, order: &[u8])
 }
 
 // `check` takes READING SHEET ORDER.
-#[tactic(auto, using(words::proofs::Cuts::rest_short), unfolding(crate::specs::Commands::check_of))]
+#[tactic(auto, using(cases::proofs::Cuts::rest_short), unfolding(crate::specs::Commands::check_of))]
 fn write_check(out: &mut Writer<'_, u8>, rest: &[u8])
     ensures { Puts out.old (check_of rest.now) out.new }
 {

@@ -30,6 +30,6 @@ fn write_at(reading: Result<u32, Refusal>, rest: &[u8], sheet: &mut [u8]) -> Mad
 pub fn make(line: &[u8], sheet: &mut [u8]) -> Made
     ensures { MakeCall line.now sheet.old result sheet.new }
 {
-    let (reading, rest) = words::first_word(line);
+    let (reading, rest) = cases::words::first_word(line);
     write_at(text::number(reading), rest, sheet)
 }

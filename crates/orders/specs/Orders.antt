@@ -13,7 +13,7 @@ use Rattle.config.specs.Presets.{default_plan, crystal_plan, rosc_plan, system_p
 use Rattle.numbers.specs.Fields.{nth, byte_at, pll_at}
 use Rattle.numbers.specs.{Plan.plan_numbered, Manual.manual_by_code}
 use Rattle.readback.specs.Read.{read_of}
-use Rattle.words.specs.{Line.word_after, Line.rest_after, Words.unread, Words.sheet_at, Words.given}
+use Rattle.cases.specs.{Line.word_after, Line.rest_after, Words.unread, Words.sheet_at, Words.given}
 use Rattle.orders.specs.declared.names.Preset.{Preset}
 use Rattle.orders.specs.declared.names.Preset.TheVariants.{System, SystemFrom, Crystal, Rosc, Default, Manual, Plan}
 

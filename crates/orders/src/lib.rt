@@ -15,7 +15,7 @@ pub use names::Preset;
 use numbers::fields::{byte_at, number_at, pll_at};
 use numbers::manual::manual;
 use text::find_named;
-use words::{Words, next_word};
+use cases::words::{Words, next_word};
 
 // The plan that is ordered, or its refusal.
 pub type Planned = Result<ClockConfig, Refusal>;

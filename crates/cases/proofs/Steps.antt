@@ -1,0 +1,93 @@
+-- A word is taken as its letter says, the letters are taken one after another, and the hex of no bytes is no text.
+use Rattle.std.specs.Prelude.{Option, Some, None, Result, Ok, Err, MatchOption}
+use Rattle.std.specs.Option.{option_map}
+use Rattle.std.specs.Bool.{then_some}
+use Rattle.std.specs.Result.{result_ok}
+use Rattle.base.specs.Answer.{answer_of}
+use Rattle.base.specs.declared.refusal.Refusal.{Refusal}
+use mathlib.Core.{Path.◌≡◌, Path.refl, Bool.Bool, Bool.true, Bool.false}
+use mathlib.Core.{List.List, List.[], List.◌∷◌}
+use Prim.Native.Nat.{ℕ, suc, ◌≤◌, ◌<◌}
+use native.Mathlib.Omega.{arith}
+use borrow.Author.Tests.{lt-ltb, le-ltb, leb-true}
+use lib.{Dec.eqb, Dec.leb, ListN.length, ListN.drop, ListN.get_or, ListN.drop_of_length-le, Seq.sets, Seq.drop-cons}
+use Rattle.base.specs.Choice.{pick}
+use Rattle.std.proofs.lemmas.Bool.{and_parts}
+use Rattle.text.specs.{Hex.is_hex_word, Hex.is_readable, Hex.pair_values, Hex.hex_of, Hex.HexReading}
+use Rattle.cases.specs.declared.words.Words.{Words}
+use Rattle.cases.specs.Line.{word_after, rest_after}
+use Rattle.cases.specs.Words.{with_number, number_step, then, step, given}
+use Rattle.cases.specs.Said.{hex_behind}
+
+-- a word of hex that is read: it is readable, the count is that of its bytes, and these are at the buffer's start
+pub record Hexed (w xs : List ℕ) (m : ℕ) (ys : List ℕ) : Type 0 where
+  pub readable : is_readable w (length xs) ≡ true
+  pub count : m ≡ length (pair_values w)
+  pub fits : m ≤ length xs
+  pub bytes : ys ≡ sets xs 0 (pair_values w)
+
+module _ {w xs ys : List ℕ} where
+  pub hexed : {m : ℕ} → HexReading w xs (Some m) ys → Hexed w xs m ys
+  unfolding is_readable
+  hexed {m} h = go (is_readable w (length xs)) refl h.answer h.bytes
+    where
+      go : (t : Bool) → is_readable w (length xs) ≡ t → Some m ≡ pick t (Some (length (pair_values w))) None
+          → ys ≡ pick t (sets xs 0 (pair_values w)) xs → Hexed w xs m ys
+      go true r e b =
+          let count : m ≡ length (pair_values w) = cc in
+          record {
+            readable = r;
+            count = count;
+            fits =
+                let room = and_parts (is_hex_word w) (leb (length (pair_values w)) (length xs)) r in
+                omega (arith, leb-true (length (pair_values w)) (length xs) room.1);
+            bytes = b;
+          }
+      go false r e b = let z : ◌≡◌ {A = ℕ} 0 1 = cc in absurd (omega arith)
+
+  pub not-hexed : HexReading w xs None ys → is_readable w (length xs) ≡ false
+  not-hexed h = go (is_readable w (length xs)) h.answer
+    where
+      go : (t : Bool) → None ≡ pick t (Some (length (pair_values w))) None → t ≡ false
+      go true e = let z : ◌≡◌ {A = Bool} true false = cc in z
+      go false e = refl
+
+-- a number that is at most its limit is stored
+pub counted : (s : Words) (a : Result ℕ Refusal) (top : ℕ) (r : Option ℕ)
+    → MatchOption (result_ok a) (r ≡ None) (λ n. r ≡ then_some (leb n top) n)
+    → option_map (with_number s) r ≡ number_step top (answer_of a) s
+counted s (Ok n) top r e = rw e (go (leb n top))
+  where
+    go : (t : Bool) → option_map (with_number s) (then_some t n) ≡ pick t (Some (with_number s n)) None
+    go true = refl
+    go false = refl
+counted s (Err why) top r e = rw e
+
+-- the result for the letters from i on, by one letter more
+module _ (rest letters : List ℕ) (i : ℕ) (s : Words) (in_letters : i < length letters) where
+  pub letter-none : eqb (length rest) 0 ≡ true → given rest (drop i letters) s ≡ pick (eqb (get_or letters i 0) 111) (Some s) None
+  unfolding given
+  letter-none out = rw (drop-cons letters i 0 in_letters, out)
+
+  module _ (more : eqb (length rest) 0 ≡ false) where
+    pub letter-full : 128 ≤ s.count → given rest (drop i letters) s ≡ None
+    unfolding given
+    letter-full full = rw (drop-cons letters i 0 in_letters, more, le-ltb s.count 128 full)
+
+    letter-more : s.count < 128 → given rest (drop i letters) s
+        ≡ then (step (get_or letters i 0) (word_after rest) s) (given (rest_after rest) (drop (suc i) letters))
+    unfolding given
+    letter-more room = rw (drop-cons letters i 0 in_letters, more, lt-ltb s.count 128 room)
+
+    pub letter-taken : {o : Option Words} {word after : List ℕ} → s.count < 128 → word ≡ word_after rest → after ≡ rest_after rest
+        → o ≡ step (get_or letters i 0) word s → given rest (drop i letters) s ≡ then o (given after (drop (suc i) letters))
+    letter-taken room w r t = rw (r, rw w at t) (letter-more room)
+
+pub letters-end : (rest letters : List ℕ) (i : ℕ) (s : Words) → length letters ≤ i
+    → given rest (drop i letters) s ≡ pick (eqb (length rest) 0) (Some s) None
+unfolding given
+letters-end rest letters i s out = rw (drop_of_length-le letters out)
+
+pub behind_some : (bs : List ℕ) → eqb (length bs) 0 ≡ false → hex_behind bs ≡ 32 ∷ hex_of bs
+behind_some [] some = let z : ◌≡◌ {A = Bool} true false = some in cc
+behind_some (b ∷ bs) some = refl

@@ -1,0 +1,67 @@
+-- The words of a case: its name is followed by one word for each letter of its row, with one space between (docs/CASES.md,
+-- Words).
+use Rattle.std.specs.Prelude.{Option, Some, None}
+use mathlib.Core.{List.List, List.[], List.◌∷◌}
+use Rattle.std.specs.Prelude.{ℕ, suc, ◌-◌}
+use lib.{Dec.eqb, Dec.leb, Dec.ltb, ListN.length, ListN.set, ListN.take, ListN.drop, ListN.replicate, Seq.sets}
+use Rattle.base.specs.{Answer.Answer, Answer.value, Answer.refusal, Choice.pick}
+use Rattle.text.specs.{Decimal.number_of, Hex.is_readable, Hex.pair_values}
+use Rattle.numbers.specs.Fields.{nth}
+use Rattle.cases.specs.declared.words.Words.{Words}
+use Rattle.cases.specs.Line.{word_after, rest_after}
+
+-- the words read so far: a number for each word, in a row of 128, and the bytes of each word of hex in its buffer
+abbrev pub state_of : ℕ → List ℕ → List ℕ → List ℕ → Words
+state_of count row kept sheet = record { count = count; row = row; kept = kept; sheet = sheet }
+
+-- the greatest number of a letter: f is a flag, b has 8 bits, h 16 bits, r is a buffer's length, any other has 32 bits
+abbrev pub limit_of : ℕ → ℕ
+limit_of l = pick (eqb l 102) 1 (pick (eqb l 98) 255 (pick (eqb l 104) 65535 (pick (eqb l 114) 1024 4294967295)))
+
+-- the number of the next word goes to the row
+abbrev pub with_number : Words → ℕ → Words
+with_number s n = record s { count = suc s.count; row = set s.row s.count n }
+
+-- a number up to its limit goes to the next index of the row
+abbrev pub number_step : ℕ → Answer ℕ → Words → Option Words
+number_step top (value n) s = pick (leb n top) (Some (with_number s n)) None
+number_step top (refusal m) s = None
+
+-- a word of hex: the count of its bytes goes to the row, the bytes go to the start of a buffer; x is the sheet, k the kept bytes
+abbrev pub sheet_step : List ℕ → Words → Option Words
+sheet_step w s =
+    pick (is_readable w (length s.sheet))
+    (Some (with_number (record s { sheet = sets s.sheet 0 (pair_values w) }) (length (pair_values w)))) None
+
+abbrev pub kept_step : List ℕ → Words → Option Words
+kept_step w s =
+    pick (is_readable w (length s.kept))
+    (Some (with_number (record s { kept = sets s.kept 0 (pair_values w) }) (length (pair_values w)))) None
+
+unfoldable pub step : ℕ → List ℕ → Words → Option Words
+step l w s = pick (eqb l 120) (sheet_step w s) (pick (eqb l 107) (kept_step w s) (number_step (limit_of l) (number_of w) s))
+
+abbrev pub then : Option Words → (Words → Option Words) → Option Words
+then (Some s) f = f s
+then None f = None
+
+-- reads one word for each letter from the rest of a line; none where a word is not what its letter asks for or the line has more
+-- words; from a letter o on words may be absent
+unfoldable pub given : List ℕ → List ℕ → Words → Option Words
+given rest [] s = pick (eqb (length rest) 0) (Some s) None
+given rest (l ∷ ls) s =
+    pick (eqb (length rest) 0) (pick (eqb l 111) (Some s) None)
+    (pick (ltb s.count 128) (then (step l (word_after rest) s) (given (rest_after rest) ls)) None)
+
+-- the state before any word is read
+abbrev pub unread : Words
+unread = state_of 0 (replicate 128 0) (replicate 528 0) (replicate 2048 0)
+
+-- the numbers that were read after the first i; none where fewer were read, or the row has fewer than were counted
+abbrev pub numbers_past : Words → ℕ → Option (List ℕ)
+numbers_past s i =
+    pick (ltb s.count i) None (pick (ltb (length s.row) s.count) None (Some (take (s.count - i) (drop i s.row))))
+
+-- the bytes of the word of hex x whose count is number i of the row
+abbrev pub sheet_at : Words → ℕ → List ℕ
+sheet_at s i = take (nth s.row i) s.sheet

@@ -1,8 +1,0 @@
--- `Words::read` meets its contract: the letters left, read on from what is stored, give the result of the whole rest.
-use mathlib.Core.{Path.◌≡◌}
-use lib.ListN.{drop}
-use Rattle.words.specs.Words.{given, unread}
-use Rattle.words.proofs.Words.read.Given as goal
-
-abbrev pub invariant-loop-letter : goal.invariant-loop-letter
-invariant-loop-letter l = given l.rest (drop l.letter-index l.letters) l.words ≡ given l.fn.rest l.letters unread
