@@ -5,8 +5,8 @@ use Rattle.std.specs.Prelude.{List, ◌++◌, ℕ}
 use Rattle.base.specs.Refusals.{number_of}
 use Rattle.text.specs.{Ascii.ascii, Decimal.decimal_of}
 use Rattle.wording.specs.Words.{refused_lines}
-use Rattle.commands.specs.Texts.{usage_text}
-use Rattle.commands.specs.declared.texts.Usage.{Usage}
+use Rattle.wording.specs.Texts.{usage_text}
+use Rattle.wording.specs.declared.commands.texts.Usage.{Usage}
 use Rattle.dizbaral.specs.declared.said.Reason.{Reason}
 
 abbrev pub made_text : Option (Result ℕ Refusal) → List ℕ

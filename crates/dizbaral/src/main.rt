@@ -6,11 +6,11 @@ mod files;
 mod said;
 
 use base::Writer;
-use commands::Made;
 use files::Stopped;
 use std::env::{Env, FillError};
 use std::io;
 use std::rt::Files;
+use wording::commands::Made;
 
 // The longest line has two sheets in hex, or one and the numbers of a plan.
 const LINE: usize = 16384;
@@ -20,7 +20,7 @@ fn answer(rt: &(impl Env + Files + Print)) -> Result<(), Stopped> {
     let mut line = [0u8; LINE];
     let end = files::join(rt, &mut line, 1)?;
     let mut out = [0u8; 65536];
-    let size = commands::answer(base::first(&line, end), &mut out);
+    let size = wording::commands::answer(base::first(&line, end), &mut out);
     rt.write_all(base::first(&out, size))?;
     Ok(())
 }
@@ -57,7 +57,7 @@ fn make(rt: &(impl Env + Files + Print)) -> Result<(), Stopped> {
     let mut line = [0u8; LINE];
     let end = files::join(rt, &mut line, 3)?;
     let mut sheet = [0u8; step::MAX_BYTES];
-    let made = commands::make(base::first(&line, end), &mut sheet);
+    let made = wording::commands::make(base::first(&line, end), &mut sheet);
     keep(rt, &path[..n], made, &sheet)
 }
 

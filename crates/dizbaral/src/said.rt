@@ -5,7 +5,7 @@ ghost use Rattle.text.specs.Ascii.{ascii, same};
 ghost use Rattle.dizbaral.specs.Said.{made_text, reason_text, trouble_line, new_name};
 
 use base::Writer;
-use commands::{Made, Usage};
+use wording::commands::{Made, Usage};
 
 // Why a file is not read or written.
 #[derive(Clone, Copy, Debug, PartialEq, Eq)]
@@ -37,7 +37,7 @@ pub(crate) fn write_made(out: &mut Writer<'_, u8>, made: Made)
             out.put_all(b" bytes\n");
         }
         Some(Err(why)) => wording::write_refused(out, b"order: ", u8::from(why)),
-        None => commands::write_usage(out, Usage::Make),
+        None => wording::commands::write_usage(out, Usage::Make),
     }
 }
 

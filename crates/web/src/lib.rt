@@ -3,12 +3,12 @@
 #![tactic(auto)]
 
 ghost use Rattle.base.specs.Placed.{Placed};
-ghost use Rattle.commands.specs.Commands.{answer_of};
+ghost use Rattle.wording.specs.Commands.{answer_of};
 
 // Writes the answer to a line at the buffer's start and answers its length; bytes that do not fit are dropped.
 #[unsafe(no_mangle)]
 pub extern "C" fn dizbaral_answer(line: &[u8], out: &mut [u8]) -> usize
     ensures { Placed out.old 0 (answer_of line.now) result out.new }
 {
-    commands::answer(line, out)
+    wording::commands::answer(line, out)
 }

@@ -13,3 +13,9 @@ pub mod StepLines
 pub mod Differs
 pub mod Verdict
 pub mod Told
+pub mod Orders
+pub mod Texts
+pub mod Case
+pub mod Commands
+pub mod Made
+pub mod Demand3

@@ -2,7 +2,9 @@
 // in modules its steps, the meanings of refusals and settings, and the verdict on two plans.
 #![tactic(auto)]
 
+pub mod commands;
 pub mod meanings;
+pub mod orders;
 pub mod phrases;
 pub mod steps;
 pub mod verdict;

@@ -1,3 +1,0 @@
-pub mod Said
-pub mod Making
-pub mod Demand3

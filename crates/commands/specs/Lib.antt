@@ -1,5 +1,0 @@
-pub mod Texts
-pub mod Case
-pub mod Commands
-pub mod Made
-pub mod Demand3
