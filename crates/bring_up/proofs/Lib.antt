@@ -5,3 +5,16 @@ pub mod Stored
 pub mod Stream
 pub mod Wait
 pub mod Waits
+pub mod Addresses
+pub mod Parts
+pub mod Sheet
+pub mod Set
+pub mod Hz
+pub mod Carried
+pub mod Times
+pub mod Walk
+pub mod ClockWaits
+pub mod Running
+pub mod Switched
+pub mod Presets
+pub mod Awake

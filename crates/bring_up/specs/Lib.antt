@@ -2,3 +2,8 @@ pub mod ComesUp
 pub mod Slow
 pub mod Up
 pub mod Wait
+pub mod Machine
+pub mod Tree
+pub mod Carried
+pub mod Times
+pub mod ClockWaits

@@ -1,5 +1,8 @@
-// Upper bound on the calls until done (docs/FORMAT.md, How long a run takes). The theorems over `sheet` and `runner`
-// are in specs/ and proofs/.
+// How a sheet brings the clocks up. The code is the bound on the calls until done (docs/FORMAT.md, How long a run takes); the theorems are
+// in specs/ and proofs/. A runner gives out every step and is done (specs/ComesUp). The machine that carries out the steps
+// (specs/Machine) gives each clock a frequency by its registers (specs/Tree): for every accepted plan its chip carries out each step
+// (specs/Carried), each clock runs at the frequency that the sheet stores (specs/Times), each wait can end, and a clock is switched
+// only to a source that runs (specs/ClockWaits).
 #![tactic(auto)]
 
 ghost use Rattle.std.specs.Prelude.{◌≡◌};

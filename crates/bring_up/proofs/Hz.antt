@@ -24,10 +24,10 @@ use Rattle.settings.proofs.Decoded.{Small}
 use Rattle.refusals.specs.Rules.{pll_invalid, sys_pll_invalid, usb_pll_invalid}
 use Rattle.registers.specs.Map.{RESET, XOSC_CTRL, ROSC_CTRL, PLL_CS, PLL_PWR, PLL_FBDIV_INT, PLL_PRIM}
 use Rattle.registers.specs.Map.{REF_SRC, SYS_SRC, AUXSRC, ENABLE, INT, REFDIV, FBDIV, POSTDIV1, POSTDIV2}
-use Rattle.clock_tree.specs.Machine.{bits_at, held}
-use Rattle.clock_tree.specs.Tree.{oscillates, pll_on, pll_from, sources_at, int_from, divided_from, ref_from}
-use Rattle.clock_tree.specs.Tree.{sys_from, peri_from, aux_from}
-use Rattle.clock_tree.proofs.Set.{zero-hz, PllSet, CrystalSet, packed, control}
+use Rattle.bring_up.specs.Machine.{bits_at, held}
+use Rattle.bring_up.specs.Tree.{oscillates, pll_on, pll_from, sources_at, int_from, divided_from, ref_from}
+use Rattle.bring_up.specs.Tree.{sys_from, peri_from, aux_from}
+use Rattle.bring_up.proofs.Set.{zero-hz, PllSet, CrystalSet, packed, control}
 
 -- ---- dividers
 

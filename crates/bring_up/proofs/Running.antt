@@ -15,15 +15,15 @@ use Rattle.settings.specs.Frequencies.{pll_hz, sources_of}
 use Rattle.registers.specs.Access.{has, access_of}
 use Rattle.registers.specs.Map.{RESET, XOSC_CTRL, ROSC_CTRL, CLK_REF_CTRL, CLK_SYS_CTRL, PLL_PWR}
 use Rattle.sheet.specs.Steps.{mark_steps, head_part, ring_part, voltage_part, crystal_part}
-use Rattle.clock_tree.specs.Machine.{bits_at, held, carried_out}
-use Rattle.clock_tree.specs.Tree.{oscillates}
-use Rattle.clock_tree.specs.Waits.{all_waits, pll_runs, ref_runs, source_runs, Awake}
-use Rattle.clock_tree.proofs.Addresses.{member}
-use Rattle.clock_tree.proofs.Parts.{voltage_own, crystal_own, crystal_steps}
-use Rattle.clock_tree.proofs.Parts.{voltage as voltage-calm, crystal as crystal_on}
-use Rattle.clock_tree.proofs.Walk.{Walk, keeps}
-use Rattle.clock_tree.proofs.Set.{range-on, PllSet, CrystalSet, crystal-sets}
-use Rattle.clock_tree.proofs.{Hz.pll-on, Times.held_none, Waits.sys-cleared, Waits.ref-cleared}
+use Rattle.bring_up.specs.Machine.{bits_at, held, carried_out}
+use Rattle.bring_up.specs.Tree.{oscillates}
+use Rattle.bring_up.specs.ClockWaits.{all_waits, pll_runs, ref_runs, source_runs, Awake}
+use Rattle.bring_up.proofs.Addresses.{member}
+use Rattle.bring_up.proofs.Parts.{voltage_own, crystal_own, crystal_steps}
+use Rattle.bring_up.proofs.Parts.{voltage as voltage-calm, crystal as crystal_on}
+use Rattle.bring_up.proofs.Walk.{Walk, keeps}
+use Rattle.bring_up.proofs.Set.{range-on, PllSet, CrystalSet, crystal-sets}
+use Rattle.bring_up.proofs.{Hz.pll-on, Times.held_none, ClockWaits.sys-cleared, ClockWaits.ref-cleared}
 
 -- ---- the file between the parts
 

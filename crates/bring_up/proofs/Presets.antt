@@ -11,7 +11,7 @@ use Rattle.settings.specs.Frequencies.{pll_hz, sources_of, ref_hz, sys_hz}
 use Rattle.registers.specs.Access.{has, access_of}
 use Rattle.sheet.specs.Steps.{head_part, ring_part, voltage_part, crystal_part, switch_steps, sys_part}
 use Rattle.sheet.specs.Steps.{peri_part, aux_part, rtc_part, release_mask, clocks_part, steps_of}
-use Rattle.clock_tree.specs.Machine.{carried_out}
+use Rattle.bring_up.specs.Machine.{carried_out}
 
 -- the registers at these addresses after the preset's sheet
 abbrev pub preset_leaves : Chip → (ℕ → ℕ) → List ℕ → List ℕ

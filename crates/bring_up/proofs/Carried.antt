@@ -6,9 +6,9 @@ use Rattle.chip.specs.declared.Chip.{Chip}
 use Rattle.step.specs.declared.Step.{Step}
 use Rattle.registers.specs.Access.{access_of}
 use Rattle.sheet.specs.Steps.{clocks_part, steps_of}
-use Rattle.clock_tree.specs.Carried.{is_value, carries, Carried}
-use Rattle.clock_tree.proofs.Parts.{owns}
-use Rattle.clock_tree.proofs.Sheet.{joined, All, parts_of, all-parts}
+use Rattle.bring_up.specs.Carried.{is_value, carries, Carried}
+use Rattle.bring_up.proofs.Parts.{owns}
+use Rattle.bring_up.proofs.Sheet.{joined, All, parts_of, all-parts}
 
 append : (c : Chip) (xs ys : List Step) → carries c xs ≡ true → carries c ys ≡ true → carries c (xs ++ ys) ≡ true
 append c [] ys h k = k

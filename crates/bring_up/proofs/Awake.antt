@@ -16,16 +16,16 @@ use Rattle.refusals.proofs.Accepted.{accepted-by}
 use Rattle.registers.specs.Access.{has, access_of}
 use Rattle.registers.specs.Map.{ROSC_CTRL, CLK_REF_CTRL, REF_SRC}
 use Rattle.sheet.specs.Steps.{ring_part, clocks_part, steps_of}
-use Rattle.clock_tree.specs.Machine.{carried_out}
-use Rattle.clock_tree.specs.Tree.{oscillates}
-use Rattle.clock_tree.specs.Waits.{ref_runs, Awake, StaysAwake}
-use Rattle.clock_tree.proofs.Addresses.{member}
-use Rattle.clock_tree.proofs.Parts.{owns}
-use Rattle.clock_tree.proofs.Sheet.{joined, up_to, holds, stays}
-use Rattle.clock_tree.proofs.Set.{range-on, ref-sets}
-use Rattle.clock_tree.proofs.Times.{ring-free, ref-free, ended, crystal-ends}
-use Rattle.clock_tree.proofs.Running.{NonZero, Running, running}
-use Rattle.clock_tree.proofs.Switched.{ref-source}
+use Rattle.bring_up.specs.Machine.{carried_out}
+use Rattle.bring_up.specs.Tree.{oscillates}
+use Rattle.bring_up.specs.ClockWaits.{ref_runs, Awake, StaysAwake}
+use Rattle.bring_up.proofs.Addresses.{member}
+use Rattle.bring_up.proofs.Parts.{owns}
+use Rattle.bring_up.proofs.Sheet.{joined, up_to, holds, stays}
+use Rattle.bring_up.proofs.Set.{range-on, ref-sets}
+use Rattle.bring_up.proofs.Times.{ring-free, ref-free, ended, crystal-ends}
+use Rattle.bring_up.proofs.Running.{NonZero, Running, running}
+use Rattle.bring_up.proofs.Switched.{ref-source}
 
 -- a ring that oscillates still does after the ring's part
 ring-stays : (c : Chip) (pass : ℕ) (r : Option RoscConfig) (file : ℕ → ℕ) → oscillates (file (ROSC_CTRL c)) ≡ true

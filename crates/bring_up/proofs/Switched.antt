@@ -21,12 +21,12 @@ use Rattle.registers.specs.Access.{has, access_of}
 use Rattle.registers.specs.Map.{XOSC_CTRL, ROSC_CTRL}
 use Rattle.sheet.specs.Steps.{source_part, ref_part, switch_steps}
 use Rattle.sheet.specs.Steps.{sys_part, release_mask, last_part, clocks_part, steps_of}
-use Rattle.clock_tree.specs.Machine.{carried_out}
-use Rattle.clock_tree.specs.Tree.{oscillates}
-use Rattle.clock_tree.specs.Waits.{pll_runs, ref_runs, source_runs, SourcesRun}
-use Rattle.clock_tree.proofs.Parts.{system_steps, peri, usb, adc, rtc}
-use Rattle.clock_tree.proofs.Walk.{Walk, ◌then◌, Any, calmly}
-use Rattle.clock_tree.proofs.Running.{NonZero, Running, Referred, mark, head, ring, voltage, crystal}
+use Rattle.bring_up.specs.Machine.{carried_out}
+use Rattle.bring_up.specs.Tree.{oscillates}
+use Rattle.bring_up.specs.ClockWaits.{pll_runs, ref_runs, source_runs, SourcesRun}
+use Rattle.bring_up.proofs.Parts.{system_steps, peri, usb, adc, rtc}
+use Rattle.bring_up.proofs.Walk.{Walk, ◌then◌, Any, calmly}
+use Rattle.bring_up.proofs.Running.{NonZero, Running, Referred, mark, head, ring, voltage, crystal}
 
 source : (c : Chip) (f : Sources) → Walk c (source_runs c) (Running c f) (Running c f) (source_part f)
 unfolding access_of has

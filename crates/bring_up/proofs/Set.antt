@@ -22,9 +22,9 @@ use Rattle.registers.specs.Map.{CLK_USB_CTRL, CLK_USB_DIV, CLK_ADC_CTRL, CLK_ADC
 use Rattle.registers.specs.Map.{PLL_CS, PLL_PWR, PLL_FBDIV_INT, PLL_PRIM, BLOCKS, REF_SRC, SYS_SRC, AUXSRC, ENABLE, PHASE, INT}
 use Rattle.registers.specs.Map.{FREQ_RANGE, OSCILLATOR_ON, REFDIV, FBDIV, POSTDIV1, POSTDIV2}
 use Rattle.sheet.specs.Steps.{head_part, ring_part, crystal_part, ref_part, switch_steps, sys_part, peri_part, aux_part, rtc_part, last_part}
-use Rattle.clock_tree.specs.Machine.{powers_down, carried_out}
-use Rattle.clock_tree.specs.Tree.{oscillates}
-use Rattle.clock_tree.proofs.Parts.{crystal_steps, system_steps}
+use Rattle.bring_up.specs.Machine.{powers_down, carried_out}
+use Rattle.bring_up.specs.Tree.{oscillates}
+use Rattle.bring_up.proofs.Parts.{crystal_steps, system_steps}
 
 -- the head leaves no block in reset, and both PLLs without power
 pub head-sets : (c : Chip) (file : ℕ → ℕ) → let after = carried_out c (head_part c) file in

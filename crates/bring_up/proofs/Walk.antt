@@ -6,10 +6,10 @@ use Rattle.chip.specs.declared.Chip.{Chip}
 use Rattle.step.specs.declared.Step.{Step}
 use Rattle.registers.specs.declared.Access.{Access}
 use Rattle.registers.specs.Access.{access_of}
-use Rattle.clock_tree.specs.Machine.{done, carried_out}
-use Rattle.clock_tree.specs.Waits.{at_wait, all_waits}
-use Rattle.clock_tree.proofs.Addresses.{member, outside, reach, steps-keep, append}
-use Rattle.clock_tree.proofs.Parts.{On, Calm}
+use Rattle.bring_up.specs.Machine.{done, carried_out}
+use Rattle.bring_up.specs.ClockWaits.{at_wait, all_waits}
+use Rattle.bring_up.proofs.Addresses.{member, outside, reach, steps-keep, append}
+use Rattle.bring_up.proofs.Parts.{On, Calm}
 
 pub record Walk (c : Chip) (test : Access → (ℕ → ℕ) → Bool) (P Q : (ℕ → ℕ) → Type 0) (xs : List Step) : Type 0 where
   pub walk : (file : ℕ → ℕ) → P file → (all_waits c test xs file ≡ true) × Q (carried_out c xs file)

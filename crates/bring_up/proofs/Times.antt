@@ -28,17 +28,17 @@ use Rattle.registers.specs.Map.{RESET, CLK_REF_CTRL, CLK_REF_DIV, CLK_SYS_CTRL, 
 use Rattle.registers.specs.Map.{CLK_ADC_CTRL, CLK_ADC_DIV, CLK_RTC_CTRL, CLK_RTC_DIV, XOSC_CTRL, ROSC_CTRL, PLL_CS, PLL_PWR}
 use Rattle.registers.specs.Map.{PLL_FBDIV_INT, PLL_PRIM}
 use Rattle.sheet.specs.Steps.{crystal_part, peri_part, aux_part, rtc_part, release_mask, clocks_part, steps_of}
-use Rattle.clock_tree.specs.Machine.{held, carried_out}
-use Rattle.clock_tree.specs.Tree.{oscillates, sources_at, ref_at, sys_at, usb_at, adc_at, rtc_at, sys_from, peri_from}
-use Rattle.clock_tree.specs.Tree.{CLK_PERI_DIV, int_from, peri_divider}
-use Rattle.clock_tree.specs.Times.{has_peri, has_aux, has_rtc, Runs, AllTrue, TimesAreTrue}
-use Rattle.clock_tree.proofs.Addresses.{member}
-use Rattle.clock_tree.proofs.Parts.{owns}
-use Rattle.clock_tree.proofs.Sheet.{joined, up_to, holds, stays}
-use Rattle.clock_tree.proofs.Set.{head-sets, ring-sets, PllSet, CrystalSet, crystal-sets, pll-moves, ref-sets}
-use Rattle.clock_tree.proofs.Set.{sys-sets, peri-sets}
-use Rattle.clock_tree.proofs.Set.{usb-sets, adc-sets, rtc-sets, peri-absent, aux-absent, rtc-absent, last-sets}
-use Rattle.clock_tree.proofs.Hz.{sources-true, ref-true, sys-true, peri-true, aux-true, rtc-true}
+use Rattle.bring_up.specs.Machine.{held, carried_out}
+use Rattle.bring_up.specs.Tree.{oscillates, sources_at, ref_at, sys_at, usb_at, adc_at, rtc_at, sys_from, peri_from}
+use Rattle.bring_up.specs.Tree.{CLK_PERI_DIV, int_from, peri_divider}
+use Rattle.bring_up.specs.Times.{has_peri, has_aux, has_rtc, Runs, AllTrue, TimesAreTrue}
+use Rattle.bring_up.proofs.Addresses.{member}
+use Rattle.bring_up.proofs.Parts.{owns}
+use Rattle.bring_up.proofs.Sheet.{joined, up_to, holds, stays}
+use Rattle.bring_up.proofs.Set.{head-sets, ring-sets, PllSet, CrystalSet, crystal-sets, pll-moves, ref-sets}
+use Rattle.bring_up.proofs.Set.{sys-sets, peri-sets}
+use Rattle.bring_up.proofs.Set.{usb-sets, adc-sets, rtc-sets, peri-absent, aux-absent, rtc-absent, last-sets}
+use Rattle.bring_up.proofs.Hz.{sources-true, ref-true, sys-true, peri-true, aux-true, rtc-true}
 
 -- registers that no part from k + 1 to n has; with the parts before k, none of the first n
 abbrev Free : Chip → ℕ → ℕ → List ℕ → Type 0

@@ -33,13 +33,13 @@ use Rattle.registers.specs.Map.{SYS_SRC, AUXSRC, REFDIV, FBDIV, CLK_PERI_CTRL, C
 use Rattle.registers.specs.Map.{CLK_ADC_CTRL, CLK_ADC_DIV, CLK_RTC_CTRL, CLK_RTC_DIV}
 use Rattle.sheet.specs.Steps.{head_part, pll_steps, crystal_part, ref_part, switch_steps}
 use Rattle.sheet.specs.Steps.{sys_part, release_mask, last_part, clocks_part, steps_of, step0, step1, step2}
-use Rattle.clock_tree.specs.Machine.{bits_at, held, carried_out}
-use Rattle.clock_tree.specs.Tree.{oscillates, vco_on}
-use Rattle.clock_tree.specs.Waits.{locks, can_come, NoEndlessWait}
-use Rattle.clock_tree.proofs.Addresses.{member}
-use Rattle.clock_tree.proofs.Parts.{Calm, ring_own, voltage_own, crystal_steps, system_steps, mark, ring, voltage, source, peri, usb, adc, rtc}
-use Rattle.clock_tree.proofs.Walk.{Walk, ◌then◌, Any, calmly, keeps}
-use Rattle.clock_tree.proofs.Set.{last-sets}
+use Rattle.bring_up.specs.Machine.{bits_at, held, carried_out}
+use Rattle.bring_up.specs.Tree.{oscillates, vco_on}
+use Rattle.bring_up.specs.ClockWaits.{locks, can_come, NoEndlessWait}
+use Rattle.bring_up.proofs.Addresses.{member}
+use Rattle.bring_up.proofs.Parts.{Calm, ring_own, voltage_own, crystal_steps, system_steps, mark, ring, voltage, source, peri, usb, adc, rtc}
+use Rattle.bring_up.proofs.Walk.{Walk, ◌then◌, Any, calmly, keeps}
+use Rattle.bring_up.proofs.Set.{last-sets}
 
 -- nothing is in reset
 record Released (c : Chip) (file : ℕ → ℕ) : Type 0 where

@@ -11,10 +11,10 @@ use Rattle.settings.specs.declared.{Settings.Settings, Frequencies.Frequencies}
 use Rattle.settings.specs.Frequencies.{frequencies_of}
 use Rattle.sheet.specs.Steps.{mark_steps, head_part, ring_part, voltage_part, crystal_part, source_part, ref_part, sys_part, peri_part}
 use Rattle.sheet.specs.Steps.{aux_part, rtc_part, release_mask, last_part}
-use Rattle.clock_tree.specs.Machine.{carried_out}
-use Rattle.clock_tree.proofs.Addresses.{member, member-append, outside, reach, steps-keep, append}
-use Rattle.clock_tree.proofs.Parts.{On, owns, mark, head, ring, voltage, crystal, source, reference, system, peri}
-use Rattle.clock_tree.proofs.Parts.{usb, adc, rtc, last}
+use Rattle.bring_up.specs.Machine.{carried_out}
+use Rattle.bring_up.proofs.Addresses.{member, member-append, outside, reach, steps-keep, append}
+use Rattle.bring_up.proofs.Parts.{On, owns, mark, head, ring, voltage, crystal, source, reference, system, peri}
+use Rattle.bring_up.proofs.Parts.{usb, adc, rtc, last}
 
 abbrev pub joined : {A : Type 0} → List (List A) → List A
 joined [] = []

@@ -14,7 +14,7 @@ use Rattle.registers.specs.Access.{access_of, op_of, address_of, mask_of, value_
 use Rattle.registers.specs.Map.{RESET, RESET_DONE, CLK_REF_CTRL, CLK_REF_SELECTED, CLK_SYS_CTRL, CLK_SYS_SELECTED}
 use Rattle.registers.specs.Map.{XOSC_CTRL, XOSC_STATUS, ROSC_CTRL, PLL_CS}
 use Rattle.sheet.specs.Steps.{steps_of}
-use Rattle.clock_tree.specs.{Machine.bits_at, Machine.done, Machine.carried_out, Tree.oscillates, Tree.pll_at, Tree.vco_on, Tree.pll_on}
+use Rattle.bring_up.specs.{Machine.bits_at, Machine.done, Machine.carried_out, Tree.oscillates, Tree.pll_at, Tree.vco_on, Tree.pll_on}
 
 -- a PLL locks if it has power, its crystal oscillates, and its dividers give a reference and a VCO within their ranges
 abbrev pub locks : Chip → ℕ → ℕ → (ℕ → ℕ) → Bool

@@ -12,7 +12,7 @@ use Rattle.step.specs.declared.Step.{Step}
 use Rattle.registers.specs.declared.Access.{Access}
 use Rattle.registers.specs.Access.{access_of, op_of, address_of}
 use Rattle.registers.specs.Map.{RESET, PLL_PWR}
-use Rattle.clock_tree.specs.Machine.{written, held, done, carried_out}
+use Rattle.bring_up.specs.Machine.{written, held, done, carried_out}
 
 abbrev pub member : ℕ → List ℕ → Bool
 member x [] = false

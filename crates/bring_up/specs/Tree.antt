@@ -14,7 +14,7 @@ use Rattle.settings.specs.declared.Sources.{Sources}
 use Rattle.registers.specs.Map.{on, RESET, XOSC_CTRL, ROSC_CTRL, PLL_CS, PLL_PWR, PLL_FBDIV_INT, PLL_PRIM}
 use Rattle.registers.specs.Map.{CLK_REF_CTRL, CLK_REF_DIV, CLK_SYS_CTRL, CLK_SYS_DIV, CLK_PERI_CTRL, CLK_USB_CTRL, CLK_USB_DIV}
 use Rattle.registers.specs.Map.{CLK_ADC_CTRL, CLK_ADC_DIV, CLK_RTC_CTRL, CLK_RTC_DIV}
-use Rattle.clock_tree.specs.Machine.{bits_at, held}
+use Rattle.bring_up.specs.Machine.{bits_at, held}
 
 -- ---- sources
 

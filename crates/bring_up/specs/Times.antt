@@ -9,8 +9,8 @@ use Rattle.settings.specs.{Settings.settings_of, Frequencies.frequencies_of, Typ
 use Rattle.refusals.specs.Refusals.{Accepted}
 use Rattle.registers.specs.Map.{CLK_PERI_CTRL, CLK_USB_CTRL, CLK_ADC_CTRL, CLK_RTC_CTRL}
 use Rattle.sheet.specs.Steps.{steps_of}
-use Rattle.clock_tree.specs.Machine.{carried_out}
-use Rattle.clock_tree.specs.Tree.{sources_at, ref_at, sys_at, peri_at, usb_at, adc_at, rtc_at, peri_divider}
+use Rattle.bring_up.specs.Machine.{carried_out}
+use Rattle.bring_up.specs.Tree.{sources_at, ref_at, sys_at, peri_at, usb_at, adc_at, rtc_at, peri_divider}
 
 -- whether a plan has the clock
 abbrev pub has_peri : Option PeriClkSrc → Bool

@@ -24,8 +24,8 @@ use Rattle.registers.specs.Map.{ROSC_CTRL, ROSC_FREQA, ROSC_FREQB, ROSC_DIV, PLL
 use Rattle.registers.specs.Map.{WATCHDOG_TICK, POWMAN_VREG, POWMAN_BOD, TIMER0_CTRL, TIMER0_CYCLES, WATCHDOG_CTRL, WATCHDOG_CYCLES}
 use Rattle.sheet.specs.Steps.{mark_steps, head_part, ring_part, settling_steps, voltage_part, pll_steps, crystal_part, source_part, ref_part}
 use Rattle.sheet.specs.Steps.{switch_steps, sys_part, peri_part, aux_part, rtc_part, last_part, step0, step1, step2, store_step}
-use Rattle.clock_tree.specs.{Carried.carries, Waits.all_waits}
-use Rattle.clock_tree.proofs.Addresses.{within, reach}
+use Rattle.bring_up.specs.{Carried.carries, ClockWaits.all_waits}
+use Rattle.bring_up.proofs.Addresses.{within, reach}
 
 pub record On (c : Chip) (own : List ℕ) (xs : List Step) : Type 0 where
   pub all : carries c xs ≡ true
