@@ -21,7 +21,7 @@ use Rattle.cases.specs.Say.{one_text, found_text, margin_text, level_text, plan_
 use Rattle.cases.specs.Calls.{chip_at, gpout_text, list_text, manual_text, sheet_text, start_text, run_text, change_text}
 use Rattle.cases.specs.Calls.{bench_start_text, bench_run_text}
 
--- the row of a case: its name, the letters of its words (words/specs/Words), and the answer from what is read
+-- the row of a case: its name, the letters of its words (specs/Words), and the answer from what is read
 pub record Row : Type 0 where
   pub name : List ℕ
   pub letters : List ℕ

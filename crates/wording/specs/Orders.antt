@@ -1,5 +1,5 @@
 -- An order is the words that ask for a plan (docs/PROGRAMS.md, check). Each order has a row: its name, the letters of the words
--- that it takes (words/specs/Words), and the plan that it asks for.
+-- that it takes (cases/specs/Words), and the plan that it asks for.
 use Rattle.std.specs.Prelude.{Option, Some, None, is_some, find}
 use Rattle.std.specs.Option.{option_and_then, option_map}
 use mathlib.Core.{Bool.Bool, List.List, List.[], List.◌∷◌}

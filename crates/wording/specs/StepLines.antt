@@ -1,4 +1,4 @@
--- A sheet in words, a line for each step: position, bytes, kind and fields (meanings/specs/Steps), and what it does to which
+-- A sheet in words, a line for each step: position, bytes, kind and fields (specs/Steps), and what it does to which
 -- register of the sheet's chip (specs/Does). Where the bytes stop being steps of that chip, a last line has what is left.
 use mathlib.Core.{Bool.Bool, Bool.true, Bool.false, List.List, List.[], List.◌∷◌, List.◌++◌}
 use Rattle.std.specs.Prelude.{ℕ, zero, suc, ◌+◌, ◌*◌, ◌/◌, length, take, drop}

@@ -1,4 +1,4 @@
--- `step_words::write_steps` meets its contract: each chunk is the eight bytes of its position, and its line is put.
+-- `steps::write_steps` meets its contract: each chunk is the eight bytes of its position, and its line is put.
 use mathlib.Core.{Path.◌≡◌, Bool.true, Bool.false}
 use Rattle.std.proofs.Common.{rules}
 use Rattle.wording.specs.StepLines.{is_step}

@@ -1,4 +1,4 @@
--- `step_words::names::name_in` meets its contract: the name is that of the row that is found.
+-- `steps::names::name_in` meets its contract: the name is that of the row that is found.
 use Rattle.wording.proofs.Named.{name_there}
 use Rattle.wording.proofs.steps.names.name_in.Goals as goal
 
