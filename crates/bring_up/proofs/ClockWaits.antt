@@ -37,7 +37,8 @@ use Rattle.bring_up.specs.Machine.{bits_at, held, carried_out}
 use Rattle.bring_up.specs.Tree.{oscillates, vco_on}
 use Rattle.bring_up.specs.ClockWaits.{locks, can_come, NoEndlessWait}
 use Rattle.bring_up.proofs.Addresses.{member}
-use Rattle.bring_up.proofs.Parts.{Calm, ring_own, voltage_own, crystal_steps, system_steps, mark, ring, voltage, source, peri, usb, adc, rtc}
+use Rattle.bring_up.proofs.Parts.{Calm, ring_own, voltage_own, crystal_steps, system_steps, mark, ring, voltage, source, peri, usb}
+use Rattle.bring_up.proofs.Parts.{adc, rtc}
 use Rattle.bring_up.proofs.Walk.{Walk, ◌then◌, Any, calmly, keeps}
 use Rattle.bring_up.proofs.Set.{last-sets}
 

@@ -22,7 +22,8 @@ use Rattle.registers.specs.Map.{on, RESET, CLK_SYS_RESUS_CTRL, CLK_REF_CTRL, CLK
 use Rattle.registers.specs.Map.{CLK_USB_CTRL, CLK_USB_DIV, CLK_ADC_CTRL, CLK_ADC_DIV, CLK_RTC_CTRL, CLK_RTC_DIV, XOSC_CTRL, XOSC_STARTUP}
 use Rattle.registers.specs.Map.{ROSC_CTRL, ROSC_FREQA, ROSC_FREQB, ROSC_DIV, PLL_CS, PLL_PWR, PLL_FBDIV_INT, PLL_PRIM, VREG, BOD}
 use Rattle.registers.specs.Map.{WATCHDOG_TICK, POWMAN_VREG, POWMAN_BOD, TIMER0_CTRL, TIMER0_CYCLES, WATCHDOG_CTRL, WATCHDOG_CYCLES}
-use Rattle.sheet.specs.Steps.{mark_steps, head_part, ring_part, settling_steps, voltage_part, pll_steps, crystal_part, source_part, ref_part}
+use Rattle.sheet.specs.Steps.{mark_steps, head_part, ring_part, settling_steps, voltage_part, pll_steps, crystal_part, source_part}
+use Rattle.sheet.specs.Steps.{ref_part}
 use Rattle.sheet.specs.Steps.{switch_steps, sys_part, peri_part, aux_part, rtc_part, last_part, step0, step1, step2, store_step}
 use Rattle.bring_up.specs.{Carried.carries, ClockWaits.all_waits}
 use Rattle.bring_up.proofs.Addresses.{within, reach}

@@ -42,8 +42,8 @@ pub crystal-2040 : (before : ℕ → ℕ)
     ∷ 0x20C  -- WATCHDOG TICK
     ∷ before 0x40064000 ∷ before 0x40064004  -- VREG, BOD: as they were
     ∷ []
-unfolding startup_sum cycles_per_us settling_cycles divided_hz settling_step pll_hz sources_of ref_hz sys_hz head_part ring_part voltage_part
-    crystal_part switch_steps sys_part peri_part aux_part rtc_part clocks_part steps_of has access_of release_mask
+unfolding startup_sum cycles_per_us settling_cycles divided_hz settling_step pll_hz sources_of ref_hz sys_hz head_part ring_part
+    voltage_part crystal_part switch_steps sys_part peri_part aux_part rtc_part clocks_part steps_of has access_of release_mask
 crystal-2040 before = refl
 
 -- the RP235x: 150 MHz from 12 MHz
@@ -69,6 +69,6 @@ pub crystal-235x : (before : ℕ → ℕ)
     ∷ 1 ∷ 12 ∷ 1 ∷ 12  -- TICKS TIMER0_CTRL, CYCLES; WATCHDOG_CTRL, CYCLES
     ∷ before 0x4010000C ∷ before 0x4010001C  -- POWMAN VREG, BOD: as they were
     ∷ []
-unfolding startup_sum cycles_per_us settling_cycles divided_hz settling_step pll_hz sources_of ref_hz sys_hz head_part ring_part voltage_part
-    crystal_part switch_steps sys_part peri_part aux_part rtc_part clocks_part steps_of has access_of release_mask
+unfolding startup_sum cycles_per_us settling_cycles divided_hz settling_step pll_hz sources_of ref_hz sys_hz head_part ring_part
+    voltage_part crystal_part switch_steps sys_part peri_part aux_part rtc_part clocks_part steps_of has access_of release_mask
 crystal-235x before = refl

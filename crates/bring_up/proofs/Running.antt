@@ -144,7 +144,8 @@ voltage reading b settling =
     }
 
 -- the crystal's part waits for no source
-crystal-quiet : (c : Chip) (delay : ℕ) (a b : Option PllConfig) (file : ℕ → ℕ) → all_waits c (source_runs c) (crystal_steps delay a b) file ≡ true
+crystal-quiet : (c : Chip) (delay : ℕ) (a b : Option PllConfig) (file : ℕ → ℕ)
+    → all_waits c (source_runs c) (crystal_steps delay a b) file ≡ true
 unfolding access_of has
 crystal-quiet Rp2040 delay (Some p) (Some q) file = refl
 crystal-quiet Rp2040 delay (Some p) None file = refl

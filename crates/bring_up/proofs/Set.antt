@@ -21,7 +21,8 @@ use Rattle.registers.specs.Map.{on, field, RESET, CLK_REF_CTRL, CLK_REF_DIV, CLK
 use Rattle.registers.specs.Map.{CLK_USB_CTRL, CLK_USB_DIV, CLK_ADC_CTRL, CLK_ADC_DIV, CLK_RTC_CTRL, CLK_RTC_DIV, XOSC_CTRL, ROSC_CTRL}
 use Rattle.registers.specs.Map.{PLL_CS, PLL_PWR, PLL_FBDIV_INT, PLL_PRIM, BLOCKS, REF_SRC, SYS_SRC, AUXSRC, ENABLE, PHASE, INT}
 use Rattle.registers.specs.Map.{FREQ_RANGE, OSCILLATOR_ON, REFDIV, FBDIV, POSTDIV1, POSTDIV2}
-use Rattle.sheet.specs.Steps.{head_part, ring_part, crystal_part, ref_part, switch_steps, sys_part, peri_part, aux_part, rtc_part, last_part}
+use Rattle.sheet.specs.Steps.{head_part, ring_part, crystal_part, ref_part, switch_steps, sys_part, peri_part, aux_part, rtc_part}
+use Rattle.sheet.specs.Steps.{last_part}
 use Rattle.bring_up.specs.Machine.{powers_down, carried_out}
 use Rattle.bring_up.specs.Tree.{oscillates}
 use Rattle.bring_up.proofs.Parts.{crystal_steps, system_steps}

@@ -94,7 +94,8 @@ both : (a b : Bool) → a ≡ true → b ≡ true → (a && (b && true)) ≡ tru
 both a b h k = rw (h, k)
 
 sys-runs : (c : Chip) (f : Sources) (reference stored whole fraction : ℕ) (src : SysClkSrc) → NonZero (sys_source f reference src)
-    → Walk c (source_runs c) (Referred c f) Any (system_steps c (eqb (sys_select src) 0) stored (sys_aux src) (sys_select src) whole fraction)
+    → Walk c (source_runs c) (Referred c f) Any
+    (system_steps c (eqb (sys_select src) 0) stored (sys_aux src) (sys_select src) whole fraction)
 unfolding access_of has
 sys-runs Rp2040 f reference stored whole fraction SysClkSrc.Ref nonzero =
     record { walk = λ file p. (ap (λ (b : Bool). b && true) p.reference, tt) }

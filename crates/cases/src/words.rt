@@ -28,8 +28,8 @@ fn limit(letter: u8) -> u32
 }
 
 // What the words of a case give: for each word a number in the row, and for a word of hex the count of its bytes there and the
-// bytes themselves at the start of a buffer. Neither is a bounded list: a case reads its numbers by index, and an absent one is 0; and a count of
-// bytes is one of its numbers, as the exported calls want it.
+// bytes themselves at the start of a buffer. Neither is a bounded list: a case reads its numbers by index, and an absent one is 0; and
+// a count of bytes is one of its numbers, as the exported calls want it.
 #[derive(Drop)]
 pub struct Words {
     pub count: usize,

@@ -9,7 +9,7 @@ use Rattle.step.proofs.Accesses.{read-sound}
 use Rattle.runner.specs.declared.{State.State, Runner.Runner}
 use Rattle.runner.specs.Run.{Outcome, outside, turn_of, joined, in_runner, advance_of, stepper_of}
 use Rattle.numbers.specs.{Answers.answer_number, Run.with_freqs, Run.progress_number, Run.progress_with}
-use Rattle.runner.proofs.{Calls.inside, Calls.call-outside, Calls.every-turn, Steps.turn_formed}
+use Rattle.runner.proofs.{Calls.inside, Calls.call-outside, Calls.every-turn, Steps.turn_formed, Steps.store_fits}
 use Rattle.std.proofs.lemmas.Bool.Decides.{nat_tests}
 
 -- the frequencies follow the four numbers of the state and the kept length
@@ -54,3 +54,5 @@ unfolding advance_of stepper_of
 advanced r sheet ready = refl
 
 pub ruleset calling = (nat_tests, turn_formed, position_fits, turn_word, advanced)
+
+pub ruleset storing = (nat_tests, store_fits, set_behind, held_behind)

@@ -44,7 +44,8 @@ pub fn change(
     words: &mut [u32; 11],
     steps: &mut [u32; 28],
 ) -> u64
-    ensures { SlotsCall (asked_with (pick wakes wake_of sleep_of) slots.old slot words.old) slots.old words.old steps.old result slots.new words.new steps.new }
+    ensures { SlotsCall (asked_with (pick wakes wake_of sleep_of) slots.old slot words.old) slots.old words.old steps.old
+        result slots.new words.new steps.new }
 {
     if !((3 < slot) | are_slots(slots)) {
         return answers::MALFORMED;

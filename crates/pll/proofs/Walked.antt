@@ -7,7 +7,8 @@ use native.Mathlib.{Omega.arith, Nat.eq-or-lt_of_le}
 use lib.{Dec.leb, ListN.length}
 use borrow.Author.Tests.{leb-false, lt-leb}
 use Rattle.base.specs.Choice.{pick}
-use Rattle.pll.specs.{Ranges.reference_min, Ranges.vco_max, Search.falling, Search.rising, Law.VcoPermits, Law.WalkTakesPermitted, Law.WalkWithinEnds}
+use Rattle.pll.specs.{Ranges.reference_min, Ranges.vco_max, Search.falling, Search.rising, Law.VcoPermits, Law.WalkTakesPermitted}
+use Rattle.pll.specs.{Law.WalkWithinEnds}
 use Rattle.pll.specs.Ends.{first_permitted, highest_of, lowest_of, walk_down, walked_of, Among}
 use Rattle.pll.proofs.Ends.{Served, served, unserved, highest-value, highest-none, lowest-some, highest-right, lowest-right}
 use Rattle.pll.proofs.Ends.{between-permitted, outside-refused}

@@ -33,7 +33,8 @@ pub(crate) fn read_chip(s: &[Step]) -> (Chip, &[Step])
 
 // Builds a ring from its five steps: strengths 0 to 3, strengths 4 to 7, divider, range and the store.
 fn ring_of(pass: u16, s: &[Step]) -> RoscConfig
-    ensures { Some result ≡ cut_ring (ring_from pass (step_at s.now 0) (step_at s.now 1) (step_at s.now 2) (step_at s.now 3) (step_at s.now 4)) }
+    ensures { Some result
+        ≡ cut_ring (ring_from pass (step_at s.now 0) (step_at s.now 1) (step_at s.now 2) (step_at s.now 3) (step_at s.now 4)) }
 {
     let (low, high) = (ahead(s, 0), ahead(s, 1));
     let drive_strength = DriveStrength {

@@ -27,6 +27,7 @@ calm Rp235x reading = calmly (eqb 11 reading)
 
 pub default-refused : (chip : Chip) (reading : ℕ) → reading ≤ (facts_of chip).top_reading
     → refusal_of (settings_of (default_plan chip) reading) reading ≡ Some why.RefClock
-unfolding strengths_over ring_divider_over startup_over sys_pll_invalid usb_pll_invalid divider_bad reference_bad refusal_of ref_hz sources_of
+unfolding strengths_over ring_divider_over startup_over sys_pll_invalid usb_pll_invalid divider_bad reference_bad refusal_of ref_hz
+    sources_of
 default-refused Rp2040 reading h = rw (le-ltb 15 reading h, calm Rp2040 reading)
 default-refused Rp235x reading h = rw (le-ltb 31 reading h, calm Rp235x reading)

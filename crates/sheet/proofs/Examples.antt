@@ -114,8 +114,8 @@ pub crystal-kinds-235 : map (λ (x : Step). x.kind) (steps_of 11 (settings_of (c
     ∷ kind.AdcDivider ∷ kind.AdcControl ∷ kind.Store
     ∷ kind.Release ∷ kind.WaitReleased ∷ []
 unfolding startup_sum cycles_per_us settling_cycles divided_hz settling_step pll_hz sources_of ref_hz sys_hz strengths_over
-    ring_divider_over settling_over startup_over sys_pll_invalid usb_pll_invalid divider_bad reference_bad whole_bad peri_bad aux_bad rtc_bad
-    refusal_of head_part ring_part voltage_part crystal_part switch_steps
+    ring_divider_over settling_over startup_over sys_pll_invalid usb_pll_invalid divider_bad reference_bad whole_bad peri_bad aux_bad
+    rtc_bad refusal_of head_part ring_part voltage_part crystal_part switch_steps
     sys_part peri_part aux_part rtc_part clocks_part steps_of
 crystal-kinds-235 = refl
 
@@ -128,7 +128,7 @@ pub crystal-fields-235 :
     × (at 12 ≡ step1 kind.RingDivider 0xAA10)
     × (at 62 ≡ step1 kind.WaitReleased 0x1FFFFF7)
 unfolding release_mask startup_sum cycles_per_us settling_cycles divided_hz settling_step pll_hz sources_of ref_hz sys_hz strengths_over
-    ring_divider_over settling_over startup_over sys_pll_invalid usb_pll_invalid divider_bad reference_bad whole_bad peri_bad aux_bad rtc_bad
-    refusal_of head_part ring_part voltage_part crystal_part switch_steps
+    ring_divider_over settling_over startup_over sys_pll_invalid usb_pll_invalid divider_bad reference_bad whole_bad peri_bad aux_bad
+    rtc_bad refusal_of head_part ring_part voltage_part crystal_part switch_steps
     sys_part peri_part aux_part rtc_part clocks_part steps_of
 crystal-fields-235 = (refl, refl, refl, refl)

@@ -23,9 +23,9 @@ fn gather(words: &mut Words, s: Settings, f: Frequencies, reading: u8) -> usize
 {
     let chip = s.board.chip;
     let at = sources::put_start(words, chip);
-    let at = sources::put_ring(words, at, chip.facts().pass, s.rosc);
+    let at = sources::configure_rosc(words, at, chip.facts().pass, s.rosc);
     let at = sources::put_voltage(words, at, reading, s.board, s.settling);
-    let at = sources::put_crystal(words, at, s.xosc);
+    let at = sources::start_xosc(words, at, s.xosc);
     clocks::put_clocks(words, at, s, f)
 }
 

@@ -46,7 +46,7 @@ pub fn put_start(words: &mut Words, chip: Chip) -> usize
 
 // Appends the ring part; without a ring it is only the store of 0 Hz.
 #[tactic(auto, unfolding(crate::specs::Steps::ring_part))]
-pub fn put_ring(words: &mut Words, at: usize, pass: u16, ring: Option<RoscConfig>) -> usize
+pub fn configure_rosc(words: &mut Words, at: usize, pass: u16, ring: Option<RoscConfig>) -> usize
     ensures { held words.new result ≡ pushes (held words.old at) (ring_part pass ring) }
 {
     let at = match ring {
@@ -116,7 +116,7 @@ pub fn put_voltage(
 }
 
 // Appends the nine steps of a PLL that is present.
-fn put_pll(words: &mut Words, at: usize, which: Pll, pll: Option<PllConfig>) -> usize
+fn configure_pll(words: &mut Words, at: usize, which: Pll, pll: Option<PllConfig>) -> usize
     ensures { held words.new result ≡ pushes (held words.old at) (pll_steps (pll_number which) pll) }
 {
     let which = u64::from(which);
@@ -140,7 +140,7 @@ fn put_pll(words: &mut Words, at: usize, which: Pll, pll: Option<PllConfig>) -> 
 
 // Appends the crystal part: the crystal, the system PLL, the USB PLL. It is empty without a crystal.
 #[tactic(auto, unfolding(crate::specs::Steps::crystal_part))]
-pub fn put_crystal(words: &mut Words, at: usize, crystal: Option<Crystal>) -> usize
+pub fn start_xosc(words: &mut Words, at: usize, crystal: Option<Crystal>) -> usize
     ensures { held words.new result ≡ pushes (held words.old at) (crystal_part crystal) }
 {
     match crystal {
@@ -148,8 +148,8 @@ pub fn put_crystal(words: &mut Words, at: usize, crystal: Option<Crystal>) -> us
             let at = add(words, at, Kind::Startup, [on.delay]);
             let at = add(words, at, Kind::CrystalOn, []);
             let at = add(words, at, Kind::WaitStable, []);
-            let at = put_pll(words, at, Pll::Sys, on.sys);
-            put_pll(words, at, Pll::Usb, on.usb)
+            let at = configure_pll(words, at, Pll::Sys, on.sys);
+            configure_pll(words, at, Pll::Usb, on.usb)
         }
         None => at,
     }

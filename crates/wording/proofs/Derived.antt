@@ -12,7 +12,8 @@ use Rattle.chip.specs.contracts.Chip as chip
 use Rattle.pll.specs.declared.PllConfig.{PllConfig}
 use Rattle.pll.specs.contracts.PllConfigPartialEq.TheImpl as pll
 use Rattle.config.specs.declared.{RoscConfig.RoscConfig, SysClkSrc.SysClkSrc, PeriClkSrc.PeriClkSrc}
-use Rattle.config.specs.declared.{AuxClkConfig.AuxClkConfig, AuxClkSrc.AuxClkSrc, RtcClkConfig.RtcClkConfig, RoscRange.RoscRange, RefClkSrc.RefClkSrc}
+use Rattle.config.specs.declared.{AuxClkConfig.AuxClkConfig, AuxClkSrc.AuxClkSrc, RtcClkConfig.RtcClkConfig, RoscRange.RoscRange}
+use Rattle.config.specs.declared.{RefClkSrc.RefClkSrc}
 use Rattle.config.specs.contracts.RoscRange as range
 use Rattle.config.specs.contracts.RefClkSrc as ref_src
 use Rattle.config.specs.contracts.SysClkSrc as sys_src
@@ -22,9 +23,11 @@ use Rattle.config.specs.contracts.RoscConfigPartialEq.TheImpl as ring
 use Rattle.config.specs.contracts.AuxClkConfigPartialEq.TheImpl as aux
 use Rattle.config.specs.contracts.RtcClkConfigPartialEq.TheImpl as rtc
 use Rattle.settings.specs.declared.Crystal.{Crystal}
-use Rattle.config.specs.Codes.{range_code, range_from, ref_code, ref_from, sys_code, sys_source_from, peri_aux, peri_from, aux_code, aux_from}
+use Rattle.config.specs.Codes.{range_code, range_from, ref_code, ref_from, sys_code, sys_source_from, peri_aux, peri_from, aux_code}
+use Rattle.config.specs.Codes.{aux_from}
 use Rattle.settings.proofs.Decoded.{range-code, ref-code, peri-code, aux-code}
-use Rattle.wording.specs.Parts.{chip_code, ring_numbers, crystal_numbers, pll_numbers, cycles_numbers, peri_numbers, aux_numbers, rtc_numbers}
+use Rattle.wording.specs.Parts.{chip_code, ring_numbers, crystal_numbers, pll_numbers, cycles_numbers, peri_numbers, aux_numbers}
+use Rattle.wording.specs.Parts.{rtc_numbers}
 use Rattle.wording.specs.Differences.{agree}
 use Rattle.wording.proofs.Decode.{chip_at, code-back, sys-back}
 

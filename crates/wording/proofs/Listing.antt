@@ -13,7 +13,8 @@ use Rattle.registers.specs.{declared.Access.Access, Access.access_of}
 use Rattle.registers.specs.Access.{op_of, address_of, mask_of, value_of}
 use Rattle.readback.specs.Law.{chip_in}
 use Rattle.wording.specs.Does.{word_text, register_text, write_text, change_text, wait_text, pause_text, does_text}
-use Rattle.wording.specs.StepLines.{on_chip, found_in, is_step, meaning_text, line_text, found_at, line_at, lines_from, lines_of, steps_text}
+use Rattle.wording.specs.StepLines.{on_chip, found_in, is_step, meaning_text, line_text, found_at, line_at, lines_from, lines_of}
+use Rattle.wording.specs.StepLines.{steps_text}
 use Rattle.wording.proofs.{Named.name-most, EachNamed.Paused, EachNamed.NamedIn, EachNamed.each-named}
 use Rattle.wording.proofs.Lengths.{step-most}
 

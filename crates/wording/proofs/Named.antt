@@ -13,7 +13,8 @@ use Rattle.std.proofs.lemmas.Bool.{and_parts}
 use Rattle.chip.specs.declared.{Chip.Chip, Chip.TheVariants.Rp2040, Chip.TheVariants.Rp235x}
 use Rattle.text.specs.Ascii.{ascii}
 use Rattle.wording.proofs.Tables.{all_within}
-use Rattle.wording.specs.StepNames.{Row, name_rows, name_in, name_of, Place, address_on, is_at, row_on, rows_on, bytes_at, bytes_of, IsTable}
+use Rattle.wording.specs.StepNames.{Row, name_rows, name_in, name_of, Place, address_on, is_at, row_on, rows_on, bytes_at, bytes_of}
+use Rattle.wording.specs.StepNames.{IsTable}
 
 -- ---- the code's table: the bytes of the row that is found there
 
@@ -42,8 +43,10 @@ name-bytes (r ∷ rows) a = rw (name-bytes rows a)
 
 pub name_there : (c : Chip) (a : ℕ) (ps : List Place) → IsTable ps → name_of c a ≡ name_found (find (is_at c a) ps)
 unfolding name_of
-name_there Rp2040 a ps t = sym (name-bytes (name_rows Rp2040) a) ∙ ap (λ (rs : List (ℕ × List ℕ)). bytes_at rs a) (sym t.old) ∙ found Rp2040 a ps
-name_there Rp235x a ps t = sym (name-bytes (name_rows Rp235x) a) ∙ ap (λ (rs : List (ℕ × List ℕ)). bytes_at rs a) (sym t.new) ∙ found Rp235x a ps
+name_there Rp2040 a ps t =
+    sym (name-bytes (name_rows Rp2040) a) ∙ ap (λ (rs : List (ℕ × List ℕ)). bytes_at rs a) (sym t.old) ∙ found Rp2040 a ps
+name_there Rp235x a ps t =
+    sym (name-bytes (name_rows Rp235x) a) ∙ ap (λ (rs : List (ℕ × List ℕ)). bytes_at rs a) (sym t.new) ∙ found Rp235x a ps
 
 -- ---- a name's length
 

@@ -38,7 +38,7 @@ pub(crate) fn put_state(numbers: &mut [u32; 15], s: State)
 
 // A store that is handed out sets the frequency of its clock. The runner's own `store` asks for a step of a sheet, so it is private,
 // and so is this: a public one would have to test the clock and the Hz, which takes 36 bytes of a firmware that is at its limit.
-#[tactic(auto, using(std::proofs::lemmas::Bool::Decides::nat_tests, runner::proofs::Steps::store_fits, crate::proofs::Runners::set_behind, crate::proofs::Runners::held_behind), unfolding(runner::specs::Run::stored_by))]
+#[tactic(auto, using(crate::proofs::Runners::storing), unfolding(runner::specs::Run::stored_by))]
 fn put_store(numbers: &mut [u32; 15], step: Step)
     requires { WellFormed step }
     ensures { numbers.new ≡ with_freqs (stored_by step (drop 5 numbers.old)) numbers.old }

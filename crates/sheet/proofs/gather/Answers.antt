@@ -8,9 +8,9 @@ unfolding steps_of
 returns c known = rw (
   c.put_clocks.ensures,
   known,
-  c.put_crystal-at.ensures,
+  c.start_xosc-at.ensures,
   c.put_voltage-at.ensures,
-  c.put_ring-at.ensures,
+  c.configure_rosc-at.ensures,
   c.put_start-at.ensures,
   c.facts.ensures,
 ) (simp pushes-append)

@@ -10,5 +10,6 @@ use Rattle.text.proofs.are_digits.Goals as goal
 pub returns-then-contains : goal.returns-then-contains
 returns-then-contains c =
     let s = c.args.s.now in
-    let e = all_from_yields_List is_ascii_digit _ _ _ c.all.ensures.ran (YieldsList-from_slice s cc) (λ x t q k. search (rules, tests)) ∙ each_digit s in
+    let all = all_from_yields_List is_ascii_digit _ _ _ c.all.ensures.ran (YieldsList-from_slice s cc) (λ x t q k. search (rules, tests)) in
+    let e = all ∙ each_digit s in
     search (rules, tests, e)
