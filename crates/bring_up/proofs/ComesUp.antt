@@ -17,7 +17,7 @@ use Rattle.refusals.specs.Refusals.{Accepted}
 use Rattle.sheet.specs.Steps.{head_part, ring_part, voltage_part, crystal_part, switch_steps, sys_part, peri_part, aux_part}
 use Rattle.sheet.specs.Steps.{rtc_part, clocks_part, steps_of, most_steps}
 use Rattle.sheet.specs.Writer.{sheet_bytes}
-use Rattle.sheet.proofs.{Counts.chip-few, Counts.steps-few, Sheets.steps-formed, Demand3.answered}
+use Rattle.sheet.proofs.{Sheets.chip-few, Sheets.steps-few, Sheets.steps-formed, Demand3.answered}
 use Rattle.sheet.proofs.Examples.{Gives, longest_plan, longest-steps, longest235, longest-steps-235}
 use Rattle.bring_up.specs.{Up.plan_steps, Wait.HearsAtMost, Wait.waits_in, Wait.UpAfter, Wait.UpWithin, Slow.slowest}
 use Rattle.bring_up.specs.ComesUp.{max_waits, most_calls, ComesUp, ComesUpReady, InitComesUp, longest_wait, LongestCovers}

@@ -7,7 +7,7 @@ use Rattle.config.specs.declared.ClockConfig.{ClockConfig}
 use Rattle.settings.specs.{Settings.settings_of, Typed.Typed}
 use Rattle.refusals.specs.Refusals.{Accepted}
 use Rattle.sheet.specs.Writer.{sheet_bytes}
-use Rattle.sheet.proofs.{Counts.steps-few, Sheets.steps-formed}
+use Rattle.sheet.proofs.{Sheets.steps-few, Sheets.steps-formed}
 use Rattle.step.specs.Size.{bad_size}
 use Rattle.runner.specs.Calls.{ready_at}
 use Rattle.step.specs.Sheet.{encoded}

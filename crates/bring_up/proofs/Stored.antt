@@ -15,7 +15,7 @@ use Rattle.settings.specs.Settings.{settings_of}
 use Rattle.settings.specs.Frequencies.{rtc_hz, tenth_of, stored_of, ten_of}
 use Rattle.sheet.specs.Steps.{steps_of}
 use Rattle.sheet.specs.Stores.{stores_in, stores_from}
-use Rattle.sheet.proofs.Stores.{sheet-stores}
+use Rattle.sheet.proofs.Sheets.{sheet-stores}
 use Rattle.runner.specs.{Run.stored_by, Calls.stores_of}
 
 no_store : (x : Step) (freqs : List ℕ) → is x.kind kind.Store ≡ false → stored_by x freqs ≡ freqs

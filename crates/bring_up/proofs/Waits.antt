@@ -7,7 +7,7 @@ use Rattle.step.specs.declared.Step.{Step}
 use Rattle.chip.specs.declared.{Chip.Chip, Chip.TheVariants.Rp2040, Chip.TheVariants.Rp235x}
 use Rattle.settings.specs.declared.Settings.{Settings}
 use Rattle.sheet.specs.Steps.{steps_of}
-use Rattle.sheet.proofs.Counts.{weight, weigh, clocks_kinds, sheet_kinds, steps-most}
+use Rattle.sheet.proofs.{Laws.weight, Laws.weigh, Laws.clocks_kinds, Laws.sheet_kinds, Sheets.steps-most}
 use Rattle.runner.specs.Run.{is_wait}
 use Rattle.bring_up.specs.{Wait.waits_in, ComesUp.max_waits}
 

@@ -16,7 +16,7 @@ use Rattle.refusals.proofs.Accepted.{accepted-by}
 use lib.Seq.{take_all}
 use Rattle.step.specs.Sheet.{max_steps, encoded}
 use Rattle.sheet.specs.Steps.{steps_of}
-use Rattle.sheet.proofs.{Sheets.settings-back, Sheets.steps-formed, Counts.steps-few}
+use Rattle.sheet.proofs.{Sheets.settings-back, Sheets.steps-formed, Sheets.steps-few}
 use Rattle.sheet.specs.Writer.{sheet_bytes}
 use Rattle.settings.specs.LeastPlan.{xosc_for, time_for, plan_of}
 use Rattle.readback.specs.{Steps.steps_in, Steps.steps_read, Read.plan_in}

@@ -22,7 +22,7 @@ use Rattle.settings.specs.Typed.{RtcTyped, Typed}
 use Rattle.refusals.specs.Rules.{strengths_over, ring_divider_over, pll_invalid, sys_pll_invalid, usb_pll_invalid, whole_bad, rtc_bad}
 use Rattle.refusals.specs.Refusals.{Accepted}
 use Rattle.refusals.proofs.Accepted.{accepted-by, strengths-few, divider-good, whole-good}
-use Rattle.sheet.proofs.{Facts.none_more, Facts.AuxFits, Facts.aux-fits, Stores.ring-source}
+use Rattle.sheet.proofs.{Facts.none_more, Facts.AuxFits, Facts.aux-fits, Parts.ring-source}
 use Rattle.readback.specs.Cut.{cut_ring, cut_pll, cut_crystal, cut_aux, cut_rtc, cut_chip, cut_settings}
 
 fits : (w x : ℕ) → x < 2 ^ w → x % 2 ^ w ≡ x

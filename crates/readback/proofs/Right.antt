@@ -23,7 +23,7 @@ use Rattle.settings.specs.declared.Settings.{Settings}
 use Rattle.settings.specs.{Settings.crystal_of, Settings.ring_hz, Settings.settings_of, Frequencies.sources_of}
 use Rattle.settings.specs.Typed.{RtcTyped, Typed}
 use Rattle.refusals.proofs.Accepted.{accepted-by}
-use Rattle.sheet.proofs.{Stores.ring-source, Demand3.same-sheets}
+use Rattle.sheet.proofs.{Parts.ring-source, Demand3.same-sheets}
 use Rattle.refusals.specs.Refusals.{Accepted}
 use Rattle.step.specs.declared.Step.{Step}
 use Rattle.step.proofs.Sheets.{length-encoded}

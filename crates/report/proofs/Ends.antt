@@ -13,7 +13,7 @@ use Rattle.config.specs.Board.{board_of}
 use Rattle.settings.specs.Settings.{settings_of}
 use Rattle.sheet.specs.Steps.{steps_of, most_steps}
 use Rattle.sheet.specs.Writer.{sheet_bytes, InitCall}
-use Rattle.sheet.proofs.{Counts.chip-few, Kept.kept, Kept.own-refusal}
+use Rattle.sheet.proofs.{Sheets.chip-few, Kept.kept, Kept.own-refusal}
 use Rattle.text.specs.Reply.{refused_line}
 use Rattle.report.specs.{Lines.lines_of, Lines.report_names}
 use Rattle.report.specs.Report.{reading, printed_numbers, plan_report}

@@ -12,7 +12,7 @@ use Rattle.config.specs.declared.ClockConfig.{ClockConfig}
 use Rattle.settings.specs.{Settings.settings_of, Frequencies.ten_of}
 use Rattle.settings.proofs.Small.{Hz}
 use Rattle.refusals.proofs.Stored.{EachHz, ten-small}
-use Rattle.sheet.proofs.Formed.{masks}
+use Rattle.sheet.proofs.Parts.{masks}
 use Rattle.sheet.specs.Steps.{release_mask}
 use Rattle.text.specs.Reply.{refused_line}
 use Rattle.text.proofs.Refused.{refused-most}

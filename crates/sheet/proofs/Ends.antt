@@ -20,7 +20,7 @@ use Rattle.settings.specs.declared.Frequencies.{Frequencies}
 use Rattle.refusals.proofs.Examined.{examined-refused, examined-accepted}
 use Rattle.refusals.specs.Refusals.{refusal_of, examined_of, Accepted}
 use Rattle.sheet.specs.{Steps.steps_of, Gather.Gathered, Gather.held, Gather.word_of, Gather.pushes}
-use Rattle.sheet.proofs.Counts.{steps-few}
+use Rattle.sheet.proofs.Sheets.{steps-few}
 use Rattle.sheet.specs.Writer.{sheet_bytes, refusal_in, init_answer, init_buffer, InitCall}
 use Rattle.sheet.proofs.Gathering.{Holds, holds-pushes, turned-back}
 

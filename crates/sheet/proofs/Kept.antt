@@ -7,7 +7,7 @@ use mathlib.Core.{Path.◌≡◌, Path.refl, Path.sym, Path.ap, Path.◌∙◌, 
 use Prim.Native.Nat.{ℕ, ◌≤◌}
 use native.Mathlib.Omega.{arith}
 use lib.{ListN.length, ListN.take, ListN.drop, ListN.length-append, Seq.take_at}
-use Rattle.base.specs.Answer.{value, refusal, answer_of}
+use Rattle.base.specs.Answer.{refusal, answer_of}
 use Rattle.config.specs.declared.ClockConfig.{ClockConfig}
 use Rattle.refusals.specs.Refusals.{Accepted}
 use Rattle.sheet.specs.Writer.{sheet_bytes, refusal_in, InitCall}
