@@ -1,10 +1,16 @@
--- The range test is true for a number within its bounds, and no other.
-use mathlib.Core.Path.{◌≡◌}
-use mathlib.Core.Bool.{true}
+-- Two laws of tests: a proof may go by a test's two answers, and the range test is true for a number within its bounds
+-- and for no other.
+use mathlib.Core.Path.{◌≡◌, refl}
+use mathlib.Core.Bool.{Bool, true, false}
 use Prim.Native.Nat.{ℕ, ◌≤◌}
 use Rattle.std.proofs.lemmas.Bool.{and_parts, leb-true, le-leb}
 use lib.Dec.{leb}
 use Rattle.base.specs.Choice.{in_range}
+
+-- a case split on a test
+pub either_way : {C : Type 0} (t : Bool) → (t ≡ true → C) → (t ≡ false → C) → C
+either_way true f g = f refl
+either_way false f g = g refl
 
 pub in-range : (low high x : ℕ) → in_range low high x ≡ true → (low ≤ x) × (x ≤ high)
 in-range low high x e =
