@@ -1,60 +1,42 @@
 -- The index of the first occurrence of a byte, the bytes before it, and how many bytes of an input decide the number on its first
 -- line.
-use mathlib.Core.{Path.◌≡◌, Path.refl, Path.sym, Path.ap, Path.◌∙◌, Bool.Bool, Bool.true, Bool.false}
+use mathlib.Core.{Path.◌≡◌, Path.refl, Path.sym, Path.ap, Path.◌∙◌, Bool.Bool}
 use Rattle.std.specs.Prelude.{Some, None, cond, not}
 use Rattle.std.specs.Option.{unwrap_or}
 use Rattle.std.proofs.lemmas.List.Sums.{prefix_len-le-length}
 use Rattle.std.specs.List.{position_or_len}
 use mathlib.Core.{List.List, List.[], List.◌∷◌, Logic.◌⊎◌, Logic.inl, Logic.inr}
-use Prim.Native.Nat.{ℕ, zero, suc, ◌+◌, ◌-◌, ◌≤◌, ◌<◌}
+use Prim.Native.Nat.{ℕ, zero, suc, ◌-◌, ◌≤◌, ◌<◌}
 use native.Mathlib.{Decide.dec_le, Omega.arith}
 use borrow.Author.Tests.{le-leb, lt-leb, ltb-false}
 use lib.{Dec.eqb, Dec.ltb, ListN.length, ListN.take, ListN.drop, ListN.length-take}
 use lib.Seq.{take_all}
-use Rattle.base.specs.{Answer.refusal, Choice.pick}
+use Rattle.base.{specs.Answer.refusal, proofs.Bools.either_way}
 use Rattle.text.specs.{Decimal.number_of, Words.up_to, Words.line_number_of}
 use Rattle.text.proofs.Decimals.{bad-length}
 
 -- the place of the first that passes, or the length
 pub place-or-length : (p : ℕ → Bool) (xs : List ℕ)
     → unwrap_or (cond (ltb (position_or_len p xs) (length xs)) (Some (position_or_len p xs)) None) (length xs) ≡ position_or_len p xs
-place-or-length p xs = go (ltb (position_or_len p xs) (length xs)) refl
-  where
-    go : (t : Bool) → ltb (position_or_len p xs) (length xs) ≡ t
-        → unwrap_or (cond t (Some (position_or_len p xs)) None) (length xs) ≡ position_or_len p xs
-    go true e = refl
-    go false e =
-        omega (arith, prefix_len-le-length (λ x. not (p x)) xs, ltb-false (position_or_len p xs) (length xs) e)
+place-or-length p xs =
+    either_way (ltb (position_or_len p xs) (length xs)) (λ e. rw e)
+    (λ e. rw e (omega (arith, prefix_len-le-length (λ x. not (p x)) xs, ltb-false (position_or_len p xs) (length xs) e)))
 
 -- the bytes up to the first b are as many as its index says
 pub length-up : (b : ℕ) (xs : List ℕ) → length (up_to b xs) ≡ position_or_len (λ x. eqb x b) xs
 length-up b [] = refl
-length-up b (x ∷ xs) = go (eqb x b) (length-up b xs)
-  where
-    go : (t : Bool) → length (up_to b xs) ≡ position_or_len (λ y. eqb y b) xs
-        → length (pick t [] (x ∷ up_to b xs)) ≡ cond (not t) (1 + position_or_len (λ y. eqb y b) xs) 0
-    go true e = refl
-    go false e = omega arith
+length-up b (x ∷ xs) = either_way (eqb x b) (λ e. rw e) (λ e. rw e (omega (arith, length-up b xs)))
 
 -- the bytes before the first b are those up to it
 pub take-up : (b : ℕ) (xs : List ℕ) → take (length (up_to b xs)) xs ≡ up_to b xs
 take-up b [] = refl
-take-up b (x ∷ xs) = go (eqb x b) (take-up b xs)
-  where
-    go : (t : Bool) → take (length (up_to b xs)) xs ≡ up_to b xs
-        → take (length (pick t [] (x ∷ up_to b xs))) (x ∷ xs) ≡ pick t [] (x ∷ up_to b xs)
-    go true e = refl
-    go false e = ap (λ (l : List ℕ). x ∷ l) e
+take-up b (x ∷ xs) = either_way (eqb x b) (λ e. rw e) (λ e. rw e (ap (λ (l : List ℕ). x ∷ l) (take-up b xs)))
 
 pub up-take : (b n : ℕ) (s : List ℕ) → up_to b (take n s) ≡ take n (up_to b s)
 up-take b zero s = refl
 up-take b (suc n) [] = refl
-up-take b (suc n) (x ∷ xs) = go (eqb x b) (up-take b n xs)
-  where
-    go : (t : Bool) → up_to b (take n xs) ≡ take n (up_to b xs)
-        → pick t [] (x ∷ up_to b (take n xs)) ≡ take (suc n) (pick t [] (x ∷ up_to b xs))
-    go true e = refl
-    go false e = ap (λ (l : List ℕ). x ∷ l) e
+up-take b (suc n) (x ∷ xs) =
+    either_way (eqb x b) (λ e. rw e) (λ e. rw e (ap (λ (l : List ℕ). x ∷ l) (up-take b n xs)))
 
 pub too_long : (cs : List ℕ) → 10 < length cs → number_of cs ≡ refusal 24
 too_long cs h = bad-length cs (rw (le-leb 1 (length cs) (omega arith), lt-leb (length cs) 10 h))
