@@ -7,6 +7,7 @@ use borrow.Author.Tests.{eqb-true, eqb-false, eq-eqb, ltb-true, ltb-false}
 use lib.Dec.{ltb}
 use Rattle.std.specs.Prelude.{cond}
 use Rattle.std.proofs.lemmas.Bool.{and_parts}
+use Rattle.base.proofs.Bools.{either_way}
 use Rattle.step.specs.declared.kind.Kind.{Kind}
 use Rattle.step.specs.declared.kind.Kind.TheVariants as kind
 use Rattle.step.specs.contracts.kind.KindPartialEq.TheImpl as derived
@@ -19,14 +20,9 @@ every p (suc n) = p n && every p n
 
 below : (p : ℕ → Bool) (n : ℕ) → every p n ≡ true → (k : ℕ) → k < n → p k ≡ true
 below p zero t k h = absurd (omega arith)
-below p (suc n) t k h = go (eqb k n) refl (below p n both.1 k)
-  where
-    both : (p n ≡ true) × (every p n ≡ true)
-    both = and_parts (p n) (every p n) t
-
-    go : (b : Bool) → eqb k n ≡ b → (k < n → p k ≡ true) → p k ≡ true
-    go true e f = rw (eqb-true k n e) both.0
-    go false e f = let other = eqb-false k n e in f (omega arith)
+below p (suc n) t k h =
+    let both = and_parts (p n) (every p n) t in
+    either_way (eqb k n) (λ e. rw (eqb-true k n e) both.0) (λ e. below p n both.1 k (omega (arith, eqb-false k n e)))
 
 -- The number x is not one of 1 to n.
 abbrev pub NoneOf : ℕ → ℕ → Type 0
@@ -50,14 +46,11 @@ unknown_of (suc n) h = sym (past (suc n) (outside 45 (suc n) h (omega arith)))
 -- The number of the kind of a number is the number.
 pub number-of : (x : ℕ) → kind_number (kind_of x) ≡ x
 unfolding kinds
-number-of x = go (ltb x 46) refl
-  where
-    back : ℕ → Bool
-    back j = eqb (kind_number (kind_of j)) j
-
-    go : (b : Bool) → ltb x 46 ≡ b → kind_number (kind_of x) ≡ x
-    go true e = eqb-true (kind_number (kind_of x)) x (below back 46 refl x (ltb-true x 46 e))
-    go false e = ap kind_number (past x (let h = ltb-false x 46 e in omega arith))
+number-of x =
+    let back : ℕ → Bool = λ j. eqb (kind_number (kind_of j)) j in
+    either_way (ltb x 46)
+    (λ e. eqb-true (kind_number (kind_of x)) x (below back 46 refl x (ltb-true x 46 e)))
+    (λ e. ap kind_number (past x (omega (arith, ltb-false x 46 e))))
 
 -- A known kind is that of its number.
 pub of_number : (k : Kind) → known k ≡ true → kind_of (kind_number k) ≡ k
