@@ -4,7 +4,7 @@ use mathlib.Core.{Path.◌≡◌, Path.refl, Path.sym, Path.ap, Logic.◌⊎◌,
 use mathlib.Core.{List.List, List.[], List.◌∷◌, List.◌++◌, List.map, List.flat_map, Bool.Bool, Bool.true, Bool.false}
 use Prim.Native.Nat.{ℕ, zero, suc, ◌+◌, ◌≤◌, ◌<◌}
 use native.Mathlib.{Omega.arith, Nat.eq-or-lt_of_le}
-use Rattle.base.specs.Choice.{pick}
+use Rattle.base.{specs.Choice.pick, proofs.Bools.either_way}
 use Rattle.pll.specs.Search.{falling, rising, keep}
 use Rattle.pll.specs.declared.PllConfig.{PllConfig}
 
@@ -93,26 +93,23 @@ module _ (by : PllConfig → ℕ) where
     pub lists-keep : (cs : List PllConfig) (C : Kind) → Lists by C cs → Lists by (Passes C) (keep test cs)
     unfolding Lists keep
     lists-keep [] C l = λ d m. l d m.0
-    lists-keep (c ∷ cs) C l = go (test c) refl (lists-keep cs After l.2)
-      where
-        After : Kind
-        After d = C d × (by d < by c)
-
-        go : (b : Bool) → test c ≡ b → Lists by (Passes After) (keep test cs)
-            → Lists by (Passes C) (pick b (c ∷ keep test cs) (keep test cs))
-        go true e rest = (
+    lists-keep (c ∷ cs) C l =
+        let After : Kind = λ d. C d × (by d < by c) in
+        let rest = lists-keep cs After l.2 in
+        either_way (test c)
+        (λ e.
+        rw e (
           (l.0, e),
           λ d m. l.1 d m.0,
           lists-same (Passes After) (λ d. Passes C d × (by d < by c))
               (λ d m. ((m.0.0, m.1), m.0.1)) (λ d m. ((m.0.0, m.1), m.0.1)) (keep test cs) rest,
-        )
-        go false e rest =
-            lists-same (Passes After) (Passes C) (λ d m. (m.0.0, m.1))
-            (λ d m. ((m.0, ⊎_elim (λ f. absurd (passed d m f)) (λ k. k) (l.1 d m.0)), m.1))
-            (keep test cs) rest
-          where
-            passed : (d : PllConfig) → Passes C d → d ≡ c → ⊥
-            passed d m f = let z : ◌≡◌ {A = ℕ} 0 1 = cc (m.1, ap test f, e) in omega arith
+        ))
+        (λ e.
+        let passed : (d : PllConfig) → Passes C d → d ≡ c → ⊥
+        = λ d m f. let z : ◌≡◌ {A = ℕ} 0 1 = cc (m.1, ap test f, e) in omega arith in
+        rw e
+        (lists-same (Passes After) (Passes C) (λ d m. (m.0.0, m.1))
+        (λ d m. ((m.0, ⊎_elim (λ f. absurd (passed d m f)) (λ k. k) (l.1 d m.0)), m.1)) (keep test cs) rest))
 
 -- the test over two lists
 pick-append : (b : Bool) (c : PllConfig) (xs ys : List PllConfig)

@@ -1,11 +1,11 @@
 -- The answer of the search has the lowest rank, and so it is right by `RightAnswer` (specs/Law).
 use mathlib.Core.{Path.◌≡◌, Path.refl, Logic.◌⊎◌, Logic.inl, Logic.inr, Logic.⊎_elim, List.List, List.[], List.◌∷◌}
-use mathlib.Core.Bool.{Bool, true, false}
+use mathlib.Core.Bool.{true}
 use Prim.Native.Nat.{ℕ, ◌+◌, ◌-◌, ◌*◌, ◌≤◌, ◌<◌}
 use native.Mathlib.{Omega.arith, Nat.le_trans, Decide.dec_le}
 use lib.Dec.{leb}
 use borrow.Author.Tests.{leb-true, leb-false, eqb-true, eq-eqb}
-use Rattle.base.specs.{Choice.pick, Answer.Answer, Answer.value, Answer.refusal}
+use Rattle.base.{specs.Answer.Answer, specs.Answer.value, specs.Answer.refusal, proofs.Bools.either_way}
 use Rattle.pll.specs.{Ranges.reference_min, Setting.vco_of, Setting.posts_of}
 use Rattle.pll.specs.Search.{setting, distance, exact, keep, unless_nearer, nearest, first_or, candidates, search_of}
 use Rattle.pll.specs.{Law.VcoPermits, Law.Candidate, Law.RightAnswer, Walk.keys, Walk.key, Walk.rank_of}
@@ -34,17 +34,15 @@ module _ (input target : ℕ) where
 
       step : (a : Answer PllConfig) → NearestOf After a → NearestOf C (unless_nearer input target c a)
       step (refusal n) h = (l.0, λ d m. ⊎_elim (λ e. rw e (omega arith)) (λ k. absurd (h.1 d (m, k))) (l.1 d m))
-      step (value w) h = go (leb (distance input target c) (distance input target w)) refl
-        where
-          go : (b : Bool) → leb (distance input target c) (distance input target w) ≡ b
-              → NearestOf C (value (pick b c w))
-          go true e =
-              let near = leb-true (distance input target c) (distance input target w) e in
-              let first : place c ≤ place w = omega (arith, h.0.1) in
-              (l.0, λ d m. ⊎_elim (λ f. rw f (omega arith)) (λ k. le_trans first (h.1 d (m, k))) (l.1 d m))
-          go false e =
-              let far = leb-false (distance input target c) (distance input target w) e in
-              (h.0.0, λ d m. ⊎_elim (λ f. rw f (omega arith)) (λ k. h.1 d (m, k)) (l.1 d m))
+      step (value w) h =
+          either_way (leb (distance input target c) (distance input target w))
+          (λ e.
+          let near = leb-true (distance input target c) (distance input target w) e in
+          let first : place c ≤ place w = omega (arith, h.0.1) in
+          rw e (l.0, λ d m. ⊎_elim (λ f. rw f (omega arith)) (λ k. le_trans first (h.1 d (m, k))) (l.1 d m)))
+          (λ e.
+          let far = leb-false (distance input target c) (distance input target w) e in
+          rw e (h.0.0, λ d m. ⊎_elim (λ f. rw f (omega arith)) (λ k. h.1 d (m, k)) (l.1 d m)))
 
   -- the answer has the lowest rank of the candidates; it is 15 where there are none
   abbrev pub LowestOf : Answer PllConfig → Type 0

@@ -1,10 +1,10 @@
 -- The laws of the score, of the key (the order as one number) and of the rank.
-use mathlib.Core.{Path.◌≡◌, Path.refl, Logic.◌⊎◌, Logic.inl, Logic.inr, Logic.⊎_elim, Bool.Bool, Bool.true, Bool.false}
+use mathlib.Core.{Path.◌≡◌, Path.refl, Logic.◌⊎◌, Logic.inl, Logic.inr, Logic.⊎_elim}
 use Prim.Native.Nat.{ℕ, ◌+◌, ◌-◌, ◌*◌, ◌/◌, ◌≤◌, ◌<◌}
 use native.Mathlib.{Omega.arith, Nat.div-le_self, Nat.le-div_iff_mul-le, Nat.div-lt_iff_lt-mul, Nat.div-mul-le_self, Nat.add-mul}
 use lib.Dec.{eqb}
 use borrow.Author.Tests.{eqb-true, eqb-false}
-use Rattle.base.specs.Choice.{pick}
+use Rattle.base.proofs.Bools.{either_way}
 use Rattle.pll.specs.{Setting.vco_of, Setting.posts_of, Search.apart, Search.distance}
 use Rattle.pll.specs.Law.{Candidate, Exact, Before, Chosen}
 use Rattle.pll.specs.Walk.{keys, no_rank, score_of, key, rank_of}
@@ -17,11 +17,9 @@ module _ (v t d : ℕ) where
 
   pub score-cases : Cases (score_of v t d)
   unfolding score_of
-  score-cases = go (eqb (t * d) v) refl
-    where
-      go : (q : Bool) → eqb (t * d) v ≡ q → Cases (pick q 0 (apart (v / d) t + 1))
-      go true e = inl (eqb-true (t * d) v e, refl)
-      go false e = inr (eqb-false (t * d) v e, refl)
+  score-cases =
+      either_way (eqb (t * d) v)
+      (λ e. rw e (inl (eqb-true (t * d) v e, refl))) (λ e. rw e (inr (eqb-false (t * d) v e, refl)))
 
   pub score-exact : t * d ≡ v → score_of v t d ≡ 0
   score-exact e = ⊎_elim (λ k. k.1) (λ k. absurd (k.0 e)) score-cases

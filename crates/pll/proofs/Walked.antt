@@ -1,12 +1,11 @@
 -- The walk takes exactly the feedback dividers that the VCO permits: it takes every number from the highest down to
 -- the lowest.
 use mathlib.Core.{Path.◌≡◌, Path.refl, Logic.◌⊎◌, Logic.◌↔◌, Logic.inl, Logic.inr, List.[], List.◌∷◌}
-use mathlib.Core.Bool.{Bool, true, false}
 use Prim.Native.Nat.{ℕ, zero, suc, ◌/◌, ◌≤◌, ◌<◌}
 use native.Mathlib.{Omega.arith, Nat.eq-or-lt_of_le}
 use lib.{Dec.leb, ListN.length}
 use borrow.Author.Tests.{leb-false, lt-leb}
-use Rattle.base.specs.Choice.{pick}
+use Rattle.base.{specs.Choice.pick, proofs.Bools.either_way}
 use Rattle.pll.specs.{Ranges.reference_min, Ranges.vco_max, Search.falling, Search.rising, Law.VcoPermits, Law.WalkTakesPermitted}
 use Rattle.pll.specs.{Law.WalkWithinEnds}
 use Rattle.pll.specs.Ends.{first_permitted, highest_of, lowest_of, walk_down, walked_of, Among}
@@ -17,13 +16,10 @@ module _ (low : ℕ) where
   down-within : (high fb : ℕ) → low ≤ high → Among fb (walk_down low high) → (low ≤ fb) × (fb ≤ high)
   unfolding walk_down
   down-within zero fb l m = absurd m
-  down-within (suc n) fb l m = go (leb (suc n) low) refl m (down-within n fb)
-    where
-      go : (b : Bool) → leb (suc n) low ≡ b → Among fb (suc n ∷ pick b [] (walk_down low n))
-          → (low ≤ n → Among fb (walk_down low n) → (low ≤ fb) × (fb ≤ n)) → (low ≤ fb) × (fb ≤ suc n)
-      go b e (inl same) later = omega arith
-      go true e (inr m) later = absurd m
-      go false e (inr m) later = let w = later (omega (arith, leb-false (suc n) low e)) m in omega arith
+  down-within (suc n) fb l (inl same) = omega arith
+  down-within (suc n) fb l (inr m) =
+      either_way (leb (suc n) low) (λ e. absurd (rw e at m))
+      (λ e. omega (arith, down-within n fb (omega (arith, leb-false (suc n) low e)) (rw e at m)))
 
   within-down : 0 < low → (high fb : ℕ) → low ≤ fb → fb ≤ high → Among fb (walk_down low high)
   unfolding walk_down
