@@ -1,20 +1,16 @@
 -- The settling cycles take at least the settling time at the ring's frequency.
-use mathlib.Core.{Path.◌≡◌, Path.refl, Bool.Bool, Bool.true, Bool.false}
-use Prim.Native.Nat.{ℕ, ◌+◌, ◌*◌, ◌/◌, ◌≤◌}
+use mathlib.Core.{Path.◌≡◌, Path.refl}
+use Prim.Native.Nat.{ℕ, ◌*◌, ◌≤◌}
 use native.Mathlib.{Nat.le_refl, Nat.mul-le-mul, Omega.arith}
 use lib.Dec.{eqb}
 use borrow.Author.Tests.{eqb-true}
-use Rattle.base.specs.Choice.{pick}
+use Rattle.base.proofs.Bools.{either_way}
 use Rattle.divider.specs.Delay.{cycles_per_us, settling_cycles}
 
 -- The cycles per microsecond take at least a microsecond.
 covers : (hz : ℕ) → hz ≤ cycles_per_us hz * 1000000
 unfolding cycles_per_us
-covers hz = go (eqb hz 0) refl
-  where
-    go : (none : Bool) → eqb hz 0 ≡ none → hz ≤ pick none 12 ((hz + 999999) / 1000000) * 1000000
-    go true e = omega (arith, eqb-true hz 0 e)
-    go false e = omega arith
+covers hz = either_way (eqb hz 0) (λ e. rw e (omega (arith, eqb-true hz 0 e))) (λ e. rw e (omega arith))
 
 -- Cycles × 1000000 ≥ time × ring Hz, for every time and ring.
 pub settles : (time hz : ℕ) → time * hz ≤ settling_cycles time hz * 1000000
