@@ -1,11 +1,11 @@
 -- Each code of a range or a source decodes to the range or the source that it was made of, and fits the bits of its field.
 use Rattle.std.specs.Prelude.{Option, Some, None}
-use mathlib.Core.{Path.◌≡◌, Path.refl, Bool.Bool, Bool.true, Bool.false}
+use mathlib.Core.{Path.◌≡◌, Path.refl}
 use Prim.Native.Nat.{ℕ, ◌%◌, ◌≤◌, ◌<◌}
 use native.Mathlib.Omega.{arith}
 use lib.Dec.{eqb}
 use borrow.Author.Tests.{eqb-true, eqb-false}
-use Rattle.base.specs.Choice.{pick}
+use Rattle.base.proofs.Bools.{either_way}
 use Rattle.chip.specs.declared.Chip.TheVariants.{Rp2040, Rp235x}
 use Rattle.chip.proofs.Codes.{core-voltage-code, code-small, bod-small}
 use Rattle.config.specs.declared.ChipConfig.{ChipConfig}
@@ -77,8 +77,6 @@ AuxSmall (Some a) = Small a.div
 AuxSmall None = Unit {0}
 
 pub div-back : (d : ℕ) → Small d → div_from (d % 4) ≡ d
-div-back d h = go (eqb (d % 4) 0) refl
-  where
-    go : (b : Bool) → eqb (d % 4) 0 ≡ b → pick b 4 (d % 4) ≡ d
-    go true e = let z : d % 4 ≡ 0 = eqb-true (d % 4) 0 e in omega arith
-    go false e = let z : d % 4 ≡ 0 → ⊥ = eqb-false (d % 4) 0 e in omega arith
+div-back d h =
+    either_way (eqb (d % 4) 0)
+    (λ e. rw e (omega (arith, eqb-true (d % 4) 0 e))) (λ e. rw e (omega (arith, eqb-false (d % 4) 0 e)))
