@@ -7,7 +7,7 @@ use lib.Dec.{eqb}
 use borrow.Author.Tests.{eq-eqb}
 use Rattle.base.specs.declared.refusal.Refusal.{Refusal}
 use Rattle.base.specs.declared.refusal.Refusal.TheVariants as why
-use Rattle.base.specs.{Answer.value, Refusals.number_of}
+use Rattle.base.{specs.Answer.value, specs.Refusals.number_of, proofs.Bools.either_way}
 use Rattle.chip.specs.declared.Chip.{Chip}
 use Rattle.pll.specs.Setting.{valid_of}
 use Rattle.pll.proofs.{Inputs.found-valid, UsbRight.usb-found, UsbRight.usb-output}
@@ -27,11 +27,8 @@ holds_for reason ((tested, test) ∷ rest) = (eqb (number_of reason) (number_of 
 first_holds : (reason : Refusal) (tests : List (Refusal × Bool)) → first tests ≡ Some reason → holds_for reason tests ≡ true
 first_holds reason [] e = absurd cc
 first_holds reason ((tested, true) ∷ rest) e = let same : reason ≡ tested = cc in rw (eq-eqb _ _ (ap number_of same))
-first_holds reason ((tested, false) ∷ rest) e = go (eqb (number_of reason) (number_of tested)) (first_holds reason rest e)
-  where
-    go : (b : Bool) {h : Bool} → h ≡ true → ((b && false) || h) ≡ true
-    go true e = e
-    go false e = e
+first_holds reason ((tested, false) ∷ rest) e =
+    let h = first_holds reason rest e in either_way (eqb (number_of reason) (number_of tested)) (λ f. rw f h) (λ f. rw f h)
 
 module _ (chip : Chip) (from hz reading : ℕ) (p : ClockConfig) (planned : system_plan_from chip from hz ≡ value p) where
   made : Found chip from hz p
