@@ -1,10 +1,9 @@
 -- `margin_of` is right by `RightMargin` (specs/Law), and so any right answer equals it.
-use Rattle.std.specs.Prelude.{Some}
 use mathlib.Core.{Path.◌≡◌, Path.refl, Path.sym, Path.ap, Path.◌∙◌, Bool.Bool, Bool.true, Bool.false}
 use mathlib.Core.Logic.{⊎_elim}
 use Prim.Native.Nat.{ℕ, zero, suc, ◌+◌, ◌-◌, ◌≤◌, ◌<◌}
 use native.Mathlib.{Omega.arith, Nat.eq-or-lt_of_le}
-use Rattle.base.specs.{Answer.Answer, Answer.value, Answer.refusal, Choice.pick}
+use Rattle.base.{specs.Answer.Answer, specs.Answer.value, specs.Answer.refusal, proofs.Bools.either_way}
 use Rattle.pll.specs.Search.{search_of}
 use Rattle.pll.specs.declared.PllConfig.{PllConfig}
 use Rattle.margin.specs.Margin.{is_setting, lower_from, higher_from, margin_at, margin_of}
@@ -37,31 +36,27 @@ module _ (input target : ℕ) (c : PllConfig) (given : search_of input target �
       → RightLower input target (lower_from test t)
   unfolding lower_from
   lower-right zero l passed = λ u b. passed u (omega arith) b
-  lower-right (suc t) l passed = go (test t) refl (lower-right t (omega arith))
-    where
-      go : (b : Bool) → test t ≡ b
-          → (((u : ℕ) → t ≤ u → u ≤ target → search_of input u ≡ search_of input target)
-          → RightLower input target (lower_from test t))
-          → RightLower input target (pick b (lower_from test t) (Some t))
-      go true e next =
-          next (λ u a b. ⊎_elim (λ f. ap (search_of input) (sym f) ∙ shares t e) (λ m. passed u m b) (eq-or-lt_of_le a))
-      go false e next = (l, differs t e, passed)
+  lower-right (suc t) l passed =
+      either_way (test t)
+      (λ e.
+      rw e
+      (lower-right t (omega arith)
+      (λ u a b. ⊎_elim (λ f. ap (search_of input) (sym f) ∙ shares t e) (λ m. passed u m b) (eq-or-lt_of_le a))))
+      (λ e. rw e (l, differs t e, passed))
 
   higher-right : (n t : ℕ) → n + t ≡ 4294967295 → target ≤ t
       → ((u : ℕ) → target ≤ u → u ≤ t → search_of input u ≡ search_of input target)
       → RightHigher input target (higher_from test n t)
   unfolding higher_from
   higher-right zero t e l passed = λ u a b. passed u a (omega arith)
-  higher-right (suc n) t e l passed = go (test (suc t)) refl (higher-right n (suc t) (omega arith) (omega arith))
-    where
-      go : (b : Bool) → test (suc t) ≡ b
-          → (((u : ℕ) → target ≤ u → u ≤ suc t → search_of input u ≡ search_of input target)
-          → RightHigher input target (higher_from test n (suc t)))
-          → RightHigher input target (pick b (higher_from test n (suc t)) (Some (suc t)))
-      go true f next =
-          next (λ u a b. ⊎_elim (λ g. ap (search_of input) g ∙ shares (suc t) f) (λ m. passed u a (omega arith))
-          (eq-or-lt_of_le b))
-      go false f next = (omega arith, omega arith, differs (suc t) f, λ u a b. passed u a (omega arith))
+  higher-right (suc n) t e l passed =
+      either_way (test (suc t))
+      (λ f.
+      rw f
+      (higher-right n (suc t) (omega arith) (omega arith)
+      (λ u a b.
+      ⊎_elim (λ g. ap (search_of input) g ∙ shares (suc t) f) (λ m. passed u a (omega arith)) (eq-or-lt_of_le b))))
+      (λ f. rw f (omega arith, omega arith, differs (suc t) f, λ u a b. passed u a (omega arith)))
 
 module _ (input target : ℕ) where
   at_target : (u : ℕ) → target ≤ u → u ≤ target → search_of input u ≡ search_of input target
