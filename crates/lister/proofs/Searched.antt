@@ -1,10 +1,10 @@
 -- The list and the search agree: the search's answer is exact where the list has an entry, and then it is in the list.
-use mathlib.Core.{Path.◌≡◌, Path.refl, Path.subst, List.List, List.[], List.◌∷◌, Bool.Bool, Bool.true, Bool.false}
+use mathlib.Core.{Path.◌≡◌, Path.refl, Path.subst, List.List, List.[], List.◌∷◌}
 use Prim.Native.Nat.{ℕ, ◌*◌, ◌<◌}
 use native.Mathlib.Omega.{arith}
 use lib.ListN.{length}
 use borrow.Author.Tests.{eqb-true, eq-eqb}
-use Rattle.base.specs.Answer.{Answer, value, refusal}
+use Rattle.base.{specs.Answer.Answer, specs.Answer.value, specs.Answer.refusal, proofs.Bools.either_way}
 use Rattle.pll.specs.{Setting.vco_of, Setting.posts_of, Search.search_of}
 use Rattle.pll.specs.Law.{Candidate, Exact, Before, Chosen, RightAnswer}
 use Rattle.pll.specs.declared.PllConfig.{PllConfig}
@@ -15,11 +15,9 @@ use Rattle.lister.proofs.Once.{Hit, hit-free, free-hit, list-once}
 module _ (input target : ℕ) where
   -- an entry of the list is a candidate of the search, and exact
   listed-hit : (c : PllConfig) → 0 < how_often c (list_of input target) → Hit input target c
-  listed-hit c h = free-hit input target c (go (remainder_free input target c) refl)
-    where
-      go : (b : Bool) → remainder_free input target c ≡ b → b ≡ true
-      go true e = refl
-      go false e = absurd (let n = rw e at (list-once input target c) in omega arith)
+  listed-hit c h =
+      either_way (remainder_free input target c) (free-hit input target c)
+      (λ e. absurd (let n = rw e at (list-once input target c) in omega arith))
 
   chosen : (c : PllConfig) → search_of input target ≡ value c → Chosen input target c
   chosen c e = subst (RightAnswer input target) e (search-right input target)

@@ -1,15 +1,14 @@
 -- A walk over numbers writes the settings of each number that pass a test; numbers without such settings may be left out.
 use mathlib.Core.Path.{◌≡◌, refl, sym, ap, ◌∙◌}
 use mathlib.Core.List.{List, [], ◌∷◌, ◌++◌, map, flat_map}
-use mathlib.Core.Bool.{Bool, true, false}
+use mathlib.Core.Bool.{Bool, false}
 use Prim.Native.Nat.{ℕ, zero, suc, ◌+◌, ◌-◌, ◌*◌, ◌≤◌, ◌<◌}
 use lib.ListN.{length}
-use Rattle.base.specs.Choice.{pick}
 use native.Mathlib.{Omega.arith, Numerals.add-one}
 use Rattle.pll.specs.{Ranges.feedback_min, Ranges.feedback_max, Search.falling, Search.rising, Search.setting, Search.keep}
 use Rattle.pll.specs.declared.PllConfig.{PllConfig}
 use Rattle.pll.proofs.Order.{keep_append}
-use Rattle.base.specs.Writing.{Written}
+use Rattle.base.{specs.Writing.Written, proofs.Bools.either_way}
 use Rattle.lister.specs.Lister.{in_order}
 use Rattle.lister.specs.Order.{at_post1, at_feedback, puts}
 use Rattle.lister.proofs.Writing.{put_more, put_none}
@@ -62,11 +61,8 @@ module _ (t : PllConfig → Bool) where
   keep-length : (cs : List PllConfig) → length (keep t cs) ≤ length cs
   unfolding keep
   keep-length [] = omega arith
-  keep-length (c ∷ cs) = go (t c) (keep-length cs)
-    where
-      go : (b : Bool) → length (keep t cs) ≤ length cs → length (pick b (c ∷ keep t cs) (keep t cs)) ≤ suc (length cs)
-      go true h = omega arith
-      go false h = omega arith
+  keep-length (c ∷ cs) =
+      let rest = keep-length cs in either_way (t c) (λ e. rw e (omega (arith, rest))) (λ e. rw e (omega (arith, rest)))
 
   -- a part of the settings moves the index by no more than twice their number
   pub index-most : (w v : Written ℕ) (cs left : List PllConfig) → puts v left ≡ puts w (keep t cs)
