@@ -1,9 +1,9 @@
 -- The lookup in the book gives the answer of the search at 12 MHz.
-use mathlib.Core.{Path.◌≡◌, Path.refl, Path.sym, Path.ap, Path.subst, Path.◌∙◌, Bool.Bool, Bool.true, Bool.false}
+use mathlib.Core.{Path.◌≡◌, Path.sym, Path.ap, Path.subst, Path.◌∙◌}
 use Prim.Native.Nat.{ℕ, ◌+◌, ◌-◌, ◌*◌, ◌≤◌, ◌<◌}
 use native.Mathlib.{Omega.arith, Decide.dec_le}
 use borrow.Author.Tests.{lt-ltb, le-ltb, eq-eqb, ne_eqb}
-use Rattle.base.specs.{Answer.value, Choice.pick}
+use Rattle.base.{specs.Answer.value, proofs.Bools.either_way}
 use Rattle.pll.specs.{Search.search_of, Walk.key}
 use Rattle.pll.specs.declared.PllConfig.{PllConfig}
 use Rattle.speed_book.specs.Book.{crystal, hertz, table_number, table, output_in, setting_in}
@@ -88,11 +88,7 @@ module _ (t lower upper : ℕ) where
 
 pub nearer-same : (t n : ℕ) → nearer_entry t n n ≡ n
 unfolding nearer_entry
-nearer-same t n = go (lower_is t n n)
-  where
-    go : (b : Bool) → pick b n n ≡ n
-    go true = refl
-    go false = refl
+nearer-same t n = either_way (lower_is t n n) (λ e. rw e) (λ e. rw e)
 
 module _ (t : ℕ) (fits : t < 4294967296) where
   -- the entry that is taken is the answer of the search
