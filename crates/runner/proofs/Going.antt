@@ -4,7 +4,7 @@ use native.Mathlib.Omega.{arith}
 use mathlib.Core.{Bool.Bool, Bool.true, Bool.false, List.List, Path.◌≡◌, Path.refl, Path.sym, Path.◌∙◌}
 use borrow.Author.Tests.{lt-ltb, le-ltb, eq-eqb}
 use lib.ListN.{length}
-use Rattle.base.specs.Answer.{value}
+use Rattle.base.{specs.Answer.value, proofs.Bools.either_way}
 use Rattle.step.specs.declared.Step.{Step}
 use Rattle.step.specs.Kinds.{is}
 use Rattle.step.specs.declared.kind.Kind.TheVariants as kind
@@ -30,14 +30,12 @@ standing sheet p polls total freqs =
 -- a wait is no store
 pub wait-stores : (step : Step) (freqs : List ℕ) → is_wait step.kind ≡ true → stored_by step freqs ≡ freqs
 unfolding stored_by
-wait-stores step freqs w = go (is step.kind kind.Store) refl
-  where
-    go : (b : Bool) → is step.kind kind.Store ≡ b → stored_by step freqs ≡ freqs
-    go true k =
-        let waits : is_wait kind.Store ≡ true = rw (is-true step.kind kind.Store k) at w in
-        let z : ◌≡◌ {A = ℕ} 0 1 = cc in
-        absurd (omega arith)
-    go false k = simp k
+wait-stores step freqs w =
+    either_way (is step.kind kind.Store)
+    (λ k.
+    let waits : is_wait kind.Store ≡ true = rw (is-true step.kind kind.Store k) at w in
+    let z : ◌≡◌ {A = ℕ} 0 1 = cc in
+    absurd (omega arith)) (λ k. simp k)
 
 -- a step that is no wait is handed out
 pub hands : (s : State) (step : Step) (ready : Bool) → is_wait step.kind ≡ false
@@ -64,16 +62,11 @@ at-unready s step w = simp w
 pub polls-on : (p polls total : ℕ) (step : Step) → is_wait step.kind ≡ true → polls < 999999
     → Polled p polls total step
 unfolding unready
-polls-on p polls total step w h = go (is step.kind kind.WaitLock) refl
-  where
-    go : (b : Bool) → is step.kind kind.WaitLock ≡ b → Polled p polls total step
-    go true e =
-        record {
-          now = polls + 1;
-          more = omega arith;
-          is = at-unready (going p polls total) step w ∙ simp (e, lt-ltb (polls + 1) 1000000 (omega arith));
-        }
-    go false e = record { now = polls; more = omega arith; is = at-unready (going p polls total) step w ∙ simp e }
+polls-on p polls total step w h =
+    let same = at-unready (going p polls total) step w in
+    either_way (is step.kind kind.WaitLock)
+    (λ e. record { now = polls + 1; more = omega arith; is = same ∙ simp (e, lt-ltb (polls + 1) 1000000 (omega arith)) })
+    (λ e. record { now = polls; more = omega arith; is = same ∙ simp e })
 
 -- over a sheet of n steps
 module _ (sheet : List ℕ) (n : ℕ) (few : n ≤ max_steps) (size : length sheet ≡ 8 * n) where

@@ -1,11 +1,11 @@
 -- A runner that was started with a sheet of well-formed steps, with every call ready, answers each step in order and
 -- then done.
-use mathlib.Core.{Bool.Bool, Bool.true, Bool.false, List.List, List.[], List.◌∷◌, List.◌++◌, List.map}
-use mathlib.Core.Path.{◌≡◌, refl, ap, ◌∙◌}
+use mathlib.Core.{Bool.true, List.List, List.[], List.◌∷◌, List.◌++◌, List.map}
+use mathlib.Core.Path.{◌≡◌, ap, ◌∙◌}
 use Prim.Native.Nat.{ℕ, suc, ◌+◌, ◌*◌, ◌≤◌, ◌<◌}
 use native.Mathlib.{Nat.add-zero, Nat.zero-add, Numerals.add-one, Omega.arith}
 use lib.ListN.{length, get_or, replicate}
-use Rattle.base.specs.Answer.{Answer, value}
+use Rattle.base.{specs.Answer.Answer, specs.Answer.value, proofs.Bools.either_way}
 use Rattle.step.specs.declared.Step.{Step}
 use Rattle.step.specs.declared.kind.Kind.TheVariants as kind
 use Rattle.step.specs.{Access.read_at, Sheet.max_steps, Sheet.encoded, Sheet.AllFormed}
@@ -20,19 +20,10 @@ use Rattle.runner.proofs.Going.{wait-stores, done_at, step-at}
 -- a ready call at a step
 takes : (step : Step) (p : ℕ) → take_step (ready_state p) step true ≡ outcome (ready_answer step) (ready_state (p + 1))
 unfolding take_step
-takes step p = go (is_wait step.kind) refl
-  where
-    go : (b : Bool) → is_wait step.kind ≡ b
-        → take_step (ready_state p) step true ≡ outcome (ready_answer step) (ready_state (p + 1))
-    go true w = simp w
-    go false w = simp w
+takes step p = either_way (is_wait step.kind) (λ w. simp w) (λ w. simp w)
 
 stores : (step : Step) (freqs : List ℕ) → freqs_after (ready_answer step) freqs ≡ stored_by step freqs
-stores step freqs = go (is_wait step.kind) refl
-  where
-    go : (b : Bool) → is_wait step.kind ≡ b → freqs_after (ready_answer step) freqs ≡ stored_by step freqs
-    go true w = simp (w, wait-stores step freqs w)
-    go false w = simp w
+stores step freqs = either_way (is_wait step.kind) (λ w. simp (w, wait-stores step freqs w)) (λ w. simp w)
 
 module _ (sheet : List ℕ) (n : ℕ) (few : n ≤ max_steps) (size : length sheet ≡ 8 * n) where
   ready-at : (step : Step) (p : ℕ) (freqs : List ℕ) → p < n → read_at sheet (8 * p) ≡ value step

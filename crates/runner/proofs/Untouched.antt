@@ -1,7 +1,7 @@
 -- A refusal leaves the runner as it was, except at the lock timeout.
-use mathlib.Core.{Bool.Bool, Bool.true, Bool.false, List.List, List.[], List.◌∷◌, Logic.inl, Logic.inr, Path.◌≡◌, Path.refl}
+use mathlib.Core.{Bool.Bool, Bool.true, List.List, List.[], List.◌∷◌, Logic.inl, Logic.inr, Path.◌≡◌, Path.refl}
 use Prim.Native.Nat.{ℕ}
-use Rattle.base.specs.{Answer.Answer, Answer.value, Answer.refusal, Choice.pick}
+use Rattle.base.{specs.Answer.Answer, specs.Answer.value, specs.Answer.refusal, specs.Choice.pick, proofs.Bools.either_way}
 use Rattle.runner.specs.declared.{State.State, Stepper.Stepper, Runner.Runner}
 use Rattle.runner.specs.declared.Reply.{Reply}
 use Rattle.runner.specs.Run.{Outcome, outcome, polled, outside, turn_of, joined, stepper_of, in_runner, advance_of}
@@ -12,12 +12,7 @@ use Rattle.runner.proofs.Calls.{every-turn}
 pub stopped-stays : (r : Runner) (sheet : List ℕ) (ready : Bool) → r.stepper.state.stopped ≡ true
     → advance_of r sheet ready ≡ outcome (refusal (pick (outside r.stepper.state r.len) 21 22)) r
 unfolding advance_of stepper_of turn_of
-stopped-stays r sheet ready e = go (outside r.stepper.state r.len) refl
-  where
-    go : (b : Bool) → outside r.stepper.state r.len ≡ b
-        → advance_of r sheet ready ≡ outcome (refusal (pick (outside r.stepper.state r.len) 21 22)) r
-    go true o = simp o
-    go false o = simp (o, e)
+stopped-stays r sheet ready e = either_way (outside r.stepper.state r.len) (λ o. simp o) (λ o. simp (o, e))
 
 pub stopped-for-good : (r : Runner) (sheet : List ℕ) (flags : List Bool) → r.stepper.state.stopped ≡ true
     → after r sheet flags ≡ r
