@@ -1,11 +1,11 @@
 -- Each board of a bench behaves as a single runner, whatever calls are made for the other boards.
-use mathlib.Core.{Bool.Bool, Bool.true, Bool.false, List.List, List.[], List.◌∷◌, List.◌++◌}
+use mathlib.Core.{Bool.Bool, Bool.false, List.List, List.[], List.◌∷◌, List.◌++◌}
 use mathlib.Core.Path.{◌≡◌, refl, sym, ap, ◌∙◌}
 use Prim.Native.Nat.{ℕ, ◌≤◌}
 use native.Mathlib.Omega.{arith}
 use borrow.Author.Tests.{eqb-true, eqb-false, ltb-true, ltb-false}
 use lib.{Dec.eqb, Dec.ltb, ListN.length, ListN.length-set, ListN.get_or-replicate, Seq.get_or-set_same, Seq.get_or-set_other}
-use Rattle.base.specs.Answer.{Answer}
+use Rattle.base.{specs.Answer.Answer, proofs.Bools.either_way}
 use Rattle.runner.specs.declared.{Stepper.Stepper, Runner.Runner}
 use Rattle.boards.specs.declared.Bench.{Bench}
 use Rattle.runner.specs.declared.Reply.{Reply}
@@ -37,14 +37,12 @@ module _ (n : ℕ) (few : n ≤ 7) where
 
   alike-start : (b : Bench) (r : Runner) (sheet : List ℕ) → Alike n b r
       → Alike n (start_all_of b sheet).next (start_of r sheet).next
-  alike-start b r sheet k = go (bad_size (length sheet)) refl
-    where
-      go : (t : Bool) → bad_size (length sheet) ≡ t → Alike n (start_all_of b sheet).next (start_of r sheet).next
-      go true e =
-          let all = ap (λ (x : Begun Bench). x.next) (all-refused b sheet e) in
-          let one = ap (λ (x : Begun Runner). x.next) (start-refused r sheet e) in
-          rw (← all, ← one) k
-      go false e = started-alike b r sheet e
+  alike-start b r sheet k =
+      either_way (bad_size (length sheet))
+      (λ e.
+      let all = ap (λ (x : Begun Bench). x.next) (all-refused b sheet e) in
+      let one = ap (λ (x : Begun Runner). x.next) (start-refused r sheet e) in
+      rw (← all, ← one) k) (started-alike b r sheet)
 
   module _ (b : Bench) (r : Runner) (k : Alike n b r) (sheet : List ℕ) (ready : Bool) where
     -- the outcome of the board, which is also the runner's
@@ -77,20 +75,18 @@ module _ (n : ℕ) (few : n ≤ 7) where
 
     -- a call for another number
     other-next : (m : ℕ) → eqb m n ≡ false → Alike n (bench_of b m sheet ready).next r
-    other-next m ne = go (ltb 7 m) refl
-      where
-        go : (t : Bool) → ltb 7 m ≡ t → Alike n (bench_of b m sheet ready).next r
-        go true e = rw (← ap (λ (x : Outcome Bench). x.next) (over-seven b m sheet ready (ltb-true 7 m e))) k
-        go false e =
-            let next = (stepper_of (board_at b m) b.len b.kept sheet ready).next in
-            rw (← ap (λ (x : Outcome Bench). x.next) (of-eight b m sheet ready (ltb-false 7 m e)))
-            (record {
-              eight = length-set b.boards m next ∙ k.eight;
-              board = get_or-set_other b.boards m n next no_board
-                  (λ (e : n ≡ m). eqb-false m n ne (sym e)) ∙ k.board;
-              kept = k.kept;
-              len = k.len;
-            })
+    other-next m ne =
+        let next = (stepper_of (board_at b m) b.len b.kept sheet ready).next in
+        either_way (ltb 7 m)
+        (λ e. rw (← ap (λ (x : Outcome Bench). x.next) (over-seven b m sheet ready (ltb-true 7 m e))) k)
+        (λ e.
+        rw (← ap (λ (x : Outcome Bench). x.next) (of-eight b m sheet ready (ltb-false 7 m e)))
+        (record {
+          eight = length-set b.boards m next ∙ k.eight;
+          board = get_or-set_other b.boards m n next no_board (λ (e : n ≡ m). eqb-false m n ne (sym e)) ∙ k.board;
+          kept = k.kept;
+          len = k.len;
+        }))
 
   pub single : (es : List BenchEvent) (b : Bench) (r : Runner) → Alike n b r → AsSingle n b r es
   single [] b r k = record { answered = refl; left = k }
@@ -98,21 +94,18 @@ module _ (n : ℕ) (few : n ≤ 7) where
       let rest = single es (start_all_of b sheet).next (start_of r sheet).next (alike-start b r sheet k) in
       record { answered = rest.answered; left = rest.left }
   single (poll m sheet ready ∷ es) b r k =
-      go (eqb m n) refl (λ (x : Bench) (y : Runner) (l : Alike n x y). single es x y l)
-    where
-      go : (t : Bool) → eqb m n ≡ t → ((x : Bench) (y : Runner) → Alike n x y → AsSingle n x y es)
-          → AsSingle n b r (poll m sheet ready ∷ es)
-      go true e ih =
-          let m-n : m ≡ n = eqb-true m n e in
-          let rest = ih (bench_of b n sheet ready).next (advance_of r sheet ready).next (own-next b r k sheet ready) in
-          record {
-            answered = rw (e, m-n, own-answer b r k sheet ready)
-                (ap (λ (l : List (Answer Reply)). (advance_of r sheet ready).answer ∷ l) rest.answered);
-            left = rw (e, m-n) rest.left;
-          }
-      go false e ih =
-          let rest = ih (bench_of b m sheet ready).next r (other-next b r k sheet ready m e) in
-          record { answered = rw e rest.answered; left = rw e rest.left }
+      either_way (eqb m n)
+      (λ e.
+      let m-n : m ≡ n = eqb-true m n e in
+      let rest = single es (bench_of b n sheet ready).next (advance_of r sheet ready).next (own-next b r k sheet ready) in
+      record {
+        answered = rw (e, m-n, own-answer b r k sheet ready)
+            (ap (λ (l : List (Answer Reply)). (advance_of r sheet ready).answer ∷ l) rest.answered);
+        left = rw (e, m-n) rest.left;
+      })
+      (λ e.
+      let rest = single es (bench_of b m sheet ready).next r (other-next b r k sheet ready m e) in
+      record { answered = rw e rest.answered; left = rw e rest.left })
 
   -- between starts: any bench and any runner, started with the same sheet, then any calls
   pub between-starts : (b : Bench) (r : Runner) (sheet : List ℕ) → bad_size (length sheet) ≡ false → (es : List BenchEvent)

@@ -1,9 +1,9 @@
 -- A refusal leaves the whole bench as it was, except at the lock timeout of the board that is called.
-use mathlib.Core.{Bool.Bool, Bool.true, Bool.false, List.List, Logic.inl, Logic.inr, Path.◌≡◌, Path.refl}
+use mathlib.Core.{Bool.Bool, List.List, Logic.inl, Logic.inr, Path.refl}
 use Prim.Native.Nat.{ℕ}
 use borrow.Author.Tests.{ltb-true, ltb-false}
 use lib.{Dec.ltb, Seq.set-get_or}
-use Rattle.base.specs.Answer.{Answer, value, refusal}
+use Rattle.base.{specs.Answer.Answer, specs.Answer.value, specs.Answer.refusal, proofs.Bools.either_way}
 use Rattle.runner.specs.declared.Stepper.{Stepper}
 use Rattle.runner.specs.declared.Reply.{Reply}
 use Rattle.runner.specs.Run.{Outcome, outcome, stepper_of}
@@ -25,11 +25,9 @@ with-others b n x = go x.answer x.next
 
 pub bench-refusal-keeps : (b : Bench) (n : ℕ) (sheet : List ℕ) (ready : Bool)
     → Untouched b (board_timed_out b n) (bench_of b n sheet ready)
-bench-refusal-keeps b n sheet ready = go (ltb 7 n) refl
-  where
-    go : (t : Bool) → ltb 7 n ≡ t → Untouched b (board_timed_out b n) (bench_of b n sheet ready)
-    go true e = rw (← over-seven b n sheet ready (ltb-true 7 n e)) (inl refl)
-    go false e =
-        rw (← of-eight b n sheet ready (ltb-false 7 n e))
-        (with-others b n (stepper_of (board_at b n) b.len b.kept sheet ready)
-        (stepper-keeps (board_at b n) b.len b.kept sheet ready))
+bench-refusal-keeps b n sheet ready =
+    either_way (ltb 7 n) (λ e. rw (← over-seven b n sheet ready (ltb-true 7 n e)) (inl refl))
+    (λ e.
+    rw (← of-eight b n sheet ready (ltb-false 7 n e))
+    (with-others b n (stepper_of (board_at b n) b.len b.kept sheet ready)
+    (stepper-keeps (board_at b n) b.len b.kept sheet ready)))
