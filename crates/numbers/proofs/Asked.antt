@@ -4,7 +4,7 @@ use mathlib.Core.{List.List, List.◌++◌, List.append-nil}
 use Rattle.std.specs.Prelude.{ℕ, ◌+◌, Some}
 use native.Mathlib.Omega.{arith}
 use lib.{Dec.ltb, ListN.length, ListN.drop, Seq.drop-length, Seq.sets, Seq.sets-eq}
-use Rattle.base.specs.{Answer.value, Answer.refusal, Choice.pick, Placed.Placed}
+use Rattle.base.{specs.Answer.value, specs.Answer.refusal, specs.Choice.pick, specs.Placed.Placed, proofs.Bools.either_way}
 use Rattle.sleep.specs.declared.{Slot.Slot, steps.Step.Step}
 use Rattle.sleep.specs.Sleep.{SleepOutcome, outcome, sleep_of, wake_of, slot_at}
 use Rattle.numbers.specs.Answers.{refusals}
@@ -31,13 +31,13 @@ module _ (wakes : Bool) (slots : List Slot) (slot : ℕ) (ws : List ℕ) where
 
   keeps : Keeps ws call
   unfolding sleep_of wake_of
-  keeps = go wakes
-    where
-      go : (b : Bool) → Keeps ws (pick b wake_of sleep_of slots slot ws)
-      go true =
-          either (Keeps ws) (ltb 3 slot) _ _ (λ n e. refl)
-          (either (Keeps ws) (slot_at slots slot).saved _ _ (λ n e. let z : ◌≡◌ {A = ℕ} 0 1 = cc in absurd (omega arith)) (λ n e. refl))
-      go false = either (Keeps ws) (ltb 3 slot) _ _ (λ n e. refl) (λ n e. let z : ◌≡◌ {A = ℕ} 0 1 = cc in absurd (omega arith))
+  keeps =
+      either_way wakes
+      (λ w.
+      rw w
+      (either (Keeps ws) (ltb 3 slot) _ _ (λ n e. refl)
+      (either (Keeps ws) (slot_at slots slot).saved _ _ (λ n e. let z : ◌≡◌ {A = ℕ} 0 1 = cc in absurd (omega arith)) (λ n e. refl))))
+      (λ w. rw w (either (Keeps ws) (ltb 3 slot) _ _ (λ n e. refl) (λ n e. let z : ◌≡◌ {A = ℕ} 0 1 = cc in absurd (omega arith))))
 
   -- the call is refused, and all numbers stay
   pub turned : (n r : ℕ) (after : List ℕ) (kept : List Slot) (numbers steps : List ℕ) → outcome (refusal n) after kept ≡ call

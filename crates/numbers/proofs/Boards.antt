@@ -1,6 +1,6 @@
 -- A bench given as numbers: a call for a board is the runner's call over the board's numbers, and a start that is refused for
 -- one bench is refused for each.
-use mathlib.Core.{Bool.Bool, Bool.true, Bool.false, List.List, Path.◌≡◌, Path.refl, Path.sym, Path.ap, Path.◌∙◌}
+use mathlib.Core.{Bool.Bool, List.List, Path.◌≡◌, Path.refl, Path.sym, Path.ap, Path.◌∙◌}
 use Prim.Native.Nat.{ℕ, zero, suc, ◌+◌, ◌*◌, ◌<◌, ◌≤◌}
 use native.Mathlib.Omega.{arith}
 use borrow.Author.Tests.{lt-ltb, le-ltb, le-leb, lt-leb}
@@ -8,7 +8,7 @@ use lib.{ListN.length, ListN.get_or, Seq.sets, Seq.get_or-set_same}
 use Rattle.numbers.specs.Fields.{nth}
 use Rattle.runner.specs.declared.{Stepper.Stepper}
 use Rattle.runner.specs.Run.{Outcome, outcome, stepper_of, advance_of, Begun}
-use Rattle.base.specs.Answer.{refusal}
+use Rattle.base.{specs.Answer.refusal, proofs.Bools.either_way}
 use Rattle.step.specs.Size.{bad_size}
 use Rattle.boards.specs.declared.Bench.{Bench}
 use Rattle.boards.specs.Bench.{no_board, board_at, in_bench, bench_of, start_all_of}
@@ -80,14 +80,13 @@ start_number x = answer_number go_number x.answer
 -- a start that is refused for one bench is refused for each, and leaves each
 pub refused-start : (ns kept sheet : List ℕ) (b after : Bench) (n : ℕ) → outcome (refusal n) after ≡ start_all_of b sheet
     → StartAllCall ns kept sheet (refusals + n) ns kept
-refused-start ns kept sheet b after n e = go (bad_size (length sheet)) refl
-  where
-    go : (t : Bool) → bad_size (length sheet) ≡ t → StartAllCall ns kept sheet (refusals + n) ns kept
-    go true bad =
-        let each = all-refused (bench_in ns kept) sheet bad in
-        record {
-          answer = ap start_number (e ∙ sym (all-refused b sheet bad)) ∙ ap start_number each;
-          numbers = ap (λ (x : Begun Bench). start_all_leaves x.answer ns x.next.len) each;
-          bytes = ap (λ (x : Begun Bench). x.next.kept) each;
-        }
-    go false ok = let no : refusals + n ≡ 0 = ap start_number (e ∙ sym (all-kept b sheet ok)) in absurd (omega (arith, no))
+refused-start ns kept sheet b after n e =
+    either_way (bad_size (length sheet))
+    (λ bad.
+    let each = all-refused (bench_in ns kept) sheet bad in
+    record {
+      answer = ap start_number (e ∙ sym (all-refused b sheet bad)) ∙ ap start_number each;
+      numbers = ap (λ (x : Begun Bench). start_all_leaves x.answer ns x.next.len) each;
+      bytes = ap (λ (x : Begun Bench). x.next.kept) each;
+    })
+    (λ ok. let no : refusals + n ≡ 0 = ap start_number (e ∙ sym (all-kept b sheet ok)) in absurd (omega (arith, no)))

@@ -7,7 +7,7 @@ use Prim.Native.Nat.{ℕ, ◌≤◌}
 use native.Mathlib.Omega.{arith}
 use borrow.Author.Tests.{eqb-true, leb-true, le-leb}
 use lib.{Dec.eqb, Dec.leb, ListN.length}
-use Rattle.base.specs.{Answer.Answer, Answer.value, Answer.refusal, Choice.pick}
+use Rattle.base.{specs.Answer.Answer, specs.Answer.value, specs.Answer.refusal, specs.Choice.pick, proofs.Bools.either_way}
 use Rattle.std.proofs.lemmas.Bool.{and_parts}
 use Rattle.chip.specs.declared.{Chip.Chip, Chip.TheVariants.Rp2040, Chip.TheVariants.Rp235x}
 use Rattle.chip.specs.declared.voltage.{CoreVoltage.CoreVoltage, CoreVoltage235.CoreVoltage235}
@@ -92,18 +92,14 @@ crystal-row : (m s u : List ℕ) → is_part m 0 crystal_limits ≡ true → is_
     × (pll_row (sys_pll_in (crystal_in m (option_pll_at s 0) (option_pll_at u 0))) ≡ row_from 5 0 s)
     × (pll_row (usb_pll_in (crystal_in m (option_pll_at s 0) (option_pll_at u 0))) ≡ row_from 5 0 u)
 unfolding is_part
-crystal-row m s u em es eu ls lu = go (eqb (nth m 0) 1) refl
-  where
-    go : (b : Bool) → eqb (nth m 0) 1 ≡ b
-        → (crystal_row (crystal_in m (option_pll_at s 0) (option_pll_at u 0)) ≡ row_from 3 0 m)
-        × (pll_row (sys_pll_in (crystal_in m (option_pll_at s 0) (option_pll_at u 0))) ≡ row_from 5 0 s)
-        × (pll_row (usb_pll_in (crystal_in m (option_pll_at s 0) (option_pll_at u 0))) ≡ row_from 5 0 u)
-    go true f =
-        let one = eqb-true (nth m 0) 1 f in
-        rw f ((λ i. sym one i ∷ nth m 1 ∷ nth m 2 ∷ []), pll-row s es, pll-row u eu)
-    go false f =
-        let w = fits false m 0 crystal_limits (rw f at em) in
-        rw f (gone m crystal_limits em w.0, gone s pll_limits es (omega (arith, w.0)), gone u pll_limits eu (omega (arith, w.0)))
+crystal-row m s u em es eu ls lu =
+    either_way (eqb (nth m 0) 1)
+    (λ f.
+    let one = eqb-true (nth m 0) 1 f in
+    rw f ((λ i. sym one i ∷ nth m 1 ∷ nth m 2 ∷ []), pll-row s es, pll-row u eu))
+    (λ f.
+    let w = fits false m 0 crystal_limits (rw f at em) in
+    rw f (gone m crystal_limits em w.0, gone s pll_limits es (omega (arith, w.0)), gone u pll_limits eu (omega (arith, w.0))))
 
 -- ---- a plan, with its chip-specific part c separate
 

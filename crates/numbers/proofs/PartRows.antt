@@ -7,7 +7,7 @@ use Prim.Native.Nat.{ℕ, zero, suc, min, ◌+◌, ◌≤◌}
 use native.Mathlib.{Numerals.add-one, Omega.arith}
 use borrow.Author.Tests.{eqb-true, eq-eqb, ne_eqb, leb-true, le-leb}
 use lib.{Dec.eqb, Dec.leb, ListN.length, ListN.take, ListN.drop, ListN.replicate, Seq.take-length, Seq.drop-cons}
-use Rattle.base.specs.{Answer.value, Choice.pick}
+use Rattle.base.{specs.Answer.value, specs.Choice.pick, proofs.Bools.either_way}
 use Rattle.std.proofs.lemmas.Bool.{and_parts}
 use Rattle.chip.specs.Voltage.{with_code}
 use Rattle.pll.specs.declared.PllConfig.{PllConfig}
@@ -87,11 +87,9 @@ by_flag : {A : Type 0} (row : A → List ℕ) (o : A) (n limits : List ℕ) → 
     → (eqb (nth n 0) 1 ≡ true → nth n 0 ≡ 1 → Within true n 0 limits → row o ≡ row_from (length limits) 0 n)
     → (eqb (nth n 0) 1 ≡ false → row o ≡ replicate (length limits) 0) → row o ≡ row_from (length limits) 0 n
 unfolding is_part
-by_flag {A} row o n limits e if-there if-absent = go (eqb (nth n 0) 1) refl
-  where
-    go : (b : Bool) → eqb (nth n 0) 1 ≡ b → row o ≡ row_from (length limits) 0 n
-    go true f = if-there f (eqb-true (nth n 0) 1 f) (fits true n 0 limits (rw f at e))
-    go false f = if-absent f ∙ absent-row n 0 limits (fits false n 0 limits (rw f at e))
+by_flag row o n limits e if-there if-absent =
+    either_way (eqb (nth n 0) 1) (λ f. if-there f (eqb-true (nth n 0) 1 f) (fits true n 0 limits (rw f at e)))
+    (λ f. if-absent f ∙ absent-row n 0 limits (fits false n 0 limits (rw f at e)))
 
 -- ---- codes
 
@@ -128,15 +126,13 @@ codes (suc (suc (suc (suc (suc n))))) =
 pub code_read : {A : Type 0} (code_of_lem : A → ℕ) (code : ℕ) (vs : List A) (v : A)
     → with_code code_of_lem code vs ≡ value v → code_of_lem v ≡ code
 code_read code_of_lem code [] v e = let z : ◌≡◌ {A = ℕ} 0 1 = cc in absurd (omega arith)
-code_read code_of_lem code (u ∷ vs) v e = go (eqb code (code_of_lem u)) refl (code_read code_of_lem code vs v)
-  where
-    go : (b : Bool) → eqb code (code_of_lem u) ≡ b → (with_code code_of_lem code vs ≡ value v → code_of_lem v ≡ code)
-        → code_of_lem v ≡ code
-    go true f rest =
-        let first : value u ≡ value v = rw f at e in
-        let same : u ≡ v = cc in
-        ap code_of_lem (sym same) ∙ sym (eqb-true code (code_of_lem u) f)
-    go false f rest = rest (rw f at e)
+code_read code_of_lem code (u ∷ vs) v e =
+    either_way (eqb code (code_of_lem u))
+    (λ f.
+    let first : value u ≡ value v = rw f at e in
+    let same : u ≡ v = cc in
+    ap code_of_lem (sym same) ∙ sym (eqb-true code (code_of_lem u) f))
+    (λ f. code_read code_of_lem code vs v (rw f at e))
 
 -- ---- the parts, each from index 0 on: its numbers fit, read back as the part, and are those of the part that is read
 

@@ -1,9 +1,10 @@
 -- A runner given as numbers: a store changes one of its frequencies, its position keeps to 32 bits, and the step that it hands
 -- out is the word at its position.
-use mathlib.Core.{Bool.Bool, Bool.true, Bool.false, List.List, List.◌++◌, Path.◌≡◌, Path.refl, Path.sym, Path.ap, Path.◌∙◌}
+use mathlib.Core.{Bool.Bool, List.List, List.◌++◌, Path.◌≡◌, Path.refl, Path.sym, Path.ap, Path.◌∙◌}
 use Prim.Native.Nat.{ℕ, ◌+◌, ◌*◌, ◌≤◌}
 use native.Mathlib.Omega.{arith}
 use lib.{ListN.set, ListN.take, ListN.drop, ListN.take-append-drop, Seq.take-set-le, Seq.drop-set-add}
+use Rattle.base.proofs.Bools.{either_way}
 use Rattle.step.specs.Access.{word_at}
 use Rattle.step.proofs.Accesses.{read-sound}
 use Rattle.runner.specs.declared.{State.State, Runner.Runner}
@@ -28,14 +29,12 @@ held_behind ns freqs e = sym (take-append-drop 5 ns) ∙ ap (λ (back : List ℕ
 -- the position after a call still fits 32 bits: inside the sheet it is small, and outside a call leaves it
 pub position_fits : (s : State) (len : ℕ) (kept sheet : List ℕ) (ready : Bool) → s.position ≤ 4294967295
     → (turn_of s len kept sheet ready).next.position ≤ 4294967295
-position_fits s len kept sheet ready h = go (outside s len) refl
-  where
-    go : (b : Bool) → outside s len ≡ b → (turn_of s len kept sheet ready).next.position ≤ 4294967295
-    go true o = rw (← call-outside s len kept sheet ready o) h
-    go false o =
-        let small = (inside s len o).0 in
-        every-turn (λ (x : Outcome State). x.next.position ≤ 4294967295) s len kept sheet ready (λ n. h) h
-        (omega (arith, small)) (λ polls. h) h (λ step e. omega (arith, small))
+position_fits s len kept sheet ready h =
+    either_way (outside s len) (λ o. rw (← call-outside s len kept sheet ready o) h)
+    (λ o.
+    let small = (inside s len o).0 in
+    every-turn (λ (x : Outcome State). x.next.position ≤ 4294967295) s len kept sheet ready (λ n. h) h
+    (omega (arith, small)) (λ polls. h) h (λ step e. omega (arith, small)))
 
 -- the number of a step that is handed out is the word at the position
 pub turn_word : (s : State) (len : ℕ) (kept sheet : List ℕ) (ready : Bool)
