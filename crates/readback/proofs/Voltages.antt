@@ -1,5 +1,5 @@
 -- A number over 255 is not a voltage code, and neither is 255, so clamping to 255 does not change the decoded voltage.
-use mathlib.Core.{Path.◌≡◌, Path.refl, Path.sym, Path.◌∙◌, Bool.Bool, Bool.true, Bool.false}
+use mathlib.Core.{Path.◌≡◌, Path.refl, Path.sym, Path.◌∙◌}
 use Prim.Native.Nat.{ℕ, min}
 use native.Mathlib.Omega.{arith}
 use lib.Dec.{ltb}
@@ -8,22 +8,16 @@ use Rattle.chip.specs.declared.Chip.{Chip}
 use Rattle.std.specs.Prelude.{Result, Ok, Err}
 use Rattle.std.specs.Result.{result_unwrap_or}
 use Rattle.base.specs.declared.refusal.Refusal.{Refusal}
-use Rattle.base.specs.Answer.{answer_of}
+use Rattle.base.{specs.Answer.answer_of, proofs.Bools.either_way}
 use Rattle.config.specs.Codes.{value_or}
 use Rattle.chip.specs.Voltage.{VoltageOf, core_voltage_of}
 use Rattle.chip.proofs.Codes.{no_code}
 
 pub least-code : (chip : Chip) (code : ℕ) → core_voltage_of chip (min code 255) ≡ core_voltage_of chip code
-least-code chip code = go (ltb 255 code) refl
-  where
-    go : (b : Bool) → ltb 255 code ≡ b → core_voltage_of chip (min code 255) ≡ core_voltage_of chip code
-    go true e =
-        let over = ltb-true 255 code e in
-        no_code chip (min code 255) (omega arith) ∙ sym (no_code chip code (omega arith))
-    go false e =
-        let under = ltb-false 255 code e in
-        let same : min code 255 ≡ code = omega arith in
-        rw same
+least-code chip code =
+    either_way (ltb 255 code)
+    (λ e. let over = ltb-true 255 code e in no_code chip (min code 255) (omega arith) ∙ sym (no_code chip code (omega arith)))
+    (λ e. let same : min code 255 ≡ code = omega (arith, ltb-false 255 code e) in rw same)
 
 -- A result whose answer is the voltage of the code clamped to 255 has the voltage of the code, and both have the same other one.
 pub decodes : (chip : Chip) (code : ℕ) (other : VoltageOf chip) (r : Result (VoltageOf chip) Refusal)
