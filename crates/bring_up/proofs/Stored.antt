@@ -1,8 +1,8 @@
 -- The frequencies after the steps of a sheet are its stored values, since only its stores set them.
-use mathlib.Core.{Bool.Bool, Bool.true, Bool.false, List.List, List.[], List.◌∷◌, Path.◌≡◌, Path.refl, Path.ap, Path.◌∙◌}
+use mathlib.Core.{Bool.false, List.List, List.[], List.◌∷◌, Path.◌≡◌, Path.refl, Path.ap, Path.◌∙◌}
 use Prim.Native.Nat.{ℕ}
 use lib.ListN.{replicate}
-use Rattle.base.specs.Choice.{pick}
+use Rattle.base.proofs.Bools.{either_way}
 use Rattle.step.specs.declared.Step.{Step}
 use Rattle.step.specs.Kinds.{is}
 use Rattle.step.specs.declared.kind.Kind.TheVariants as kind
@@ -24,13 +24,10 @@ no_store x freqs k = simp k
 
 stores-alone : (xs : List Step) (freqs : List ℕ) → stores_of xs freqs ≡ stores_of (stores_in xs) freqs
 stores-alone [] freqs = refl
-stores-alone (x ∷ xs) freqs = go (is x.kind kind.Store) refl (stores-alone xs (stored_by x freqs))
-  where
-    go : (b : Bool) → is x.kind kind.Store ≡ b
-        → stores_of xs (stored_by x freqs) ≡ stores_of (stores_in xs) (stored_by x freqs)
-        → stores_of xs (stored_by x freqs) ≡ stores_of (pick b (x ∷ stores_in xs) (stores_in xs)) freqs
-    go true k rest = rest
-    go false k rest = rest ∙ ap (stores_of (stores_in xs)) (no_store x freqs k)
+stores-alone (x ∷ xs) freqs =
+    let rest = stores-alone xs (stored_by x freqs) in
+    either_way (is x.kind kind.Store) (λ k. rw k rest)
+    (λ k. rw k (rest ∙ ap (stores_of (stores_in xs)) (no_store x freqs k)))
 
 -- an RTC for which nothing is stored has 0 Hz
 tenth : (c : ChipConfig) (f : Sources) (a₀ a₁ a₂ a₃ a₄ a₅ a₆ a₇ a₈ : ℕ)
