@@ -6,7 +6,7 @@ use Prim.Native.Nat.{ℕ, zero, suc, ◌+◌, ◌*◌, ◌≤◌}
 use native.Mathlib.Omega.{arith}
 use borrow.Author.Tests.{le-leb, ltb-true, ltb-false}
 use lib.{Dec.eqb, Dec.ltb, ListN.length, ListN.get_or, ListN.replicate}
-use Rattle.base.specs.Choice.{pick}
+use Rattle.base.{specs.Choice.pick, proofs.Bools.either_way}
 use Rattle.step.specs.Sheet.{max_bytes}
 use Rattle.step.specs.Size.{bad_size}
 use Rattle.numbers.specs.Fields.{nth, ten_at}
@@ -26,7 +26,6 @@ use Rattle.export.specs.Calls.{Held, held_of, held_after, run_numbers, IsBench, 
 use Rattle.export.specs.Calls.{ExportedSingle, ExportedSame}
 use Rattle.export.specs.State.{bench_held}
 use Rattle.export.proofs.{Rows.mark-same, Calls.taken, Calls.answered, Calls.after-start}
-use Rattle.sleep.proofs.Replay.{either_way}
 use Rattle.export.proofs.Benches.{bench-decoded, bench-held}
 
 started_by : Held → Begun Bench → Held

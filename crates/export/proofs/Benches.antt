@@ -1,11 +1,11 @@
 -- The numbers that an exported call for a board leaves, read as a bench, are the bench that the definition leaves.
-use mathlib.Core.{Bool.Bool, Bool.true, Bool.false, List.List, List.◌∷◌, Logic.◌⊎◌, Logic.inl, Logic.inr}
+use mathlib.Core.{Bool.Bool, List.List, List.◌∷◌, Logic.◌⊎◌, Logic.inl, Logic.inr}
 use mathlib.Core.Path.{◌≡◌, refl, sym, ap, ◌∙◌}
 use Prim.Native.Nat.{ℕ, zero, suc, ◌+◌, ◌*◌, ◌≤◌, ◌<◌}
 use native.Mathlib.Omega.{arith}
 use borrow.Author.Tests.{le-ltb, le-leb, eqb-true, eqb-false, ltb-true, ltb-false}
 use lib.{Dec.eqb, Dec.ltb, ListN.length, ListN.get_or, ListN.set, ListN.length-set, Seq.length-sets}
-use Rattle.base.specs.{Answer.Answer, Answer.value, Answer.refusal, Choice.bit, Choice.pick}
+use Rattle.base.{specs.Answer.Answer, specs.Answer.value, specs.Answer.refusal, specs.Choice.bit, proofs.Bools.either_way}
 use Rattle.step.specs.declared.Step.{Step}
 use Rattle.step.specs.Kinds.{is}
 use Rattle.step.specs.declared.kind.Kind.TheVariants as kind
@@ -21,16 +21,12 @@ use Rattle.numbers.specs.Bench.{stepper_at, boards_from, bench_in, board_numbers
 use Rattle.numbers.proofs.Boards.{call, of-board, next-board}
 use Rattle.export.specs.Calls.{IsBench}
 use Rattle.export.proofs.Rows.{mark-back, mark-same, mark-least, outside, inside, sets_same}
-use Rattle.sleep.proofs.Replay.{either_way}
 
 -- the list of frequencies keeps its length
 stored-long : (step : Step) (freqs : List ℕ) → length (stored_by step freqs) ≡ length freqs
 unfolding stored_by
-stored-long step freqs = go (is step.kind kind.Store)
-  where
-    go : (b : Bool) → length (pick b (set freqs step.f0 step.f1) freqs) ≡ length freqs
-    go true = length-set freqs step.f0 step.f1
-    go false = refl
+stored-long step freqs =
+    either_way (is step.kind kind.Store) (λ e. rw e (length-set freqs step.f0 step.f1)) (λ e. rw e)
 
 after-long : (a : Answer Reply) (freqs : List ℕ) → length (freqs_after a freqs) ≡ length freqs
 after-long (value Done) freqs = refl

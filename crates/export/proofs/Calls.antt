@@ -5,7 +5,7 @@ use mathlib.Core.Path.{◌≡◌, refl, sym, ap, ◌∙◌}
 use Prim.Native.Nat.{ℕ, zero, suc, ◌≤◌}
 use native.Mathlib.Omega.{arith}
 use lib.{ListN.length, ListN.get_or, ListN.drop, ListN.replicate, ListN.take-append-drop}
-use Rattle.base.specs.{Answer.Answer, Answer.value, Answer.refusal}
+use Rattle.base.{specs.Answer.Answer, specs.Answer.value, specs.Answer.refusal, proofs.Bools.either_way}
 use Rattle.step.specs.Sheet.{max_bytes}
 use Rattle.step.specs.Size.{bad_size}
 use Rattle.config.specs.declared.ClockConfig.{ClockConfig}
@@ -27,7 +27,6 @@ use Rattle.numbers.specs.Run.{progress_number, with_state, with_freqs, run_numbe
 use Rattle.export.specs.Calls.{Held, runner_of, held_of, call_leaves, held_after, run_numbers, polls, polls_with, ExportedOneSheet}
 use Rattle.export.specs.Calls.{held_from, number_of, ExportedComesUp}
 use Rattle.export.proofs.{Ranges.word-from, Rows.mark-back, Rows.mark-same, Rows.mark-good}
-use Rattle.sleep.proofs.Replay.{either_way}
 
 -- ---- numbers written and read
 

@@ -1,11 +1,11 @@
 -- A preset's plan is read back from its numbers, since they fit their types: those that the preset gives are small, and a PLL that is
 -- searched for, or valid, has dividers of the datasheet's ranges.
 use Rattle.std.specs.Prelude.{Option, Some, None}
-use mathlib.Core.{Bool.Bool, Bool.true, Bool.false, Path.◌≡◌, Path.refl, Path.ap, Path.subst}
+use mathlib.Core.{Bool.true, Path.◌≡◌, Path.refl, Path.ap, Path.subst}
 use Prim.Native.Nat.{ℕ, ◌≤◌}
 use native.Mathlib.Omega.{arith}
 use lib.{Dec.eqb}
-use Rattle.base.specs.{Answer.Answer, Answer.value, Answer.refusal, Choice.pick}
+use Rattle.base.{specs.Answer.Answer, specs.Answer.value, specs.Answer.refusal, proofs.Bools.either_way}
 use Rattle.chip.specs.declared.{Chip.Chip, Chip.TheVariants.Rp2040, Chip.TheVariants.Rp235x, voltage.CoreVoltage.CoreVoltage}
 use Rattle.chip.specs.declared.voltage.CoreVoltage.TheVariants as volts
 use Rattle.chip.specs.Chips.{facts_of}
@@ -14,7 +14,7 @@ use Rattle.pll.specs.{Setting.valid_of, Search.search_of, Usb.usb_of, Law.RightA
 use Rattle.pll.proofs.{Right.search-right, Valid.valid, UsbRight.usb-found}
 use Rattle.config.specs.declared.{ClockConfig.ClockConfig, RoscConfig.RoscConfig, RoscRange.RoscRange, RtcClkConfig.RtcClkConfig}
 use Rattle.config.specs.Board.{board_of}
-use Rattle.config.specs.Presets.{plain, from_plls, feeding_both, feeding, with_found, ring_config, rosc_plan}
+use Rattle.config.specs.Presets.{plain, from_plls, feeding_both, with_found, ring_config, rosc_plan}
 use Rattle.config.specs.Presets.{default_plan, crystal_plan, system_voltage, system_plan, system_plan_from, manual_plan}
 use Rattle.numbers.specs.Fields.{u32}
 use Rattle.numbers.specs.Typed.{PllTyped, RingTyped, ClockTyped, ChipTyped, PlanTyped}
@@ -119,22 +119,20 @@ from-back chip from hz p few = go (search_of from hz) (usb_of from) refl refl
 
 system-back : (chip : Chip) (hz : ℕ) (p : ClockConfig) → system_plan chip hz ≡ value p → Back chip p
 unfolding system_plan
-system-back chip hz p = go (eqb hz (facts_of chip).preset_hz)
-  where
-    go : (same : Bool) → pick same (value (crystal_plan chip 12000000)) (system_plan_from chip 12000000 hz) ≡ value p → Back chip p
-    go true h = subst (ForPlan chip) h (crystal-back chip 12000000 (omega arith))
-    go false h = from-back chip 12000000 hz p (omega arith) h
+system-back chip hz p e =
+    either_way (eqb hz (facts_of chip).preset_hz)
+    (λ s. subst (ForPlan chip) (rw s at e) (crystal-back chip 12000000 (omega arith)))
+    (λ s. from-back chip 12000000 hz p (omega arith) (rw s at e))
 
 manual-back : (hz : ℕ) (pll : PllConfig) (v : CoreVoltage) (p : ClockConfig) → hz ≤ u32 → manual_plan hz pll v ≡ value p → Back Rp2040 p
 unfolding manual_plan
-manual-back hz pll v p few = go (valid_of pll hz) refl
-  where
-    go : (ok : Bool) → valid_of pll hz ≡ ok → pick ok (value (from_plls Rp2040 v None (feeding hz pll))) (refusal 5) ≡ value p
-        → Back Rp2040 p
-    go true e h =
-        subst (ForPlan Rp2040) h
-        (plls-back Rp2040 v hz pll _ None few (valid-typed pll hz e) (omega arith, omega arith, omega arith, omega arith) tt)
-    go false e h = subst (λ (t : Type 0). t) (ap (ForPlan Rp2040) h) tt
+manual-back hz pll v p few e =
+    subst (ForPlan Rp2040) e
+    (either_way (valid_of pll hz)
+    (λ ok.
+    rw ok
+    (plls-back Rp2040 v hz pll _ None few (valid-typed pll hz ok) (omega arith, omega arith, omega arith, omega arith) tt))
+    (λ no. rw no tt))
 
 pub presets-back : PresetsBack
 presets-back =

@@ -7,11 +7,12 @@ use Prim.Native.Nat.{ℕ, zero, suc, ◌+◌, ◌≤◌}
 use native.Mathlib.Omega.{arith}
 use borrow.Author.Tests.{le-ltb, ltb-false}
 use lib.{Dec.eqb, Dec.ltb, ListN.length, ListN.set, ListN.replicate, Seq.sets}
+use Rattle.base.proofs.Bools.{either_way}
 use Rattle.numbers.specs.Fields.{nth}
 use Rattle.sleep.specs.declared.{Slot.Slot}
 use Rattle.sleep.specs.Sleep.{SleepOutcome, fresh_slots, slot_at, sleep_of, woken, wake_of}
 use Rattle.sleep.specs.History.{SleepEvent, sleeps, wakes, writes, happens, board_after}
-use Rattle.sleep.proofs.{History.history, Replay.either_way}
+use Rattle.sleep.proofs.History.{history}
 use Rattle.numbers.specs.Slots.{words_at, slots_in, slots_numbers}
 use Rattle.numbers.proofs.{PartRows.row-whole, Asked.sets-all}
 use Rattle.numbers.specs.SleepCall.{are_slots, asked_with}

@@ -11,7 +11,7 @@ use Rattle.base.specs.{Answer.Answer, Answer.value, Answer.refusal, Placed.past}
 use Rattle.step.specs.Size.{bad_size}
 use Rattle.step.proofs.Sizes.{size_fits}
 use Rattle.chip.specs.declared.{Chip.Chip, Chip.TheVariants.Rp2040, Chip.TheVariants.Rp235x}
-use Rattle.base.specs.declared.refusal.Refusal.{Refusal}
+use Rattle.base.{specs.declared.refusal.Refusal.Refusal, proofs.Bools.either_way}
 use Rattle.config.specs.declared.ClockConfig.{ClockConfig}
 use Rattle.config.specs.Board.{board_of}
 use Rattle.sheet.specs.Writer.{sheet_bytes, refusal_in, init_answer, init_buffer}
@@ -34,7 +34,6 @@ use Rattle.boards.specs.{Bench.eight_of, Bench.start_all_of, History.poll}
 use Rattle.boards.proofs.Benches.{all-refused, all-kept}
 use Rattle.sleep.specs.declared.steps.Step.{Step}
 use Rattle.sleep.specs.Sleep.{SleepOutcome}
-use Rattle.sleep.proofs.Replay.{either_way}
 use Rattle.numbers.specs.Slots.{steps_numbers}
 use Rattle.numbers.specs.Answers.{refusals, itself, answer_number, limits_after}
 use Rattle.numbers.specs.Answers.{done as margin-done}

@@ -7,12 +7,12 @@ use mathlib.Core.{Path.◌≡◌, Path.refl, Path.sym, Path.ap, Path.◌∙◌, 
 use mathlib.Core.{List.List, List.[], List.◌∷◌}
 use lib.{Dec.ltb, Dec.eqb, ListN.length, ListN.length-set, Seq.get_or-set_same, Seq.get_or-set_other}
 use borrow.Author.Tests.{le-ltb, ltb-false, eqb-true, eqb-false}
-use Rattle.base.specs.Choice.{pick}
+use Rattle.base.{specs.Choice.pick, proofs.Bools.either_way}
 use Rattle.sleep.specs.declared.Slot.{Slot}
 use Rattle.sleep.specs.Sleep.{answer_steps, unsaved, saved, fresh_slots, slot_at, refused_call, woken, sleep_of, wake_of}
 use Rattle.sleep.specs.History.{SleepEvent, sleeps, wakes, writes, happens, board_after}
 use Rattle.sleep.specs.History.{last_sleep, wake_from, Restores}
-use Rattle.sleep.proofs.Replay.{either_way, length-replayed, wake-restores}
+use Rattle.sleep.proofs.Replay.{length-replayed, wake-restores}
 
 -- ---- a call
 

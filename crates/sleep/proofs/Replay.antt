@@ -3,6 +3,7 @@ use Prim.Native.Nat.{ℕ, suc}
 use native.Mathlib.Omega.{arith}
 use mathlib.Core.{Path.◌≡◌, Path.refl, Path.◌∙◌, Bool.Bool, Bool.true, Bool.false, List.List, List.[], List.◌∷◌, List.◌++◌}
 use lib.{Dec.ltb, ListN.length, ListN.length-set}
+use Rattle.base.proofs.Bools.{either_way}
 use Rattle.sleep.specs.declared.steps.Step.{Step}
 use Rattle.sleep.specs.declared.steps.Step.TheVariants.{Write, RingStable, CrystalStable, Locked}
 use Rattle.step.specs.declared.clock.Pll.TheVariants.{Sys, Usb}
@@ -11,11 +12,6 @@ use Rattle.sleep.specs.Registers.{number_of}
 use Rattle.sleep.specs.{Bits.pll_runs, Bits.crystal_runs, Words.word_in, Words.asleep}
 use Rattle.sleep.specs.Sleep.{answer_steps, wait_if, sleep_steps, wake_steps_by, wake_steps, slot_at, sleep_of, wake_of}
 use Rattle.sleep.specs.History.{written, replayed, order, wait_steps}
-
--- a case split on a test
-pub either_way : {C : Type 0} (t : Bool) → (t ≡ true → C) → (t ≡ false → C) → C
-either_way true f g = f refl
-either_way false f g = g refl
 
 -- ---- eleven registers
 
