@@ -1,13 +1,13 @@
 -- An answer has at most 3477 bytes: a 32-bit number has at most 10 digits, a 64-bit number at most 20, and a byte has two hex
 -- digits.
-use mathlib.Core.{Path.◌≡◌, Bool.Bool, Bool.true, Bool.false, List.List, List.[], List.◌∷◌, List.◌++◌}
+use mathlib.Core.{Path.◌≡◌, List.List, List.[], List.◌∷◌}
 use Prim.Native.Nat.{ℕ, suc, ◌+◌, ◌*◌, ◌%◌, ◌≤◌, ◌<◌}
 use native.Mathlib.Omega.{arith}
 use lib.{Dec.eqb, ListN.length, ListN.get_or, ListN.length-append}
-use Rattle.base.specs.Choice.{pick, in_range}
+use Rattle.base.{specs.Choice.in_range, proofs.Bools.either_way}
 use Rattle.text.specs.{Decimal.decimal_of, Hex.hex_digits, Hex.hex_of}
 use Rattle.text.proofs.Decimals.{length-decimal}
-use Rattle.text.specs.Reply.{bad_case, refused_text, spaced, row_text}
+use Rattle.text.specs.Reply.{spaced, row_text}
 use Rattle.numbers.specs.Answers.{refusals, malformed}
 use Rattle.cases.specs.Said.{number_text, hex_behind, call_text}
 
@@ -16,11 +16,9 @@ decimal-short : (n : ℕ) → n < 18446744073709551616 → length (decimal_of n)
 decimal-short n h = (length-decimal 19 n (omega arith)).1
 
 number_short : (r : ℕ) → r < 18446744073709551616 → length (number_text r) ≤ 20
-number_short r h = go (in_range refusals (refusals + 255) r)
-  where
-    go : (t : Bool) → length (pick t (refused_text (r % 256)) (decimal_of r)) ≤ 20
-    go true = simp length-append (omega (arith, (length-decimal 2 (r % 256) (omega arith)).1))
-    go false = decimal-short r h
+number_short r h =
+    either_way (in_range refusals (refusals + 255) r)
+    (λ e. rw e (simp length-append (omega (arith, (length-decimal 2 (r % 256) (omega arith)).1)))) (λ e. rw e (decimal-short r h))
 
 spaced-short : (ns : List ℕ) → ((i : ℕ) → get_or ns i 0 < 4294967296) → length (spaced ns) ≤ 11 * length ns
 spaced-short [] all = omega arith
@@ -41,15 +39,9 @@ hex-short (b ∷ bs) = let rest = digits-length (b ∷ bs) in omega arith
 pub call_short : (r : ℕ) (row bytes : List ℕ) → r < 18446744073709551616 → ((i : ℕ) → get_or row i 0 < 4294967296)
     → length row ≤ 128 → length bytes ≤ 1024 → length (call_text r row bytes) ≤ 3477
 unfolding call_text
-call_short r row bytes h all few small = go (eqb r malformed)
-  where
-    go : (t : Bool) → length (pick t bad_case (number_text r ++ (spaced row ++ hex_behind bytes))) ≤ 3477
-    go true = omega arith
-    go false =
-        let number = number_short r h in
-        let numbers = spaced-short row all in
-        let hex = hex-short bytes in
-        simp length-append (omega arith)
+call_short r row bytes h all few small =
+    either_way (eqb r malformed) (λ e. rw e (omega arith))
+    (λ e. rw e (simp length-append (omega (arith, number_short r h, spaced-short row all, hex-short bytes))))
 
 pub row_short : (a b : ℕ) → a < 18446744073709551616 → b < 18446744073709551616 → length (row_text a (b ∷ [])) ≤ 3477
 row_short a b h k = simp length-append (omega (arith, decimal-short a h, decimal-short b k))

@@ -11,9 +11,10 @@ use Prim.Native.Nat.{ℕ, suc, ◌≤◌, ◌<◌}
 use native.Mathlib.Omega.{arith}
 use borrow.Author.Tests.{lt-ltb, le-ltb, leb-true}
 use lib.{Dec.eqb, Dec.leb, ListN.length, ListN.drop, ListN.get_or, ListN.drop_of_length-le, Seq.sets, Seq.drop-cons}
-use Rattle.base.specs.Choice.{pick}
+use Rattle.base.{specs.Choice.pick, proofs.Bools.either_way}
 use Rattle.std.proofs.lemmas.Bool.{and_parts}
 use Rattle.text.specs.{Hex.is_hex_word, Hex.is_readable, Hex.pair_values, Hex.hex_of, Hex.HexReading}
+use Rattle.text.proofs.HexWords.{no_word}
 use Rattle.cases.specs.declared.words.Words.{Words}
 use Rattle.cases.specs.Line.{word_after, rest_after}
 use Rattle.cases.specs.Words.{with_number, number_step, then, step, given}
@@ -29,38 +30,24 @@ pub record Hexed (w xs : List ℕ) (m : ℕ) (ys : List ℕ) : Type 0 where
 module _ {w xs ys : List ℕ} where
   pub hexed : {m : ℕ} → HexReading w xs (Some m) ys → Hexed w xs m ys
   unfolding is_readable
-  hexed {m} h = go (is_readable w (length xs)) refl h.answer h.bytes
-    where
-      go : (t : Bool) → is_readable w (length xs) ≡ t → Some m ≡ pick t (Some (length (pair_values w))) None
-          → ys ≡ pick t (sets xs 0 (pair_values w)) xs → Hexed w xs m ys
-      go true r e b =
-          let count : m ≡ length (pair_values w) = cc in
-          record {
-            readable = r;
-            count = count;
-            fits =
-                let room = and_parts (is_hex_word w) (leb (length (pair_values w)) (length xs)) r in
-                omega (arith, leb-true (length (pair_values w)) (length xs) room.1);
-            bytes = b;
-          }
-      go false r e b = let z : ◌≡◌ {A = ℕ} 0 1 = cc in absurd (omega arith)
+  hexed {m} h =
+      either_way (is_readable w (length xs))
+      (λ r.
+      let e : Some m ≡ Some (length (pair_values w)) = rw r at h.answer in
+      let count : m ≡ length (pair_values w) = cc in
+      let room = and_parts (is_hex_word w) (leb (length (pair_values w)) (length xs)) r in
+      let fits : m ≤ length xs = omega (arith, leb-true (length (pair_values w)) (length xs) room.1) in
+      record { readable = r; count = count; fits = fits; bytes = rw r at h.bytes })
+      (λ r. let e : Some m ≡ None = rw r at h.answer in let z : ◌≡◌ {A = ℕ} 0 1 = cc in absurd (omega arith))
 
   pub not-hexed : HexReading w xs None ys → is_readable w (length xs) ≡ false
-  not-hexed h = go (is_readable w (length xs)) h.answer
-    where
-      go : (t : Bool) → None ≡ pick t (Some (length (pair_values w))) None → t ≡ false
-      go true e = let z : ◌≡◌ {A = Bool} true false = cc in z
-      go false e = refl
+  not-hexed h = no_word refl h
 
 -- a number that is at most its limit is stored
 pub counted : (s : Words) (a : Result ℕ Refusal) (top : ℕ) (r : Option ℕ)
     → MatchOption (result_ok a) (r ≡ None) (λ n. r ≡ then_some (leb n top) n)
     → option_map (with_number s) r ≡ number_step top (answer_of a) s
-counted s (Ok n) top r e = rw e (go (leb n top))
-  where
-    go : (t : Bool) → option_map (with_number s) (then_some t n) ≡ pick t (Some (with_number s n)) None
-    go true = refl
-    go false = refl
+counted s (Ok n) top r e = rw e (either_way (leb n top) (λ t. rw t) (λ t. rw t))
 counted s (Err why) top r e = rw e
 
 -- the result for the letters from i on, by one letter more
