@@ -1,12 +1,12 @@
 -- The test holds exactly for equal rows of numbers, no bit is set exactly where all rows are equal, and each bit says whether its
 -- rows differ.
-use mathlib.Core.{Path.◌≡◌, Path.refl, Bool.Bool, Bool.true, Bool.false, Bool.◌&&◌, Bool.not}
+use mathlib.Core.{Path.◌≡◌, Path.refl, Bool.Bool, Bool.true, Bool.◌&&◌, Bool.not}
 use mathlib.Core.List.{List, [], ◌∷◌}
 use Prim.Native.Nat.{ℕ, zero, suc, ◌+◌, ◌*◌, ◌/◌, ◌%◌, ◌^◌, ◌<◌}
 use native.Mathlib.{Nat.div-div-eq-div-mul, Nat.pow-suc, Omega.arith}
 use borrow.Author.Tests.{eqb-true, eq-eqb, ne_eqb}
 use lib.{Dec.eqb, ListN.length, ListN.get_or}
-use Rattle.base.specs.Choice.{pick}
+use Rattle.base.{specs.Choice.pick, proofs.Bools.either_way}
 use Rattle.std.proofs.lemmas.Bool.{and_parts}
 use Rattle.wording.specs.Differences.{agree_from, agree, mask_of, has_bit}
 
@@ -43,14 +43,13 @@ pub mask-none : (xs ys : List (List ℕ)) → length xs ≡ length ys → mask_o
 mask-none [] [] l e = refl
 mask-none [] (y ∷ ys) l e = absurd (omega arith)
 mask-none (x ∷ xs) [] l e = absurd (omega arith)
-mask-none (x ∷ xs) (y ∷ ys) l e = go (agree x y) refl (mask-none xs ys (omega arith)) e
-  where
-    go : (t : Bool) → agree x y ≡ t → (mask_of xs ys ≡ 0 → xs ≡ ys) → pick t 0 1 + 2 * mask_of xs ys ≡ 0 → x ∷ xs ≡ y ∷ ys
-    go true same more z =
-        let x-y : x ≡ y = agree-true x y same in
-        let xs-ys : xs ≡ ys = more (omega arith) in
-        cc
-    go false same more z = absurd (omega arith)
+mask-none (x ∷ xs) (y ∷ ys) l e =
+    either_way (agree x y)
+    (λ same.
+    let z = rw same at e in
+    let x-y : x ≡ y = agree-true x y same in
+    let xs-ys : xs ≡ ys = mask-none xs ys (omega arith) (omega arith) in
+    cc) (λ same. let z = rw same at e in absurd (omega arith))
 
 pub mask-same : (xs : List (List ℕ)) → mask_of xs xs ≡ 0
 mask-same [] = refl
@@ -61,23 +60,11 @@ pub mask-bit : (xs ys : List (List ℕ)) (k : ℕ) → k < length xs → k < len
     → has_bit (mask_of xs ys) k ≡ not (agree (get_or xs k []) (get_or ys k []))
 mask-bit [] ys k h l = absurd (omega arith)
 mask-bit (x ∷ xs) [] k h l = absurd (omega arith)
-mask-bit (x ∷ xs) (y ∷ ys) zero h l = go (agree x y)
-  where
-    go : (t : Bool) → eqb ((pick t 0 1 + 2 * mask_of xs ys) / 1 % 2) 1 ≡ not t
-    go true = ne_eqb ((0 + 2 * mask_of xs ys) / 1 % 2) 1 (λ e. omega arith)
-    go false = eq-eqb ((1 + 2 * mask_of xs ys) / 1 % 2) 1 (omega arith)
-mask-bit (x ∷ xs) (y ∷ ys) (suc k) h l = go (agree x y) (mask-bit xs ys k (omega arith) (omega arith))
-  where
-    m : ℕ
-    m = mask_of xs ys
-
-    half : (t : Bool) → (pick t 0 1 + 2 * m) / 2 ≡ m
-    half true = omega arith
-    half false = omega arith
-
-    twice : 2 ^ suc k ≡ 2 * 2 ^ k
-    twice = let p : 2 ^ suc k ≡ 2 ^ k * 2 = pow-suc 2 k in omega arith
-
-    go : (t : Bool) → has_bit m k ≡ not (agree (get_or xs k []) (get_or ys k []))
-        → eqb ((pick t 0 1 + 2 * m) / 2 ^ suc k % 2) 1 ≡ not (agree (get_or xs k []) (get_or ys k []))
-    go t more = rw (twice, ← div-div-eq-div-mul (pick t 0 1 + 2 * m) 2 (2 ^ k), half t) more
+mask-bit (x ∷ xs) (y ∷ ys) zero h l =
+    either_way (agree x y) (λ e. rw e (ne_eqb ((0 + 2 * mask_of xs ys) / 1 % 2) 1 (λ e. omega arith)))
+    (λ e. rw e (eq-eqb ((1 + 2 * mask_of xs ys) / 1 % 2) 1 (omega arith)))
+mask-bit (x ∷ xs) (y ∷ ys) (suc k) h l =
+    let both : ℕ = pick (agree x y) 0 1 + 2 * mask_of xs ys in
+    let half : both / 2 ≡ mask_of xs ys = either_way (agree x y) (λ e. rw e (omega arith)) (λ e. rw e (omega arith)) in
+    let twice : 2 ^ suc k ≡ 2 * 2 ^ k = omega (arith, pow-suc 2 k) in
+    rw (twice, ← div-div-eq-div-mul both 2 (2 ^ k), half) (mask-bit xs ys k (omega arith) (omega arith))

@@ -1,5 +1,5 @@
 -- The derived tests of the parts of settings are those of their numbers.
-use Rattle.std.specs.Prelude.{Option, Some, None, ℕ, Bool, true, false, ◌≡◌}
+use Rattle.std.specs.Prelude.{Option, Some, None, ℕ, ◌≡◌}
 use Rattle.std.specs.Option.{option_eq, option_map}
 use Rattle.std.proofs.Math.Bool.{and_assoc}
 use mathlib.Core.{Path.sym, Path.refl, Path.ap, Path.◌∙◌, Bool.◌&&◌}
@@ -7,6 +7,7 @@ use lib.Dec.{eqb}
 use borrow.Author.Tests.{eqb-true, eqb-false}
 use denote.Enum.Declared.{Declared}
 use denote.Enum.Bare.{Bare, sameb, true_same, false_same}
+use Rattle.base.proofs.Bools.{either_way}
 use Rattle.chip.specs.declared.Chip.{Chip}
 use Rattle.chip.specs.contracts.Chip as chip
 use Rattle.pll.specs.declared.PllConfig.{PllConfig}
@@ -34,11 +35,10 @@ use Rattle.wording.proofs.Decode.{chip_at, code-back, sys-back}
 -- Values of an enum with no fields are the same exactly where their codes are, if the codes are read back.
 same-code : (D : Declared) → Bare D.parts → (code : D.D → ℕ) (from : ℕ → D.D) → ((x : D.D) → from (code x) ≡ x)
     → (a b : D.D) → sameb D a b ≡ eqb (code a) (code b)
-same-code D bare code from back a b = go (eqb (code a) (code b)) refl
-  where
-    go : (t : Bool) → eqb (code a) (code b) ≡ t → sameb D a b ≡ t
-    go true e = true_same D a b (sym (back a) ∙ ap from (eqb-true (code a) (code b) e) ∙ back b)
-    go false e = false_same D bare a b (λ p. eqb-false (code a) (code b) e (ap code p))
+same-code D bare code from back a b =
+    either_way (eqb (code a) (code b))
+    (λ e. true_same D a b (sym (back a) ∙ ap from (eqb-true (code a) (code b) e) ∙ back b) ∙ sym e)
+    (λ e. false_same D bare a b (λ p. eqb-false (code a) (code b) e (ap code p)) ∙ sym e)
 
 pub chip_same : (a b : Chip) → sameb chip.the_type a b ≡ eqb (chip_code a) (chip_code b)
 chip_same = same-code chip.the_type tt chip_code chip_at code-back

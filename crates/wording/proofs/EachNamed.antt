@@ -5,6 +5,7 @@ use Prim.Native.Nat.{ℕ, ◌+◌, ◌^◌, ◌<◌}
 use native.Mathlib.{Nat.mod-lt, Omega.arith}
 use lib.{Dec.eqb, Dec.leb, ListN.length, Pow.pow_pos}
 use Rattle.base.specs.{Answer.Answer, Answer.value, Answer.refusal, Choice.pick, Choice.in_range}
+use Rattle.base.proofs.Bools.{either_way}
 use Rattle.chip.specs.declared.{Chip.Chip, Chip.TheVariants.Rp2040, Chip.TheVariants.Rp235x}
 use Rattle.step.specs.declared.Step.{Step}
 use Rattle.registers.specs.{declared.Access.Access, Access.row_of, Access.has, Access.access_of}
@@ -76,9 +77,4 @@ NamedIn c (refusal n) = Unit {0}
 
 pub each-named : (c : Chip) (s : Step) → NamedIn c (access_of c s)
 unfolding access_of
-each-named c s = go (has c s.kind) (row_of s.kind c s) (told c s.kind s)
-  where
-    go : (b : Bool) (a : Access) → (pick b (named c (op_of a) (address_of a)) true ≡ true) × Paused a
-        → NamedIn c (pick b (value a) (refusal 20))
-    go true a e = e
-    go false a e = tt
+each-named c s = either_way (has c s.kind) (λ e. rw e (rw e at (told c s.kind s))) (λ e. rw e tt)

@@ -1,9 +1,9 @@
 -- A line and a listing have a greatest length, so a caller can lend a buffer that holds the whole listing.
-use mathlib.Core.{Path.◌≡◌, Path.refl, Bool.Bool, Bool.true, Bool.false, List.List, List.[], List.◌∷◌, List.◌++◌}
+use mathlib.Core.{Path.◌≡◌, Path.refl, Bool.Bool, Bool.true, Bool.false, List.List, List.[], List.◌∷◌}
 use Prim.Native.Nat.{ℕ, zero, suc, ◌+◌, ◌*◌, ◌^◌, ◌≤◌, ◌<◌}
 use native.Mathlib.Omega.{arith}
 use lib.{Dec.eqb, ListN.length, ListN.take, ListN.drop, ListN.length-append, ListN.length-take}
-use Rattle.base.specs.{Answer.Answer, Answer.value, Answer.refusal, Choice.pick}
+use Rattle.base.{specs.Answer.Answer, specs.Answer.value, specs.Answer.refusal, specs.Choice.pick, proofs.Bools.either_way}
 use Rattle.chip.specs.declared.Chip.{Chip}
 use Rattle.text.specs.{Ascii.ascii, Hex.hex_digits, Hex.hex_of}
 use Rattle.text.proofs.Decimals.{length-decimal}
@@ -89,12 +89,10 @@ line-most c sheet i few =
 lines-most : (c : Chip) (sheet : List ℕ) (i n : ℕ) → i + n ≤ 1000 → length (lines_from c sheet i n) ≤ n * line_most
 lines-most c sheet i zero few = omega arith
 lines-most c sheet i (suc n) few =
-    go (is_step (found_at c sheet i)) (line-most c sheet i (omega arith)) (lines-most c sheet (suc i) n (omega arith))
-  where
-    go : (b : Bool) → length (line_at c sheet i) ≤ line_most → length (lines_from c sheet (suc i) n) ≤ n * line_most
-        → length (line_at c sheet i ++ pick b (lines_from c sheet (suc i) n) []) ≤ suc n * line_most
-    go true line more = simp length-append (omega (arith, line, more))
-    go false line more = simp length-append (omega (arith, line))
+    let line = line-most c sheet i (omega arith) in
+    let more = lines-most c sheet (suc i) n (omega arith) in
+    either_way (is_step (found_at c sheet i))
+    (λ e. rw e (simp length-append (omega (arith, line, more)))) (λ e. rw e (simp length-append (omega (arith, line))))
 
 -- a line for each 8 bytes
 pub listing-most : (sheet : List ℕ) → length sheet ≤ 8000 → length (steps_text sheet) ≤ lines_of sheet * line_most

@@ -8,7 +8,7 @@ use Prim.Native.Nat.{ℕ, ◌≤◌}
 use native.Mathlib.Omega.{arith}
 use borrow.Author.Tests.{leb-true}
 use lib.{Dec.eqb, Dec.leb, ListN.length}
-use Rattle.base.specs.Choice.{pick}
+use Rattle.base.{specs.Choice.pick, proofs.Bools.either_way}
 use Rattle.std.proofs.lemmas.Bool.{and_parts}
 use Rattle.chip.specs.declared.{Chip.Chip, Chip.TheVariants.Rp2040, Chip.TheVariants.Rp235x}
 use Rattle.text.specs.Ascii.{ascii}
@@ -54,12 +54,8 @@ name-within : (rows : List Row) (most a : ℕ) → all_within most (map (λ (r :
 name-within [] most a t = omega arith
 name-within (r ∷ rows) most a t =
     let both = and_parts (leb (length (ascii r.name)) most) (all_within most (map (λ (r : Row). r.name) rows)) t in
-    go (eqb r.address a) (leb-true (length (ascii r.name)) most both.0) (name-within rows most a both.1)
-  where
-    go : (b : Bool) → length (ascii r.name) ≤ most → length (name_in rows a) ≤ most
-        → length (pick b (ascii r.name) (name_in rows a)) ≤ most
-    go true here more = here
-    go false here more = more
+    either_way (eqb r.address a)
+    (λ e. rw e (leb-true (length (ascii r.name)) most both.0)) (λ e. rw e (name-within rows most a both.1))
 
 pub name-most : (c : Chip) (a : ℕ) → length (name_of c a) ≤ 25
 unfolding name_of name_rows

@@ -8,7 +8,7 @@ use Prim.Native.Nat.{ℕ}
 use native.Mathlib.Omega.{arith}
 use borrow.Author.Tests.{eqb-true}
 use lib.{Dec.eqb, ListN.take, ListN.drop, ListN.get_or, Seq.take_at}
-use Rattle.base.specs.{Answer.Answer, Answer.value, Answer.refusal, Choice.pick}
+use Rattle.base.{specs.Answer.Answer, specs.Answer.value, specs.Answer.refusal, specs.Choice.pick, proofs.Bools.either_way}
 use Rattle.text.specs.Ascii.{ascii}
 use Rattle.config.specs.declared.ClockConfig.{ClockConfig}
 use Rattle.settings.specs.declared.Settings.{Settings}
@@ -42,11 +42,9 @@ only-as-ordered reading (differs mask p q) e =
 
 -- no bit is set
 bits_none : (mask : ℕ) (p q : ClockConfig) → by_bits mask p q ≡ as_ordered → mask ≡ 0
-bits_none mask p q e = go (eqb mask 0) refl e
-  where
-    go : (t : Bool) → eqb mask 0 ≡ t → pick t as_ordered (differs mask p q) ≡ as_ordered → mask ≡ 0
-    go true h e = eqb-true mask 0 h
-    go false h e = let z : ◌≡◌ {A = ℕ} 0 1 = cc in absurd (omega arith)
+bits_none mask p q e =
+    either_way (eqb mask 0) (eqb-true mask 0)
+    (λ h. let d : differs mask p q ≡ as_ordered = rw h at e in let z : ◌≡◌ {A = ℕ} 0 1 = cc in absurd (omega arith))
 
 -- the same settings have the same sheet
 same_bytes : (p q : ClockConfig) (reading : ℕ) → settings_of p reading ≡ settings_of q reading
