@@ -1,11 +1,11 @@
 -- Every report is eleven lines for an accepted plan or refusal 24; 11 bytes of the input decide it, and 256 bytes are
 -- enough for it.
-use mathlib.Core.{Bool.Bool, Bool.true, Bool.false, List.List, List.[], List.◌∷◌, List.◌++◌}
-use mathlib.Core.{Logic.◌⊎◌, Logic.inl, Logic.inr, Path.◌≡◌, Path.refl, Path.ap, Path.◌∙◌}
+use mathlib.Core.{List.List, List.[], List.◌∷◌, List.◌++◌}
+use mathlib.Core.{Logic.◌⊎◌, Logic.inl, Logic.inr, Path.◌≡◌, Path.ap, Path.◌∙◌}
 use Prim.Native.{Nat.ℕ, Nat.◌+◌, Nat.◌≤◌, String.String}
 use native.Mathlib.Omega.{arith}
 use lib.{Count.ones, Count.ones-le, ListN.length, ListN.take, ListN.length-append}
-use Rattle.base.specs.Answer.{value}
+use Rattle.base.{specs.Answer.value, proofs.Bools.either_way}
 use Rattle.text.specs.{Ascii.ascii, Decimal.value_of, Decimal.is_number, Decimal.number_of, Words.up_to, Words.line_number_of}
 use Rattle.text.proofs.{Decimals.length-decimal, Lines.line-start}
 use Rattle.config.specs.declared.ClockConfig.{ClockConfig}
@@ -31,22 +31,20 @@ pub record Reported (input : List ℕ) : Type 0 where
 -- every other input is refused with 24
 pub report-cases : (input : List ℕ) → (report_of input ≡ refused_line 24) ⊎ Reported input
 unfolding report_of plan_report number_of
-report-cases input = go (is_number (up_to 10 input)) refl
-  where
-    go : (b : Bool) → is_number (up_to 10 input) ≡ b → (report_of input ≡ refused_line 24) ⊎ Reported input
-    go false e = inl (rw e)
-    go true e =
-        let hz : ℕ = value_of (up_to 10 input) in
-        let read : line_number_of input ≡ value hz = rw e in
-        let s = system-accepted hz in
-        inr
-        (record {
-          target = hz;
-          plan = s.0;
-          read = read;
-          served = s.1;
-          lines = ap target_report read ∙ ap planned_report s.1.planned ∙ rw s.1.accepted;
-        })
+report-cases input =
+    either_way (is_number (up_to 10 input))
+    (λ e.
+    let hz : ℕ = value_of (up_to 10 input) in
+    let read : line_number_of input ≡ value hz = rw e in
+    let s = system-accepted hz in
+    inr
+    (record {
+      target = hz;
+      plan = s.0;
+      read = read;
+      served = s.1;
+      lines = ap target_report read ∙ ap planned_report s.1.planned ∙ rw s.1.accepted;
+    })) (λ e. inl (rw e))
 
 -- 11 bytes of the input are enough to read
 pub report-start : (n : ℕ) (input : List ℕ) → 11 ≤ n → report_of (take n input) ≡ report_of input

@@ -3,14 +3,14 @@ use mathlib.Core.{Bool.Bool, Bool.true, Bool.false, Bool.not, Path.◌≡◌, Pa
 use Prim.Native.Nat.{ℕ}
 use native.Mathlib.Omega.{arith}
 use lib.Dec.{eqb, ltb}
-use Rattle.base.specs.{Choice.pick, Answer.value}
+use Rattle.base.{specs.Choice.pick, specs.Answer.value, proofs.Bools.either_way}
 use Rattle.chip.specs.declared.voltage.CoreVoltage.{CoreVoltage, TheVariants.V1_10, TheVariants.V1_15}
 use Rattle.config.specs.declared.{RoscRange.TheVariants.Medium}
 use Rattle.std.specs.Prelude.{Some}
 use Rattle.config.specs.declared.ClockConfig.{ClockConfig}
 use Rattle.divider.specs.{Clock.divided_hz, Delay.startup_sum, Delay.cycles_per_us, Delay.settling_cycles}
 use Rattle.pll.specs.declared.PllConfig.{PllConfig}
-use Rattle.pll.specs.{Setting.valid_of, Search.setting, Search.search_of}
+use Rattle.pll.specs.{Setting.valid_of, Search.setting}
 use Rattle.pll.proofs.{Inputs.found-valid, Inputs.search-finds, UsbPreset.usb-preset}
 use Rattle.chip.specs.declared.Chip.TheVariants.{Rp2040}
 use Rattle.config.specs.Board.{board_of}
@@ -67,16 +67,11 @@ plan-typed c v = record { rosc = omega arith; xosc = omega arith; fraction = ome
 
 pub system-accepted : (hz : ℕ) → (p : ClockConfig) × Served hz p
 unfolding system_plan system_plan_from
-system-accepted hz = go (eqb hz 125000000) refl
-  where
-    found : (c : PllConfig) × (search_of 12000000 hz ≡ value c)
-    found = search-finds 12000000 hz (omega arith) (omega arith)
-
-    valid : valid_of found.0 12000000 ≡ true
-    valid = found-valid 12000000 hz found.0 found.1
-
-    go : (b : Bool) → eqb hz 125000000 ≡ b → (p : ClockConfig) × Served hz p
-    go true e = (
+system-accepted hz =
+    let found = search-finds 12000000 hz (omega arith) (omega arith) in
+    let valid = found-valid 12000000 hz found.0 found.1 in
+    either_way (eqb hz 125000000)
+    (λ e. (
       crystal_plan Rp2040 12000000,
       record {
         planned = rw e;
@@ -84,8 +79,8 @@ system-accepted hz = go (eqb hz 125000000) refl
         accepted = plan-accepted (setting 125 6 2) V1_10 refl (settles false (setting 125 6 2));
         typed = plan-typed (setting 125 6 2) V1_10;
       },
-    )
-    go false e = (
+    ))
+    (λ e. (
       plan found.0 (system_voltage hz),
       record {
         planned = rw (e, found.1, usb-preset);
@@ -93,7 +88,7 @@ system-accepted hz = go (eqb hz 125000000) refl
         accepted = plan-accepted found.0 (system_voltage hz) valid (settles (ltb 133000000 hz) found.0);
         typed = plan-typed found.0 (system_voltage hz);
       },
-    )
+    ))
 
 -- so the plan of every target is one of the RP2040
 pub on-rp2040 : (hz : ℕ) (p : ClockConfig) → system_plan Rp2040 hz ≡ value p → (board_of p.chip).chip ≡ Rp2040
