@@ -1,11 +1,10 @@
 -- 80012 bytes are enough for every output: 8 for each of at most 10000 targets, and 12 for the runner.
-use mathlib.Core.{Bool.Bool, Bool.true, Bool.false, List.List, Path.◌≡◌, Path.refl}
+use mathlib.Core.{Bool.Bool, List.List}
 use Rattle.std.proofs.Common.{ℕ, zero, suc, ◌+◌, ◌*◌, ◌≤◌, arith, ltb-false}
 use lib.{Dec.ltb, ListN.length, ListN.drop, ListN.length-append}
-use Rattle.base.specs.{Answer.Answer, Answer.value, Answer.refusal, Choice.pick}
+use Rattle.base.{specs.Answer.Answer, specs.Answer.value, specs.Answer.refusal, proofs.Bools.either_way}
 use Rattle.text.specs.{Decimal.is_number, Decimal.number_of, Words.up_to}
 use Rattle.text.proofs.Decimals.{length-decimal}
-use Rattle.text.specs.Reply.{refused_line}
 use Rattle.text.proofs.Refused.{refused-most}
 use Rattle.pll.specs.declared.PllConfig.{PllConfig}
 use Rattle.pll.proofs.{Inputs.search-finds, Inputs.found-valid, Valid.valid}
@@ -82,11 +81,9 @@ trials-most seed count few =
     simp length-append (omega (arith, targets-most seed count, last))
 
 counted-most : (seed count : ℕ) → length (load_with (value seed) (value count)) ≤ 80012
-counted-most seed count = go (ltb most_count count) refl
-  where
-    go : (b : Bool) → ltb most_count count ≡ b → length (pick b (refused_line 31) (trials seed count)) ≤ 80012
-    go true e = omega (arith, refused-most 1 31 (omega arith))
-    go false e = trials-most seed count (ltb-false most_count count e)
+counted-most seed count =
+    either_way (ltb most_count count) (λ e. rw e (omega (arith, refused-most 1 31 (omega arith))))
+    (λ e. rw e (trials-most seed count (ltb-false most_count count e)))
 
 -- a property of every value and of refusal 24 holds of every number that is read
 read : (P : Answer ℕ → Type 0) (cs : List ℕ) → ((n : ℕ) → P (value n)) → P (refusal 24) → P (number_of cs)

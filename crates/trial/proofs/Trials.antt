@@ -1,7 +1,7 @@
 -- The runner trial: the runner after its start and after one more draw.
 use mathlib.Core.{Bool.Bool, Bool.false, List.List, Path.◌≡◌, Path.sym, Path.ap, Path.ap₂, Path.◌∙◌}
 use Rattle.std.proofs.Common.{ℕ, suc, ◌+◌, length}
-use native.Mathlib.{Nat.zero-add, Numerals.add-one}
+use native.Mathlib.{Numerals.add-one}
 use Rattle.std.specs.Prelude.{Result}
 use Rattle.base.specs.declared.refusal.Refusal.{Refusal}
 use Rattle.base.specs.Answer.{answer_of}
