@@ -70,19 +70,13 @@ unknown k e = let z : ◌≡◌ {A = ℕ} 0 1 = cc in absurd (omega arith)
 
 -- Kinds that are the same are equal.
 pub is-true : (j k : Kind) → is j k ≡ true → j ≡ k
-is-true j k e = go (known j) (known k) refl refl
-  where
-    both : (cond (known j) (known k) (not (known k)) ≡ true) × (eqb (kind_number j) (kind_number k) ≡ true)
-    both = and_parts (cond (known j) (known k) (not (known k))) _ e
-
-    numbers : kind_number j ≡ kind_number k
-    numbers = eqb-true (kind_number j) (kind_number k) both.1
-
-    go : (a b : Bool) → known j ≡ a → known k ≡ b → j ≡ k
-    go true true p q = sym (of_number j p) ∙ ap kind_of numbers ∙ of_number k q
-    go false false p q = unknown j p ∙ ap kind.Unknown numbers ∙ sym (unknown k q)
-    go true false p q = let apart = rw (p, q) at both.0 in let z : ◌≡◌ {A = ℕ} 0 1 = cc in absurd (omega arith)
-    go false true p q = let apart = rw (p, q) at both.0 in let z : ◌≡◌ {A = ℕ} 0 1 = cc in absurd (omega arith)
+is-true j k e =
+    let both = and_parts (cond (known j) (known k) (not (known k))) (eqb (kind_number j) (kind_number k)) e in
+    let numbers = eqb-true (kind_number j) (kind_number k) both.1 in
+    either_way (known j) (λ p. sym (of_number j p) ∙ ap kind_of numbers ∙ of_number k (rw p at both.0))
+    (λ p.
+    either_way (known k) (λ q. let apart = rw (p, q) at both.0 in let z : ◌≡◌ {A = ℕ} 0 1 = cc in absurd (omega arith))
+    (λ q. unknown j p ∙ ap kind.Unknown numbers ∙ sym (unknown k q)))
 
 -- A kind is the same as itself.
 pub same : (k : Kind) → is k k ≡ true
