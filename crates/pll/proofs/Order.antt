@@ -1,10 +1,10 @@
 -- Lists that have each setting of a kind once and in order. The order is a number, `by`, that falls along the list:
 -- the key for the search, `list_key` for the lister.
 use mathlib.Core.{Path.◌≡◌, Path.refl, Path.sym, Path.ap, Logic.◌⊎◌, Logic.inl, Logic.inr, Logic.⊎_elim}
-use mathlib.Core.{List.List, List.[], List.◌∷◌, List.◌++◌, List.map, List.flat_map, Bool.Bool, Bool.true, Bool.false}
+use mathlib.Core.{List.List, List.[], List.◌∷◌, List.◌++◌, List.map, List.flat_map, Bool.Bool, Bool.true}
 use Prim.Native.Nat.{ℕ, zero, suc, ◌+◌, ◌≤◌, ◌<◌}
 use native.Mathlib.{Omega.arith, Nat.eq-or-lt_of_le}
-use Rattle.base.{specs.Choice.pick, proofs.Bools.either_way}
+use Rattle.base.proofs.Bools.{either_way}
 use Rattle.pll.specs.Search.{falling, rising, keep}
 use Rattle.pll.specs.declared.PllConfig.{PllConfig}
 
@@ -112,26 +112,15 @@ module _ (by : PllConfig → ℕ) where
         (λ d m. ((m.0, ⊎_elim (λ f. absurd (passed d m f)) (λ k. k) (l.1 d m.0)), m.1)) (keep test cs) rest))
 
 -- the test over two lists
-pick-append : (b : Bool) (c : PllConfig) (xs ys : List PllConfig)
-    → pick b (c ∷ (xs ++ ys)) (xs ++ ys) ≡ pick b (c ∷ xs) xs ++ ys
-pick-append true c xs ys = refl
-pick-append false c xs ys = refl
-
 pub keep_append : (test : PllConfig → Bool) (xs ys : List PllConfig)
     → keep test (xs ++ ys) ≡ keep test xs ++ keep test ys
 unfolding keep
 keep_append test [] ys = refl
-keep_append test (c ∷ xs) ys =
-    rw (keep_append test xs ys) (pick-append (test c) c (keep test xs) (keep test ys))
+keep_append test (c ∷ xs) ys = rw (keep_append test xs ys) (either_way (test c) (λ t. rw t) (λ t. rw t))
 
 -- the test over changed settings
-pick-map : (b : Bool) (f : PllConfig → PllConfig) (c : PllConfig) (xs : List PllConfig)
-    → pick b (f c ∷ map f xs) (map f xs) ≡ map f (pick b (c ∷ xs) xs)
-pick-map true f c xs = refl
-pick-map false f c xs = refl
-
 pub keep-map : (test : PllConfig → Bool) (f : PllConfig → PllConfig) (xs : List PllConfig)
     → keep test (map f xs) ≡ map f (keep (λ c. test (f c)) xs)
 unfolding keep
 keep-map test f [] = refl
-keep-map test f (c ∷ xs) = rw (keep-map test f xs) (pick-map (test (f c)) f c (keep (λ c. test (f c)) xs))
+keep-map test f (c ∷ xs) = rw (keep-map test f xs) (either_way (test (f c)) (λ t. rw t) (λ t. rw t))
