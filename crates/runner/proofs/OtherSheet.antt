@@ -1,11 +1,11 @@
 -- After any calls, a started runner refuses any other sheet with 27, or with 22 once it is stopped.
 use mathlib.Core.{Bool.Bool, Bool.true, Bool.false, Bool.not, List.List, List.[], List.◌∷◌}
-use mathlib.Core.Path.{◌≡◌, refl, sym, ap, ◌∙◌}
+use mathlib.Core.Path.{◌≡◌, refl}
 use Prim.Native.Nat.{ℕ, ◌+◌, ◌*◌, ◌%◌, ◌≤◌, ◌<◌}
 use native.Mathlib.Omega.{arith}
 use borrow.Author.Tests.{leb-false, ltb-true, eqb-true, le-ltb, not-false}
 use lib.{Dec.eqb, Dec.ltb, Dec.leb, ListN.length, ListN.take, ListN.length-take}
-use Rattle.base.specs.{Answer.Answer, Answer.value, Answer.refusal, Choice.pick}
+use Rattle.base.{specs.Answer.Answer, specs.Answer.value, specs.Answer.refusal, specs.Choice.pick, proofs.Bools.either_way}
 use Rattle.std.proofs.lemmas.Bool.{or_parts}
 use Rattle.step.specs.declared.Step.{Step}
 use Rattle.step.specs.Kinds.{is}
@@ -99,15 +99,7 @@ another-refused sheet good calls given ready other =
     let r = after_calls (started_with sheet) calls in
     let g = calls-going sheet good calls (started_with sheet)
     (record { len = refl; kept = refl; ranged = (omega arith, omega arith) }) in
-    go r g r.stepper.state.stopped refl
-  where
-    go : (r : Runner) → Going sheet r → (t : Bool) → r.stepper.state.stopped ≡ t
-        → advance_of r given ready ≡ outcome (refusal (pick r.stepper.state.stopped 22 27)) r
-    go r g t e =
-        let o = in-range r.stepper.state r.len (rw g.len good) g.ranged in
-        by-mark t e o ∙ ap (λ (b : Bool). outcome (refusal (pick b 22 27)) r) (sym e)
-      where
-        by-mark : (t : Bool) → r.stepper.state.stopped ≡ t → outside r.stepper.state r.len ≡ false
-            → advance_of r given ready ≡ outcome (refusal (pick t 22 27)) r
-        by-mark true e o = rw o at (stopped-stays r given ready e)
-        by-mark false e o = other-refused r given ready (rw (g.len, g.kept, kept-sheet sheet) other) o e
+    let o = in-range r.stepper.state r.len (rw g.len good) g.ranged in
+    let different : same (take r.len r.kept) given ≡ false = rw (g.len, g.kept, kept-sheet sheet) other in
+    either_way r.stepper.state.stopped (λ e. rw e (rw o at (stopped-stays r given ready e)))
+    (λ e. rw e (other-refused r given ready different o e))
