@@ -3,7 +3,7 @@
 use Rattle.std.specs.Prelude.{Option, Some, None}
 use Prim.Native.Nat.{ℕ, zero, suc, ◌<◌, ◌≤◌}
 use native.Mathlib.Omega.{arith}
-use mathlib.Core.{Path.◌≡◌, Path.refl, Path.sym, Path.ap, Path.◌∙◌, Bool.Bool, Bool.true, Bool.false}
+use mathlib.Core.{Path.◌≡◌, Path.refl, Path.sym, Path.ap, Path.◌∙◌}
 use mathlib.Core.{List.List, List.[], List.◌∷◌}
 use lib.{Dec.ltb, Dec.eqb, ListN.length, ListN.length-set, Seq.get_or-set_same, Seq.get_or-set_other}
 use borrow.Author.Tests.{le-ltb, ltb-false, eqb-true, eqb-false}
@@ -44,11 +44,6 @@ abbrev holding : Option (List ℕ) → Slot
 holding (Some ws) = saved ws
 holding None = unsaved
 
-holding-pick : (t : Bool) (ws : List ℕ) (o : Option (List ℕ))
-    → holding (pick t (Some ws) o) ≡ pick t (saved ws) (holding o)
-holding-pick true ws o = refl
-holding-pick false ws o = refl
-
 fresh-slot : (slot : ℕ) → slot < 4 → slot_at fresh_slots slot ≡ unsaved
 fresh-slot zero h = refl
 fresh-slot (suc zero) h = refl
@@ -86,8 +81,7 @@ module _ (registers : List ℕ) (n : length registers ≡ 11) where
   held [] slot k = fresh-slot slot k
   held (sleeps at ws ∷ h) slot k =
       sleep-slot (board_after registers h).slots at slot ws (four h) k
-      ∙ (ap (λ (o : Slot). pick (eqb at slot) (saved ws) o) (held h slot k)
-      ∙ sym (holding-pick (eqb at slot) ws (last_sleep h slot)))
+      ∙ either_way (eqb at slot) (λ t. rw t) (λ t. rw t (held h slot k))
   held (wakes at ws ∷ h) slot k =
       ap (λ (slots : List Slot). slot_at slots slot) (wake-slots (board_after registers h).slots at ws) ∙ held h slot k
   held (writes i v ∷ h) slot k = held h slot k
