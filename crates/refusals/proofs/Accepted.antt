@@ -7,7 +7,7 @@ use borrow.Author.Tests.{leb-false, ltb-false, not-false}
 use Rattle.base.specs.declared.refusal.Refusal.{Refusal}
 use Rattle.base.specs.{Choice.pick, Choice.in_range, Refusals.number_of}
 use Rattle.std.proofs.lemmas.Bool.{or_parts}
-use Rattle.base.proofs.Bools.{in-range}
+use Rattle.base.proofs.Bools.{either_way, in-range}
 use Rattle.config.specs.declared.DriveStrength.{DriveStrength}
 use Rattle.settings.specs.declared.Settings.{Settings}
 use Rattle.settings.specs.Frequencies.{frequencies_of}
@@ -31,11 +31,8 @@ test_of n ((reason, test) ∷ rest) = pick (eqb n (number_of reason)) test (test
 
 test-false : (n : ℕ) (tests : List (Refusal × Bool)) → NoneOf tests → test_of n tests ≡ false
 test-false n [] h = refl
-test-false n ((reason, test) ∷ rest) h = either (eqb n (number_of reason)) h.0 (test-false n rest h.1)
-  where
-    either : (b : Bool) {x y : Bool} → x ≡ false → y ≡ false → pick b x y ≡ false
-    either true x y = x
-    either false x y = y
+test-false n ((reason, test) ∷ rest) h =
+    either_way (eqb n (number_of reason)) (λ t. rw t h.0) (λ t. rw t (test-false n rest h.1))
 
 -- For accepted settings the test of each number is false.
 pub accepted-by : (s : Settings) (reading : ℕ) → refusal_of s reading ≡ None

@@ -1,15 +1,15 @@
 -- The tests of refusals 2, 3, 4 and 9 are equal to the conditions that docs/FORMAT.md, Refusals, states for a plan.
-use mathlib.Core.{Path.◌≡◌, Path.refl, Path.sym, Bool.Bool, Bool.true, Bool.false, Bool.◌||◌, Bool.◌&&◌, Bool.not}
+use mathlib.Core.{Path.◌≡◌, Path.refl, Path.sym, Bool.◌||◌, Bool.◌&&◌, Bool.not}
 use Prim.Native.Nat.{ℕ, zero, suc, ◌+◌, ◌-◌, ◌/◌, ◌≤◌, ◌<◌}
 use native.Mathlib.{Omega.arith, Decide.dec_le}
 use lib.Dec.{ltb, eqb}
 use borrow.Author.Tests.{eqb-true, lt-ltb, le-ltb, le-leb, ne_eqb}
-use Rattle.base.specs.Choice.{pick}
+use Rattle.base.proofs.Bools.{either_way}
 use Rattle.chip.specs.declared.Chip.TheVariants.{Rp2040, Rp235x}
 use Rattle.chip.specs.Chips.{facts_of}
 use Rattle.divider.specs.Delay.{startup_sum, delay_of, settling_cycles}
 use Rattle.config.specs.declared.{XoscConfig.XoscConfig}
-use Rattle.std.specs.Prelude.{Some, None}
+use Rattle.std.specs.Prelude.{Some}
 use Rattle.settings.specs.Settings.{crystal_of, settling_step}
 use Rattle.refusals.specs.Rules.{settling_over, startup_over, whole_bad}
 
@@ -17,15 +17,13 @@ use Rattle.refusals.specs.Rules.{settling_over, startup_over, whole_bad}
 pub settling-worded : (reading code time hz : ℕ)
     → settling_over (settling_step reading code time hz) ≡ (not (eqb code reading) && ltb 4294967295 (settling_cycles time hz))
 unfolding settling_over settling_step settling_cycles
-settling-worded reading code time hz = go (eqb code reading) (eqb time 0) refl
-  where
-    go : (same still : Bool) → eqb time 0 ≡ still
-        → settling_over (pick same None (pick still None (Some (settling_cycles time hz))))
-        ≡ (not same && ltb 4294967295 (settling_cycles time hz))
-    go true still e = refl
-    go false true e =
-        sym (le-ltb 4294967295 (settling_cycles time hz) (rw (eqb-true time 0 e) (omega arith)))
-    go false false e = refl
+settling-worded reading code time hz =
+    either_way (eqb code reading) (λ same. rw same)
+    (λ other.
+    rw other
+    (either_way (eqb time 0)
+    (λ still. rw still (sym (le-ltb 4294967295 (settling_cycles time hz) (rw (eqb-true time 0 still) (omega arith)))))
+    (λ moves. rw moves)))
 
 -- Refusal 4: the startup sum is over 32 bits or the delay over 16383.
 pub startup-worded : (x : XoscConfig)
