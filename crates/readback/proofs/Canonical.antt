@@ -1,10 +1,11 @@
 -- The plan that `plan_of` makes of a plan's settings has the same settings, and no larger multiplier or time.
 use Rattle.std.specs.Prelude.{Option, Some, None}
-use mathlib.Core.{Path.◌≡◌, Path.refl, Path.sym, Path.ap, Path.◌∙◌, Bool.Bool, Bool.true, Bool.false, List.List}
+use mathlib.Core.{Path.◌≡◌, Path.refl, Path.sym, Path.ap, Path.◌∙◌, Bool.false, List.List}
 use Prim.Native.Nat.{ℕ, ◌%◌, ◌^◌, ◌≤◌}
 use native.Mathlib.{Nat.mod-eq_of_lt, Omega.arith}
 use lib.Dec.{eqb}
 use borrow.Author.Tests.{ltb-false}
+use Rattle.base.proofs.Bools.{either_way}
 use Rattle.divider.specs.Delay.{settling_cycles, delay_of}
 use Rattle.config.specs.Board.{board_of}
 use Rattle.config.specs.declared.{ClockConfig.ClockConfig, XoscConfig.XoscConfig}
@@ -42,22 +43,19 @@ record Settled (reading code time hz : ℕ) : Type 0 where
 
 settled : (reading code time hz : ℕ) → settling_over (settling_step reading code time hz) ≡ false → Settled reading code time hz
 unfolding settling_step settling_over time_for
-settled reading code time hz ok = go (eqb code reading) (eqb time 0) refl refl
-  where
-    n : ℕ
-    n = settling_cycles time hz
-
-    go : (b c : Bool) → eqb code reading ≡ b → eqb time 0 ≡ c → Settled reading code time hz
-    go true c e z = record { kept = rw e; most = rw e (omega arith); still = rw e (λ _. refl) }
-    go false true e z = record { kept = rw (e, z); most = rw (e, z) (omega arith); still = rw (e, z) (λ _. refl) }
-    go false false e z =
-        let few : n ≤ 4294967295 = ltb-false 4294967295 n (rw (e, z) at ok) in
-        let same : n % 2 ^ 32 ≡ n = mod-eq_of_lt (omega arith) in
-        record {
-          kept = rw (e, z, same, time-back, z);
-          most = rw (e, z, same, time-back) (omega arith);
-          still = rw (e, z) (λ h. cc);
-        }
+settled reading code time hz ok =
+    let n : ℕ = settling_cycles time hz in
+    either_way (eqb code reading) (λ e. record { kept = rw e; most = rw e (omega arith); still = rw e (λ _. refl) })
+    (λ e.
+    either_way (eqb time 0) (λ z. record { kept = rw (e, z); most = rw (e, z) (omega arith); still = rw (e, z) (λ _. refl) })
+    (λ z.
+    let few : n ≤ 4294967295 = ltb-false 4294967295 n (rw (e, z) at ok) in
+    let same : n % 2 ^ 32 ≡ n = mod-eq_of_lt (omega arith) in
+    record {
+      kept = rw (e, z, same, time-back, z);
+      most = rw (e, z, same, time-back) (omega arith);
+      still = rw (e, z) (λ h. cc);
+    }))
 
 module _ (q : ClockConfig) (reading : ℕ) (ok : Accepted q reading) where
   abbrev mine : ClockConfig

@@ -5,7 +5,7 @@ use Prim.Native.Nat.{ℕ, ◌/◌, ◌%◌, ◌^◌, ◌≤◌, ◌<◌}
 use native.Mathlib.{Nat.mod-lt, Omega.arith}
 use lib.{Pow.pow_pos, ListN.length, ListN.get_or, Dec.ltb}
 use borrow.Author.Tests.{ltb-true, ltb-false, le-leb}
-use Rattle.base.specs.{Choice.pick, Answer.Answer, Answer.value, Answer.refusal}
+use Rattle.base.{specs.Choice.pick, specs.Answer.Answer, specs.Answer.value, proofs.Bools.either_way}
 use Rattle.std.proofs.lemmas.Bool.{and_parts}
 use Rattle.text.proofs.Same.{same_true}
 use Rattle.text.proofs.Same.{same_refl}
@@ -90,19 +90,14 @@ module _ (sheet : List ℕ) (reading : ℕ) where
   -- The answer meets the law.
   pub read_right : ReadBack sheet reading (read_of sheet reading)
   unfolding read_of
-  read_right = go (ltb (top_reading sheet) reading) (gives sheet reading (plan_in sheet reading)) refl refl
-    where
-      go : (b g : Bool) → ltb (top_reading sheet) reading ≡ b → gives sheet reading (plan_in sheet reading) ≡ g
-          → ReadBack sheet reading (pick b (refusal 18) (pick g (value (plan_in sheet reading)) (refusal 26)))
-      go true g e h = over (ltb-true (top_reading sheet) reading e)
-      go false true e h =
-          back (plan_in sheet reading) (ltb-false (top_reading sheet) reading e)
-          (back_in (gives-true (plan_in sheet reading) typed-in h))
-      go false false e h =
-          none (ltb-false (top_reading sheet) reading e)
-          (λ q g.
-          let t : gives sheet reading (plan_in sheet reading) ≡ true = true-gives (plan_in sheet reading) (gives-in q g) in
-          cc)
+  read_right =
+      let p = plan_in sheet reading in
+      either_way (ltb (top_reading sheet) reading) (λ e. rw e (over (ltb-true (top_reading sheet) reading e)))
+      (λ e.
+      let few = ltb-false (top_reading sheet) reading e in
+      either_way (gives sheet reading p) (λ h. rw (e, h) (back p few (back_in (gives-true p typed-in h))))
+      (λ h.
+      rw (e, h) (none few (λ q g. let t : gives sheet reading p ≡ true = true-gives p (gives-in q g) in cc))))
 
   -- No other answer meets the law.
   pub read_only : (a : Answer ClockConfig) → ReadBack sheet reading a → a ≡ read_of sheet reading
