@@ -6,7 +6,7 @@ use native.Mathlib.Nat.{add-zero, zero-add, mul-add, mul-one, mul-zero, zero-mul
 use mathlib.Core.{Bool.Bool, Bool.true, Bool.false, Logic.◌⊎◌, Logic.inl, Logic.inr, List.List, List.[], List.◌∷◌}
 use mathlib.Core.Path.{◌≡◌, refl, sym, ap, ◌∙◌}
 use lib.ListN.{length, get_or, replicate}
-use Rattle.base.specs.Answer.{value}
+use Rattle.base.{specs.Answer.value, proofs.Bools.either_way}
 use Rattle.step.specs.declared.Step.{Step}
 use Rattle.step.specs.declared.kind.Kind.TheVariants as kind
 use Rattle.step.specs.{Access.read_at, Sheet.max_steps, Sheet.encoded, Sheet.AllFormed}
@@ -23,10 +23,6 @@ use Rattle.bring_up.proofs.Stream.{at, next, answered, stays-done, elsewhere, po
 split : {A B C : Type 0} → A ⊎ B → (A → C) → (B → C) → C
 split (inl a) f g = f a
 split (inr b) f g = g b
-
-both : (t : Bool) → (t ≡ true) ⊎ (t ≡ false)
-both true = inl refl
-both false = inr refl
 
 not-both : {A : Type 0} (t : Bool) → t ≡ true → t ≡ false → A
 not-both t e f = let z : ◌≡◌ {A = ℕ} 0 1 = cc in absurd (omega arith)
@@ -112,12 +108,12 @@ module _ (sheet : List ℕ) (n : ℕ) (few : n ≤ max_steps) (size : length she
     polling : (d i c polls total : ℕ) → c + d ≡ k → polls ≤ c → At i p c polls total freqs
         → Goes i (i + d + suc rest) ends
     polling zero i c polls total e h a =
-        split (both (ready i)) (passing 0 i c polls total e h a)
+        either_way (ready i) (passing 0 i c polls total e h a)
         (λ u. absurd
         (let now = polled-here sheet ready i p c step (position i p c polls total freqs a) read w u a.here in
         omega (arith, now, hears p (suc i))))
     polling (suc d) i c polls total e h a =
-        split (both (ready i)) (passing (suc d) i c polls total e h a)
+        either_way (ready i) (passing (suc d) i c polls total e h a)
         (λ u. let poll = polls-on p polls total step w (omega arith) in
         let taken : take_step (going p polls total) step (ready i)
         ≡ outcome (value Waiting) (going p poll.now (one_more total)) = rw u poll.is in
@@ -175,7 +171,7 @@ module _ (sheet : List ℕ) (n : ℕ) (few : n ≤ max_steps) (size : length she
         one-more i (i + after (step ∷ ts)) (stores_of (step ∷ ts) freqs) way (rw most at g)
 
     either : Goes i (i + after (step ∷ ts)) (stores_of (step ∷ ts) freqs)
-    either = split (both (is_wait step.kind)) a-wait no-wait
+    either = either_way (is_wait step.kind) a-wait no-wait
 
   -- a runner that has just reached the steps ts
   through : (d : Step) (ts : List Step) (p : ℕ) → p + length ts ≡ n
