@@ -6,7 +6,7 @@ use Prim.Native.Nat.{ℕ, zero, suc, ◌+◌, ◌*◌, ◌≤◌}
 use native.Mathlib.Omega.{arith}
 use borrow.Author.Tests.{le-leb, ltb-true, ltb-false}
 use lib.{Dec.eqb, Dec.ltb, ListN.length, ListN.get_or, ListN.replicate}
-use Rattle.base.{specs.Choice.pick, proofs.Bools.either_way}
+use Rattle.base.proofs.Bools.{either_way}
 use Rattle.step.specs.Sheet.{max_bytes}
 use Rattle.step.specs.Size.{bad_size}
 use Rattle.numbers.specs.Fields.{nth, ten_at}
@@ -103,20 +103,9 @@ bench-answered n (start sheet ∷ es) h is =
     ∙ ap (λ (b : Bench). map (answer_number progress_number) (answers_for n b es)) s.0
 bench-answered n (poll m sheet ready ∷ es) h is =
     let s = one-event h (poll m sheet ready) is in
-    by (eqb m n) (bench-answered n es (bench_call_leaves h (poll m sheet ready)) s.1
-    ∙ ap (λ (b : Bench). map (answer_number progress_number) (answers_for n b es)) s.0)
-  where
-    next : Outcome Bench
-    next = bench_of (bench_held h) m sheet ready
-
-    rest : List ℕ
-    rest = bench_numbers n (bench_call_leaves h (poll m sheet ready)) es
-
-    by : (t : Bool) → rest ≡ map (answer_number progress_number) (answers_for n next.next es)
-        → pick t (bench_number h.numbers h.bytes m sheet ready ∷ rest) rest
-        ≡ map (answer_number progress_number) (pick t (next.answer ∷ answers_for n next.next es) (answers_for n next.next es))
-    by true e = λ i. bench-number h.numbers h.bytes is m sheet ready i ∷ e i
-    by false e = e
+    let rest = bench-answered n es (bench_call_leaves h (poll m sheet ready)) s.1
+    ∙ ap (λ (b : Bench). map (answer_number progress_number) (answers_for n b es)) s.0 in
+    either_way (eqb m n) (λ e. rw e (λ i. bench-number h.numbers h.bytes is m sheet ready i ∷ rest i)) (λ e. rw e rest)
 
 -- ---- between starts
 
