@@ -1,5 +1,5 @@
 -- A run, call by call; after the run of the sheet of an accepted plan the numbers are those of the report.
-use mathlib.Core.{Bool.Bool, Bool.true, Bool.false, List.List, List.[], List.◌∷◌, List.◌++◌, List.map}
+use mathlib.Core.{Bool.true, List.List, List.[], List.◌∷◌, List.◌++◌, List.map}
 use mathlib.Core.Path.{◌≡◌, refl, sym, ap, ◌∙◌}
 use Prim.Native.Nat.{ℕ, zero, suc, ◌-◌, ◌/◌, ◌≤◌, ◌<◌}
 use native.Mathlib.{Numerals.add-one, Omega.arith}
@@ -19,7 +19,7 @@ use Rattle.std.specs.Prelude.{Result}
 use Rattle.base.specs.declared.refusal.Refusal.{Refusal}
 use Rattle.runner.specs.declared.Runner.{Runner}
 use Rattle.runner.specs.declared.Reply.{Reply}
-use Rattle.base.specs.Answer.{answer_of}
+use Rattle.base.{specs.Answer.answer_of, proofs.Bools.either_way}
 use Rattle.runner.specs.Run.{Outcome, outcome, fresh, is_wait, advance_of, Begun, started_with, start_of}
 use Rattle.runner.specs.Calls.{answers, ready_answer}
 use Rattle.bring_up.specs.Up.{plan_steps}
@@ -61,16 +61,14 @@ last-release reading s mask = simp releases-append
 -- a wait is no release
 ready-releases : (step : Step) (mask : ℕ) → released_by (ready_answer step) mask ≡ released_in step mask
 unfolding released_in
-ready-releases step mask = go (is_wait step.kind) (is step.kind kind.Release) refl refl
-  where
-    go : (w b : Bool) → is_wait step.kind ≡ w → is step.kind kind.Release ≡ b
-        → released_by (ready_answer step) mask ≡ released_in step mask
-    go false b e k = simp e
-    go true false e k = simp (e, k)
-    go true true e k =
-        let waits : is_wait kind.Release ≡ true = rw (is-true step.kind kind.Release k) at e in
-        let z : ◌≡◌ {A = ℕ} 0 1 = cc in
-        absurd (omega arith)
+ready-releases step mask =
+    either_way (is_wait step.kind)
+    (λ e.
+    either_way (is step.kind kind.Release)
+    (λ k.
+    let waits : is_wait kind.Release ≡ true = rw (is-true step.kind kind.Release k) at e in
+    let z : ◌≡◌ {A = ℕ} 0 1 = cc in
+    absurd (omega arith)) (λ k. simp (e, k))) (λ e. simp e)
 
 answers-release : (xs : List Step) (mask : ℕ) → last_released (map ready_answer xs) mask ≡ releases xs mask
 answers-release [] mask = refl
