@@ -2,13 +2,13 @@
 use Rattle.std.specs.Prelude.{Option, Some, None, cond}
 use Rattle.std.specs.List.{find}
 use Rattle.std.specs.Option.{option_eq}
-use mathlib.Core.{Path.◌≡◌, Path.refl, Path.sym, Path.ap, Path.◌∙◌, Bool.Bool, Bool.true, Bool.false}
+use mathlib.Core.{Path.◌≡◌, Path.refl, Path.sym, Path.ap, Path.◌∙◌, Bool.true}
 use mathlib.Core.List.{List, [], ◌∷◌, map}
 use Prim.Native.Nat.{ℕ, ◌≤◌}
 use native.Mathlib.Omega.{arith}
 use borrow.Author.Tests.{leb-true}
 use lib.{Dec.eqb, Dec.leb, ListN.length}
-use Rattle.base.{specs.Choice.pick, proofs.Bools.either_way}
+use Rattle.base.proofs.Bools.{either_way}
 use Rattle.std.proofs.lemmas.Bool.{and_parts}
 use Rattle.chip.specs.declared.{Chip.Chip, Chip.TheVariants.Rp2040, Chip.TheVariants.Rp235x}
 use Rattle.text.specs.Ascii.{ascii}
@@ -26,15 +26,10 @@ found : (c : Chip) (a : ℕ) (ps : List Place) → bytes_at (rows_on c ps) a ≡
 found c a [] = refl
 found c a (p ∷ ps) = go (address_on c p) (found c a ps)
   where
-    here : (b : Bool) → bytes_at (rows_on c ps) a ≡ name_found (find (is_at c a) ps)
-        → pick b p.2.now (bytes_at (rows_on c ps) a) ≡ name_found (cond b (Some p) (find (is_at c a) ps))
-    here true e = refl
-    here false e = e
-
     go : (o : Option ℕ) → bytes_at (rows_on c ps) a ≡ name_found (find (is_at c a) ps)
         → bytes_at (row_on o p.2.now (rows_on c ps)) a
         ≡ name_found (cond (option_eq eqb o (Some a)) (Some p) (find (is_at c a) ps))
-    go (Some b) e = here (eqb b a) e
+    go (Some b) e = either_way (eqb b a) (λ t. rw t) (λ t. rw t e)
     go None e = e
 
 name-bytes : (rows : List Row) (a : ℕ) → bytes_at (bytes_of rows) a ≡ name_in rows a
