@@ -15,9 +15,10 @@ facts_of Rp2040 =
       scale = 256;
       top_whole = 16777215;
       pass = 0xAA0;
-      first = 0x0FBCDBF;
-      plls = 0x3000;
-      last = 0x1FFFFFF;
+      -- all 25 bits without IO_QSPI, PADS_QSPI, PLL_SYS, PLL_USB, SYSCFG, USBCTRL
+      first = 0x1FFFFFF - (2 ^ 6 + 2 ^ 9 + 2 ^ 12 + 2 ^ 13 + 2 ^ 18 + 2 ^ 24);
+      plls = 2 ^ 12 + 2 ^ 13;  -- PLL_SYS, PLL_USB
+      last = 0x1FFFFFF;  -- all 25 bits
       peri = 2 ^ 16 + 2 ^ 17 + 2 ^ 22 + 2 ^ 23;  -- SPI0, SPI1, UART0, UART1
       usb = 2 ^ 24;  -- USBCTRL
       adc = 2 ^ 0;  -- ADC
@@ -38,8 +39,9 @@ facts_of Rp235x =
       scale = 65536;
       top_whole = 65535;
       pass = 0xAA00;
-      first = 0x1EF3B7F;  -- all 25 bits except 7, 10, 14, 15, 20
-      plls = 0xC000;  -- bits 14, 15
+      -- all 25 bits without IO_QSPI, PADS_QSPI, PLL_SYS, PLL_USB, SYSCFG
+      first = 0x1FFFFFF - (2 ^ 7 + 2 ^ 10 + 2 ^ 14 + 2 ^ 15 + 2 ^ 20);
+      plls = 2 ^ 14 + 2 ^ 15;  -- PLL_SYS, PLL_USB
       last = 0x1FFFFFF - 2 ^ 3;  -- without HSTX, which the last release leaves out
       peri = 2 ^ 18 + 2 ^ 19;  -- SPI0, SPI1; the UARTs' bits 26, 27 are outside the 25 bits
       usb = 0;  -- USBCTRL's bit 28 is outside the 25 bits
