@@ -6,26 +6,25 @@ use Prim.Native.Nat.{ℕ}
 use lib.ListN.{take}
 use Rattle.chip.specs.declared.{Chip.Chip, Chip.TheVariants.Rp2040, Chip.TheVariants.Rp235x}
 use Rattle.chip.specs.Chips.{facts_of}
-use Rattle.config.specs.declared.{RoscConfig.RoscConfig, RefClkSrc.RefClkSrc}
-use Rattle.config.specs.Codes.{ref_code}
-use Rattle.settings.specs.declared.{Settings.Settings, Sources.Sources}
+use Rattle.config.specs.declared.{RoscConfig.RoscConfig}
+use Rattle.settings.specs.declared.{Settings.Settings}
 use Rattle.settings.specs.Settings.{settings_of}
-use Rattle.settings.specs.Frequencies.{ref_source, sources_in, frequencies_of}
+use Rattle.settings.specs.Frequencies.{sources_in, frequencies_of}
 use Rattle.refusals.specs.Refusals.{refusal_of}
 use Rattle.refusals.proofs.Accepted.{accepted-by}
 use Rattle.registers.specs.Access.{has, access_of}
-use Rattle.registers.specs.Map.{ROSC_CTRL, CLK_REF_CTRL, REF_SRC}
+use Rattle.registers.specs.Map.{ROSC_CTRL, CLK_REF_CTRL}
 use Rattle.sheet.specs.Steps.{ring_part, clocks_part, steps_of}
 use Rattle.bring_up.specs.Machine.{carried_out}
 use Rattle.bring_up.specs.Tree.{oscillates}
-use Rattle.bring_up.specs.ClockWaits.{ref_runs, Awake, StaysAwake}
+use Rattle.bring_up.specs.ClockWaits.{Awake, StaysAwake}
 use Rattle.bring_up.proofs.Addresses.{member}
 use Rattle.bring_up.proofs.Parts.{owns}
 use Rattle.bring_up.proofs.Sheet.{joined, up_to, holds, stays}
 use Rattle.bring_up.proofs.Set.{range-on, ref-sets}
 use Rattle.bring_up.proofs.Times.{ring-free, ref-free, ended, crystal-ends}
-use Rattle.bring_up.proofs.Running.{NonZero, Running, running}
-use Rattle.bring_up.proofs.Switched.{ref-source}
+use Rattle.bring_up.proofs.Running.{running}
+use Rattle.bring_up.proofs.Switched.{selected, ref-source}
 
 -- a ring that oscillates still does after the ring's part
 ring-stays : (c : Chip) (pass : ℕ) (r : Option RoscConfig) (file : ℕ → ℕ) → oscillates (file (ROSC_CTRL c)) ≡ true
@@ -35,13 +34,6 @@ ring-stays Rp2040 pass (Some r) file on = range-on r.range
 ring-stays Rp235x pass (Some r) file on = range-on r.range
 ring-stays Rp2040 pass None file on = on
 ring-stays Rp235x pass None file on = on
-
--- the source that the reference part selects runs
-selected : (c : Chip) (f : Sources) (src : RefClkSrc) (file : ℕ → ℕ) → file (CLK_REF_CTRL c) ≡ REF_SRC (ref_code src)
-    → Running c f file → NonZero (ref_source f src) → ref_runs c file ≡ true
-selected c f RefClkSrc.Rosc file e p nonzero = rw e p.ring
-selected c f RefClkSrc.Xosc file e p nonzero = rw e (p.xosc nonzero)
-selected c f RefClkSrc.PllUsb file e p nonzero = rw e (p.usb nonzero)
 
 ring-first : (c : Chip) → member (ROSC_CTRL c) (joined (take 2 (owns c))) ≡ false
 ring-first Rp2040 = refl

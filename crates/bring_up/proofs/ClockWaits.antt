@@ -3,7 +3,7 @@
 use Rattle.std.specs.Prelude.{Option, Some, None}
 use Rattle.config.specs.declared.RoscConfig.{RoscConfig}
 use mathlib.Core.{Bool.Bool, Bool.true, Bool.false, Bool.◌&&◌, Bool.not, Path.◌≡◌, Path.refl, Path.ap, Path.◌∙◌}
-use mathlib.Core.List.{List, [], ◌∷◌, ◌++◌}
+use mathlib.Core.List.{List, [], ◌∷◌}
 use Prim.Native.Nat.{ℕ, ◌+◌, ◌-◌, ◌%◌, ◌^◌}
 use native.Mathlib.Omega.{arith}
 use lib.{Dec.eqb, Bits.bit_and, Bits.and_mask}
@@ -18,7 +18,7 @@ use Rattle.step.specs.declared.kind.Kind.TheVariants as kind
 use Rattle.pll.specs.declared.PllConfig.{PllConfig}
 use Rattle.pll.specs.{Ranges.reference_min, Ranges.reference_max, Ranges.vco_min, Ranges.vco_max}
 use Rattle.pll.specs.Setting.{reference_of, vco_of, valid_of}
-use Rattle.pll.proofs.Valid.{Valid, valid}
+use Rattle.pll.proofs.Valid.{valid}
 use Rattle.config.specs.declared.{RefClkConfig.RefClkConfig}
 use Rattle.config.specs.declared.{SysClkSrc.SysClkSrc, Board.Board}
 use Rattle.settings.specs.declared.{Crystal.Crystal, Frequencies.Frequencies}
@@ -37,14 +37,14 @@ use Rattle.bring_up.specs.Machine.{bits_at, held, carried_out}
 use Rattle.bring_up.specs.Tree.{oscillates, vco_on}
 use Rattle.bring_up.specs.ClockWaits.{locks, can_come, NoEndlessWait}
 use Rattle.bring_up.proofs.Addresses.{member}
-use Rattle.bring_up.proofs.Parts.{Calm, ring_own, voltage_own, crystal_steps, system_steps, mark, ring, voltage, source, peri, usb}
-use Rattle.bring_up.proofs.Parts.{adc, rtc}
+use Rattle.bring_up.proofs.Parts.{Calm, ring_own, voltage_own, system_steps, mark, ring, voltage, source, peri, aux}
+use Rattle.bring_up.proofs.Parts.{Usb, Adc, rtc}
 use Rattle.bring_up.proofs.Walk.{Walk, ◌then◌, Any, calmly, keeps}
 use Rattle.bring_up.proofs.Set.{last-sets}
 
 -- nothing is in reset
-record Released (c : Chip) (file : ℕ → ℕ) : Type 0 where
-  reset : file (RESET c) ≡ 0
+abbrev Released : Chip → (ℕ → ℕ) → Type 0
+Released c file = file (RESET c) ≡ 0
 
 abbrev Comes : Chip → ℕ → List Step → Type 0
 Comes c hz xs = Walk c (can_come c hz) (Released c) (Released c) xs
@@ -52,9 +52,7 @@ Comes c hz xs = Walk c (can_come c hz) (Released c) (Released c) xs
 -- a part without a wait that does not write RESET
 still : {c : Chip} {own : List ℕ} {xs : List Step} (hz : ℕ) → Calm c own xs → member (RESET c) own ≡ false → Comes c hz xs
 still {c} {own} {xs} hz h apart =
-    record {
-      walk = λ file p. (h.calm (can_come c hz) file, record { reset = keeps h.on file (RESET c) apart ∙ p.reset });
-    }
+    record { walk = λ file p. (h.calm (can_come c hz) file, keeps h.on file (RESET c) apart ∙ p) }
 
 reset-apart : (c : Chip) → (member (RESET c) (ring_own c) ≡ false) × (member (RESET c) (voltage_own c) ≡ false)
     × (member (RESET c) (CLK_PERI_CTRL c ∷ []) ≡ false) × (member (RESET c) (CLK_USB_CTRL c ∷ CLK_USB_DIV c ∷ []) ≡ false)
@@ -71,43 +69,33 @@ pub ref-cleared : (v : ℕ) → bits_at 0 2 (v - bit_and v 3 + 0) ≡ 0
 ref-cleared v = let low : bit_and v 3 ≡ v % 4 = and_mask v 2 in omega arith
 
 -- both waits of the head for a source
-both-selected : (m n : ℕ) → m ≡ 0 → n ≡ 0 → (eqb 1 (2 ^ m) && (eqb 1 (2 ^ n) && true)) ≡ true
-both-selected m n e0 e1 = rw (e0, e1)
+both-selected : (v w : ℕ)
+    → (eqb 1 (2 ^ bits_at 0 1 (v - bit_and v 1 + 0)) && (eqb 1 (2 ^ bits_at 0 2 (w - bit_and w 3 + 0)) && true)) ≡ true
+both-selected v w = rw (sys-cleared v, ref-cleared w)
 
 head : (c : Chip) (hz : ℕ) → Walk c (can_come c hz) Any (Released c) (head_part c)
 unfolding access_of has head_part
-head Rp2040 hz =
-    record {
-      walk = λ file p.
-          let sys : ℕ = file (CLK_SYS_CTRL Rp2040) in
-          let ref : ℕ = file (CLK_REF_CTRL Rp2040) in (
-            both-selected (bits_at 0 1 (sys - bit_and sys 1 + 0)) (bits_at 0 2 (ref - bit_and ref 3 + 0)) (sys-cleared sys)
-                (ref-cleared ref),
-            record { reset = refl },
-          );
-    }
-head Rp235x hz =
-    record {
-      walk = λ file p.
-          let sys : ℕ = file (CLK_SYS_CTRL Rp235x) in
-          let ref : ℕ = file (CLK_REF_CTRL Rp235x) in (
-            both-selected (bits_at 0 1 (sys - bit_and sys 1 + 0)) (bits_at 0 2 (ref - bit_and ref 3 + 0)) (sys-cleared sys)
-                (ref-cleared ref),
-            record { reset = refl },
-          );
-    }
+head Rp2040 hz = record { walk = λ file p. (both-selected (file (CLK_SYS_CTRL Rp2040)) (file (CLK_REF_CTRL Rp2040)), refl) }
+head Rp235x hz = record { walk = λ file p. (both-selected (file (CLK_SYS_CTRL Rp235x)) (file (CLK_REF_CTRL Rp235x)), refl) }
 
 -- ---- the PLLs
 
-pll-locks : (c : Chip) (w hz : ℕ) (p : PllConfig) (file : ℕ → ℕ) → Valid p hz → oscillates (file (XOSC_CTRL c)) ≡ true
-    → vco_on c w file ≡ true → file (PLL_CS c w) ≡ REFDIV p.refdiv → file (PLL_FBDIV_INT c w) ≡ FBDIV p.fbdiv
-    → locks c w hz file ≡ true
-pll-locks c w hz p file v on power e0 e1 =
+-- nothing is in reset, and the crystal oscillates
+abbrev Lit : Chip → (ℕ → ℕ) → Type 0
+Lit c file = (file (RESET c) ≡ 0) × (oscillates (file (XOSC_CTRL c)) ≡ true)
+
+-- the wait for lock, by what the steps before it leave in the file
+pll-locks : (c : Chip) (w hz : ℕ) (p : PllConfig) (file : ℕ → ℕ) → pll_invalid hz (Some p) ≡ false → Lit c file
+    → vco_on c w file ≡ not (held c w (file (RESET c))) → held c w 0 ≡ false → file (PLL_CS c w) ≡ REFDIV p.refdiv
+    → file (PLL_FBDIV_INT c w) ≡ FBDIV p.fbdiv → (locks c w hz file && true) ≡ true
+pll-locks c w hz p file e lit power out e0 e1 =
+    let v = valid p hz (not-false (valid_of p hz) e) in
     let refdiv : bits_at 0 6 (file (PLL_CS c w)) ≡ p.refdiv = omega (arith, e0, v.refdiv) in
     let fbdiv : bits_at 0 12 (file (PLL_FBDIV_INT c w)) ≡ p.fbdiv = omega (arith, e1, v.fbdiv) in
     let reference = range-true reference_min reference_max (reference_of p hz) v.reference.0 v.reference.1 in
     let vco = range-true vco_min vco_max (vco_of p hz) v.vco.0 v.vco.1 in
-    rw (on, power, refdiv, fbdiv, reference, vco)
+    let on : vco_on c w file ≡ true = power ∙ ap (λ (v : ℕ). not (held c w v)) lit.0 ∙ ap not out in
+    rw (lit.1, on, refdiv, fbdiv, reference, vco)
 
 -- the steps before the wait for lock
 abbrev powered : ℕ → PllConfig → List Step
@@ -119,109 +107,65 @@ powered w p =
     ∷ step_of kind.PllPower w 0 0 1 1
     ∷ []
 
--- nothing is in reset, and the crystal oscillates
-record Lit (c : Chip) (file : ℕ → ℕ) : Type 0 where
-  reset : file (RESET c) ≡ 0
-  on : oscillates (file (XOSC_CTRL c)) ≡ true
-
 -- a PLL's steps, by whether it is the USB PLL
 pll : (c : Chip) (usb : Bool) (hz : ℕ) (o : Option PllConfig) → pll_invalid hz o ≡ false
     → Walk c (can_come c hz) (Lit c) (Lit c) (pll_steps (bit usb) o)
 unfolding access_of has
 pll Rp2040 false hz (Some p) e = record {
-  walk = λ file lit. (
-    ap (λ (b : Bool). b && true)
-        (pll-locks Rp2040 0 hz p (carried_out Rp2040 (powered 0 p) file) (valid p hz (not-false (valid_of p hz) e))
-        lit.on (ap (λ (v : ℕ). not (held Rp2040 0 v)) lit.reset) refl refl),
-    record { reset = lit.reset; on = lit.on },
-  );
+  walk = λ file lit. (pll-locks Rp2040 0 hz p (carried_out Rp2040 (powered 0 p) file) e lit refl refl refl refl, lit);
 }
 pll Rp2040 true hz (Some p) e = record {
-  walk = λ file lit. (
-    ap (λ (b : Bool). b && true)
-        (pll-locks Rp2040 1 hz p (carried_out Rp2040 (powered 1 p) file) (valid p hz (not-false (valid_of p hz) e))
-        lit.on (ap (λ (v : ℕ). not (held Rp2040 1 v)) lit.reset) refl refl),
-    record { reset = lit.reset; on = lit.on },
-  );
+  walk = λ file lit. (pll-locks Rp2040 1 hz p (carried_out Rp2040 (powered 1 p) file) e lit refl refl refl refl, lit);
 }
 pll Rp235x false hz (Some p) e = record {
-  walk = λ file lit. (
-    ap (λ (b : Bool). b && true)
-        (pll-locks Rp235x 0 hz p (carried_out Rp235x (powered 0 p) file) (valid p hz (not-false (valid_of p hz) e))
-        lit.on (ap (λ (v : ℕ). not (held Rp235x 0 v)) lit.reset) refl refl),
-    record { reset = lit.reset; on = lit.on },
-  );
+  walk = λ file lit. (pll-locks Rp235x 0 hz p (carried_out Rp235x (powered 0 p) file) e lit refl refl refl refl, lit);
 }
 pll Rp235x true hz (Some p) e = record {
-  walk = λ file lit. (
-    ap (λ (b : Bool). b && true)
-        (pll-locks Rp235x 1 hz p (carried_out Rp235x (powered 1 p) file) (valid p hz (not-false (valid_of p hz) e))
-        lit.on (ap (λ (v : ℕ). not (held Rp235x 1 v)) lit.reset) refl refl),
-    record { reset = lit.reset; on = lit.on },
-  );
+  walk = λ file lit. (pll-locks Rp235x 1 hz p (carried_out Rp235x (powered 1 p) file) e lit refl refl refl refl, lit);
 }
 pll c usb hz None e = record { walk = λ file lit. (refl, lit) }
 
-plls : (c : Chip) (hz : ℕ) (a b : Option PllConfig) → pll_invalid hz a ≡ false → pll_invalid hz b ≡ false
-    → Walk c (can_come c hz) (Lit c) (Lit c) (pll_steps 0 a ++ pll_steps 1 b)
-plls c hz a b e u = pll c false hz a e then pll c true hz b u
-
 -- the steps before the PLLs
-abbrev started : ℕ → List Step
-started delay = step1 kind.Startup delay ∷ step0 kind.CrystalOn ∷ step0 kind.WaitStable ∷ []
-
-crystal-of : (c : Chip) (hz delay : ℕ) (a b : Option PllConfig) → pll_invalid hz a ≡ false → pll_invalid hz b ≡ false
-    → Comes c hz (crystal_steps delay a b)
+started : (c : Chip) (hz delay : ℕ)
+    → Walk c (can_come c hz) (Released c) (Lit c) (step1 kind.Startup delay ∷ step0 kind.CrystalOn ∷ step0 kind.WaitStable ∷ [])
 unfolding access_of has
-crystal-of Rp2040 hz delay a b e u =
-    record {
-      walk = λ file p.
-          let rest = (plls Rp2040 hz a b e u).walk (carried_out Rp2040 (started delay) file) (record { reset = p.reset; on = refl }) in
-          (rest.0, record { reset = rest.1.reset });
-    }
-crystal-of Rp235x hz delay a b e u =
-    record {
-      walk = λ file p.
-          let rest = (plls Rp235x hz a b e u).walk (carried_out Rp235x (started delay) file) (record { reset = p.reset; on = refl }) in
-          (rest.0, record { reset = rest.1.reset });
-    }
+started Rp2040 hz delay = record { walk = λ file p. (refl, (p, refl)) }
+started Rp235x hz delay = record { walk = λ file p. (refl, (p, refl)) }
 
 crystal : (c : Chip) (r : Option RoscConfig) (x : Option Crystal) → sys_pll_invalid x ≡ false → usb_pll_invalid x ≡ false
     → Comes c (sources_of r x).xosc (crystal_part x)
 unfolding crystal_part sources_of sys_pll_invalid usb_pll_invalid
-crystal c r (Some x) e u = crystal-of c x.hz x.delay x.sys x.usb e u
+crystal c r (Some x) e u =
+    record {
+      walk = λ file p.
+          let end = (started c x.hz x.delay then (pll c false x.hz x.sys e then pll c true x.hz x.usb u)).walk file p in
+          (end.0, end.1.0);
+    }
 crystal c r None e u = record { walk = λ file p. (refl, p) }
 
 -- ---- the clocks
 
 -- the wait is for the source that was written
+same-selected : (m n : ℕ) → m ≡ n → (eqb (2 ^ m) (2 ^ n) && true) ≡ true
+same-selected m n e = ap (λ (b : Bool). b && true) (eq-eqb (2 ^ m) (2 ^ n) (ap (λ (k : ℕ). 2 ^ k) e))
+
 ref-selected : (k : ℕ) → (eqb (2 ^ (k % 4)) (2 ^ bits_at 0 2 (REF_SRC k)) && true) ≡ true
-ref-selected k =
-    let same : k % 4 ≡ bits_at 0 2 (REF_SRC k) = omega arith in
-    ap (λ (b : Bool). b && true) (eq-eqb (2 ^ (k % 4)) (2 ^ bits_at 0 2 (REF_SRC k)) (ap (λ (n : ℕ). 2 ^ n) same))
+ref-selected k = same-selected (k % 4) (bits_at 0 2 (REF_SRC k)) (omega arith)
 
 sys-selected : (aux k : ℕ) → (eqb (2 ^ (k % 2)) (2 ^ bits_at 0 1 (AUXSRC aux + SYS_SRC k)) && true) ≡ true
-sys-selected aux k =
-    let same : k % 2 ≡ bits_at 0 1 (AUXSRC aux + SYS_SRC k) = omega arith in
-    ap (λ (b : Bool). b && true)
-    (eq-eqb (2 ^ (k % 2)) (2 ^ bits_at 0 1 (AUXSRC aux + SYS_SRC k)) (ap (λ (n : ℕ). 2 ^ n) same))
+sys-selected aux k = same-selected (k % 2) (bits_at 0 1 (AUXSRC aux + SYS_SRC k)) (omega arith)
 
 reference : (c : Chip) (hz stored : ℕ) (r : RefClkConfig) → Comes c hz (ref_part c stored r)
 unfolding access_of has
-reference Rp2040 hz stored r = record { walk = λ file p. (ref-selected (ref_code r.src), record { reset = p.reset }) }
-reference Rp235x hz stored r = record { walk = λ file p. (ref-selected (ref_code r.src), record { reset = p.reset }) }
+reference Rp2040 hz stored r = record { walk = λ file p. (ref-selected (ref_code r.src), p) }
+reference Rp235x hz stored r = record { walk = λ file p. (ref-selected (ref_code r.src), p) }
 
 system-of : (c : Chip) (hz : ℕ) (same : Bool) (stored aux select whole fraction : ℕ)
     → Comes c hz (system_steps c same stored aux select whole fraction)
 unfolding access_of has
-system-of Rp2040 hz true stored aux select whole fraction =
-    record { walk = λ file p. (sys-selected aux select, record { reset = p.reset }) }
-system-of Rp2040 hz false stored aux select whole fraction =
-    record { walk = λ file p. (sys-selected aux select, record { reset = p.reset }) }
-system-of Rp235x hz true stored aux select whole fraction =
-    record { walk = λ file p. (sys-selected aux select, record { reset = p.reset }) }
-system-of Rp235x hz false stored aux select whole fraction =
-    record { walk = λ file p. (sys-selected aux select, record { reset = p.reset }) }
+system-of Rp2040 hz true stored aux select whole fraction = record { walk = λ file p. (sys-selected aux select, p) }
+system-of Rp235x hz true stored aux select whole fraction = record { walk = λ file p. (sys-selected aux select, p) }
+system-of c hz same stored aux select whole fraction = record { walk = λ file p. (sys-selected aux select, p) }
 
 system : (hz : ℕ) (b : Board) (stored : ℕ) (src : SysClkSrc) → Comes b.chip hz (sys_part b stored src)
 unfolding sys_part switch_steps
@@ -235,19 +179,9 @@ none-held mask v e = rw e
 last : (c : Chip) (hz mask : ℕ) → Comes c hz (last_part mask)
 unfolding access_of has
 last Rp2040 hz mask =
-    record {
-      walk = λ file p. (
-        none-held mask (file (RESET Rp2040)) p.reset,
-        record { reset = (last-sets Rp2040 mask file p.reset).0 },
-      );
-    }
+    record { walk = λ file p. (none-held mask (file (RESET Rp2040)) p, (last-sets Rp2040 mask file p).0) }
 last Rp235x hz mask =
-    record {
-      walk = λ file p. (
-        none-held mask (file (RESET Rp235x)) p.reset,
-        record { reset = (last-sets Rp235x mask file p.reset).0 },
-      );
-    }
+    record { walk = λ file p. (none-held mask (file (RESET Rp235x)) p, (last-sets Rp235x mask file p).0) }
 
 -- ---- the sheet
 
@@ -269,7 +203,7 @@ no-endless-wait p reading ok before =
     then reference c hz f.reference s.reference
     then system hz s.board f.sys s.sys
     then still hz (peri c f.peri s.peri) apart.2
-    then still hz (usb c f.usb s.usb) apart.3
-    then still hz (adc c f.adc s.adc) apart.4
+    then still hz (aux c Usb f.usb s.usb) apart.3
+    then still hz (aux c Adc f.adc s.adc) apart.4
     then still hz (rtc c f.rtc s.board.rtc) apart.5
     then last c hz (release_mask c s.peri s.usb s.adc s.board.rtc)).walk before tt).0

@@ -1,5 +1,6 @@
 -- In each part of a sheet every step is one of the chip, and the part changes only its own registers; both follow
--- from the kinds of its steps.
+-- from the kinds of its steps. They compute once the chip and each choice are given: a last clause that only has names
+-- stands for the cases that no clause above it has.
 use Rattle.std.specs.Prelude.{Option, Some, None}
 use Rattle.config.specs.declared.RoscConfig.{RoscConfig}
 use mathlib.Core.{Bool.Bool, Bool.true, Bool.false, Path.◌≡◌, Path.refl, List.List, List.[], List.◌∷◌, List.◌++◌}
@@ -36,6 +37,27 @@ pub record On (c : Chip) (own : List ℕ) (xs : List Step) : Type 0 where
 pub record Calm (c : Chip) (own : List ℕ) (xs : List Step) : Type 0 where
   pub on : On c own xs
   pub calm : (test : Access → (ℕ → ℕ) → Bool) (file : ℕ → ℕ) → all_waits c test xs file ≡ true
+
+still : {c : Chip} {own : List ℕ} {xs : List Step} → carries c xs ≡ true → within (reach c xs) own ≡ true
+    → ((test : Access → (ℕ → ℕ) → Bool) (file : ℕ → ℕ) → all_waits c test xs file ≡ true) → Calm c own xs
+still all inside calm = record { on = record { all = all; inside = inside }; calm = calm }
+
+-- USB and ADC differ in their registers, in the kinds of their steps and in the clock of their store
+pub data Aux : Type 0 where
+  Usb : Aux
+  Adc : Aux
+
+abbrev pub aux_control : Chip → Aux → ℕ
+aux_control c Usb = CLK_USB_CTRL c
+aux_control c Adc = CLK_ADC_CTRL c
+
+abbrev pub aux_divider : Chip → Aux → ℕ
+aux_divider c Usb = CLK_USB_DIV c
+aux_divider c Adc = CLK_ADC_DIV c
+
+abbrev pub aux_of : Aux → ℕ → Option AuxClkConfig → List Step
+aux_of Usb hz o = aux_part kind.UsbDivider kind.UsbControl 7 hz o
+aux_of Adc hz o = aux_part kind.AdcDivider kind.AdcControl 8 hz o
 
 -- the registers of each part
 abbrev pub head_own : Chip → List ℕ
@@ -74,16 +96,16 @@ owns c =
     ∷ ref_own c
     ∷ sys_own c
     ∷ (CLK_PERI_CTRL c ∷ [])
-    ∷ (CLK_USB_CTRL c ∷ CLK_USB_DIV c ∷ [])
-    ∷ (CLK_ADC_CTRL c ∷ CLK_ADC_DIV c ∷ [])
+    ∷ (aux_control c Usb ∷ aux_divider c Usb ∷ [])
+    ∷ (aux_control c Adc ∷ aux_divider c Adc ∷ [])
     ∷ (CLK_RTC_CTRL ∷ CLK_RTC_DIV ∷ [])
     ∷ last_own c
     ∷ []
 
 pub mark : (c : Chip) → Calm c [] (mark_steps c)
 unfolding access_of has
-mark Rp2040 = record { on = record { all = refl; inside = refl }; calm = λ test file. refl }
-mark Rp235x = record { on = record { all = refl; inside = refl }; calm = λ test file. refl }
+mark Rp2040 = still refl refl (λ test file. refl)
+mark Rp235x = still refl refl (λ test file. refl)
 
 pub head : (c : Chip) → On c (head_own c) (head_part c)
 unfolding access_of has head_part
@@ -92,10 +114,9 @@ head Rp235x = record { all = refl; inside = refl }
 
 pub ring : (c : Chip) (pass : ℕ) (r : Option RoscConfig) → Calm c (ring_own c) (ring_part pass r)
 unfolding access_of has ring_part
-ring Rp2040 pass (Some r) = record { on = record { all = refl; inside = refl }; calm = λ test file. refl }
-ring Rp2040 pass None = record { on = record { all = refl; inside = refl }; calm = λ test file. refl }
-ring Rp235x pass (Some r) = record { on = record { all = refl; inside = refl }; calm = λ test file. refl }
-ring Rp235x pass None = record { on = record { all = refl; inside = refl }; calm = λ test file. refl }
+ring Rp2040 pass (Some r) = still refl refl (λ test file. refl)
+ring Rp235x pass (Some r) = still refl refl (λ test file. refl)
+ring c pass r = still refl refl (λ test file. refl)
 
 -- a voltage that changes
 abbrev pub changed : Chip → Board → Option ℕ → List Step
@@ -105,12 +126,9 @@ changed c b settling =
 voltage-of : (c : Chip) (b : Board) (same : Bool) (settling : Option ℕ)
     → Calm c (voltage_own c) (pick same [] (changed c b settling))
 unfolding access_of has
-voltage-of Rp2040 b true settling = record { on = record { all = refl; inside = refl }; calm = λ test file. refl }
-voltage-of Rp235x b true settling = record { on = record { all = refl; inside = refl }; calm = λ test file. refl }
-voltage-of Rp2040 b false (Some n) = record { on = record { all = refl; inside = refl }; calm = λ test file. refl }
-voltage-of Rp2040 b false None = record { on = record { all = refl; inside = refl }; calm = λ test file. refl }
-voltage-of Rp235x b false (Some n) = record { on = record { all = refl; inside = refl }; calm = λ test file. refl }
-voltage-of Rp235x b false None = record { on = record { all = refl; inside = refl }; calm = λ test file. refl }
+voltage-of Rp2040 b false (Some n) = still refl refl (λ test file. refl)
+voltage-of Rp235x b false (Some n) = still refl refl (λ test file. refl)
+voltage-of c b same settling = still refl refl (λ test file. refl)
 
 pub voltage : (reading : ℕ) (b : Board) (settling : Option ℕ)
     → Calm b.chip (voltage_own b.chip) (voltage_part reading b settling)
@@ -125,13 +143,10 @@ crystal_steps delay a b =
 crystal-of : (c : Chip) (delay : ℕ) (a b : Option PllConfig) → On c (crystal_own c) (crystal_steps delay a b)
 unfolding access_of has
 crystal-of Rp2040 delay (Some p) (Some q) = record { all = refl; inside = refl }
-crystal-of Rp2040 delay (Some p) None = record { all = refl; inside = refl }
 crystal-of Rp2040 delay None (Some q) = record { all = refl; inside = refl }
-crystal-of Rp2040 delay None None = record { all = refl; inside = refl }
 crystal-of Rp235x delay (Some p) (Some q) = record { all = refl; inside = refl }
-crystal-of Rp235x delay (Some p) None = record { all = refl; inside = refl }
 crystal-of Rp235x delay None (Some q) = record { all = refl; inside = refl }
-crystal-of Rp235x delay None None = record { all = refl; inside = refl }
+crystal-of c delay a b = record { all = refl; inside = refl }
 
 pub crystal : (c : Chip) (x : Option Crystal) → On c (crystal_own c) (crystal_part x)
 unfolding crystal_part
@@ -140,8 +155,8 @@ crystal c None = record { all = refl; inside = refl }
 
 pub source : (c : Chip) (f : Sources) → Calm c [] (source_part f)
 unfolding access_of has
-source Rp2040 f = record { on = record { all = refl; inside = refl }; calm = λ test file. refl }
-source Rp235x f = record { on = record { all = refl; inside = refl }; calm = λ test file. refl }
+source Rp2040 f = still refl refl (λ test file. refl)
+source Rp235x f = still refl refl (λ test file. refl)
 
 pub reference : (c : Chip) (hz : ℕ) (r : RefClkConfig) → On c (ref_own c) (ref_part c hz r)
 unfolding access_of has
@@ -159,9 +174,8 @@ system-of : (c : Chip) (same : Bool) (hz aux select whole fraction : ℕ)
     → On c (sys_own c) (system_steps c same hz aux select whole fraction)
 unfolding access_of has
 system-of Rp2040 true hz aux select whole fraction = record { all = refl; inside = refl }
-system-of Rp2040 false hz aux select whole fraction = record { all = refl; inside = refl }
 system-of Rp235x true hz aux select whole fraction = record { all = refl; inside = refl }
-system-of Rp235x false hz aux select whole fraction = record { all = refl; inside = refl }
+system-of c same hz aux select whole fraction = record { all = refl; inside = refl }
 
 pub system : (b : Board) (hz : ℕ) (src : SysClkSrc) → On b.chip (sys_own b.chip) (sys_part b hz src)
 unfolding sys_part switch_steps
@@ -169,32 +183,24 @@ system b hz src = system-of b.chip (eqb (sys_select src) 0) hz (sys_aux src) (sy
 
 pub peri : (c : Chip) (hz : ℕ) (o : Option PeriClkSrc) → Calm c (CLK_PERI_CTRL c ∷ []) (peri_part hz o)
 unfolding access_of has peri_part
-peri Rp2040 hz (Some src) = record { on = record { all = refl; inside = refl }; calm = λ test file. refl }
-peri Rp2040 hz None = record { on = record { all = refl; inside = refl }; calm = λ test file. refl }
-peri Rp235x hz (Some src) = record { on = record { all = refl; inside = refl }; calm = λ test file. refl }
-peri Rp235x hz None = record { on = record { all = refl; inside = refl }; calm = λ test file. refl }
+peri Rp2040 hz (Some src) = still refl refl (λ test file. refl)
+peri Rp235x hz (Some src) = still refl refl (λ test file. refl)
+peri c hz o = still refl refl (λ test file. refl)
 
-pub usb : (c : Chip) (hz : ℕ) (o : Option AuxClkConfig)
-    → Calm c (CLK_USB_CTRL c ∷ CLK_USB_DIV c ∷ []) (aux_part kind.UsbDivider kind.UsbControl 7 hz o)
+pub aux : (c : Chip) (k : Aux) (hz : ℕ) (o : Option AuxClkConfig)
+    → Calm c (aux_control c k ∷ aux_divider c k ∷ []) (aux_of k hz o)
 unfolding access_of has aux_part
-usb Rp2040 hz (Some a) = record { on = record { all = refl; inside = refl }; calm = λ test file. refl }
-usb Rp2040 hz None = record { on = record { all = refl; inside = refl }; calm = λ test file. refl }
-usb Rp235x hz (Some a) = record { on = record { all = refl; inside = refl }; calm = λ test file. refl }
-usb Rp235x hz None = record { on = record { all = refl; inside = refl }; calm = λ test file. refl }
-
-pub adc : (c : Chip) (hz : ℕ) (o : Option AuxClkConfig)
-    → Calm c (CLK_ADC_CTRL c ∷ CLK_ADC_DIV c ∷ []) (aux_part kind.AdcDivider kind.AdcControl 8 hz o)
-unfolding access_of has aux_part
-adc Rp2040 hz (Some a) = record { on = record { all = refl; inside = refl }; calm = λ test file. refl }
-adc Rp2040 hz None = record { on = record { all = refl; inside = refl }; calm = λ test file. refl }
-adc Rp235x hz (Some a) = record { on = record { all = refl; inside = refl }; calm = λ test file. refl }
-adc Rp235x hz None = record { on = record { all = refl; inside = refl }; calm = λ test file. refl }
+aux Rp2040 Usb hz (Some a) = still refl refl (λ test file. refl)
+aux Rp2040 Adc hz (Some a) = still refl refl (λ test file. refl)
+aux Rp235x Usb hz (Some a) = still refl refl (λ test file. refl)
+aux Rp235x Adc hz (Some a) = still refl refl (λ test file. refl)
+aux c k hz o = still refl refl (λ test file. refl)
 
 pub rtc : (c : Chip) (hz : ℕ) (o : Option RtcClkConfig) → Calm c (CLK_RTC_CTRL ∷ CLK_RTC_DIV ∷ []) (rtc_part c hz o)
 unfolding access_of has rtc_part
-rtc Rp2040 hz (Some r) = record { on = record { all = refl; inside = refl }; calm = λ test file. refl }
-rtc Rp2040 hz None = record { on = record { all = refl; inside = refl }; calm = λ test file. refl }
-rtc Rp235x hz o = record { on = record { all = refl; inside = refl }; calm = λ test file. refl }
+rtc Rp2040 hz (Some r) = still refl refl (λ test file. refl)
+rtc Rp2040 hz None = still refl refl (λ test file. refl)
+rtc Rp235x hz o = still refl refl (λ test file. refl)
 
 pub last : (c : Chip) (mask : ℕ) → On c (last_own c) (last_part mask)
 unfolding access_of has

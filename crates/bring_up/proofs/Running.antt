@@ -4,16 +4,17 @@ use Rattle.std.specs.Prelude.{Option, Some, None}
 use Rattle.config.specs.declared.RoscConfig.{RoscConfig}
 use mathlib.Core.{Bool.Bool, Bool.true, Bool.false, Bool.◌&&◌, Bool.not, Path.◌≡◌, Path.refl, Path.ap, Path.◌∙◌}
 use mathlib.Core.List.{[], ◌∷◌}
-use Prim.Native.Nat.{ℕ, zero, suc}
+use Prim.Native.Nat.{ℕ, zero, suc, ◌+◌}
 use lib.{Dec.eqb, ListN.get_or}
 use Rattle.std.proofs.lemmas.Bool.{and_parts}
 use Rattle.chip.specs.declared.{Chip.Chip, Chip.TheVariants.Rp2040, Chip.TheVariants.Rp235x}
 use Rattle.pll.specs.declared.PllConfig.{PllConfig}
-use Rattle.config.specs.declared.{Board.Board}
+use Rattle.config.specs.declared.{Board.Board, RoscRange.RoscRange}
+use Rattle.config.specs.Codes.{range_code}
 use Rattle.settings.specs.declared.{Crystal.Crystal, Sources.Sources}
 use Rattle.settings.specs.Frequencies.{pll_hz, sources_of}
 use Rattle.registers.specs.Access.{has, access_of}
-use Rattle.registers.specs.Map.{RESET, XOSC_CTRL, ROSC_CTRL, CLK_REF_CTRL, CLK_SYS_CTRL, PLL_PWR}
+use Rattle.registers.specs.Map.{RESET, XOSC_CTRL, ROSC_CTRL, CLK_REF_CTRL, PLL_PWR, FREQ_RANGE, OSCILLATOR_ON}
 use Rattle.sheet.specs.Steps.{mark_steps, head_part, ring_part, voltage_part, crystal_part}
 use Rattle.bring_up.specs.Machine.{bits_at, held, carried_out}
 use Rattle.bring_up.specs.Tree.{oscillates}
@@ -25,23 +26,29 @@ use Rattle.bring_up.proofs.Walk.{Walk, keeps}
 use Rattle.bring_up.proofs.Set.{range-on, PllSet, CrystalSet, crystal-sets}
 use Rattle.bring_up.proofs.{Hz.pll-on, Times.held_none, ClockWaits.sys-cleared, ClockWaits.ref-cleared}
 
--- ---- the file between the parts
+-- ---- the file between the parts, over the values of its registers: a part that keeps these keeps the record
 
-pub record Headed (c : Chip) (file : ℕ → ℕ) : Type 0 where
-  pub ring : oscillates (file (ROSC_CTRL c)) ≡ true
-  pub reset : file (RESET c) ≡ 0
-  pub sys : file (PLL_PWR c 0) ≡ 0x2D
-  pub usb : file (PLL_PWR c 1) ≡ 0x2D
+pub record HeadedAt (rosc resets pwr0 pwr1 : ℕ) : Type 0 where
+  pub ring : oscillates rosc ≡ true
+  pub reset : resets ≡ 0
+  pub sys : pwr0 ≡ 0x2D
+  pub usb : pwr1 ≡ 0x2D
+
+abbrev pub Headed : Chip → (ℕ → ℕ) → Type 0
+Headed c file = HeadedAt (file (ROSC_CTRL c)) (file (RESET c)) (file (PLL_PWR c 0)) (file (PLL_PWR c 1))
 
 abbrev pub NonZero : ℕ → Type 0
 NonZero hz = hz ≡ 0 → ⊥
 
 -- each source of the plan that has a frequency runs
-pub record Running (c : Chip) (f : Sources) (file : ℕ → ℕ) : Type 0 where
-  pub ring : oscillates (file (ROSC_CTRL c)) ≡ true
-  pub xosc : NonZero f.xosc → oscillates (file (XOSC_CTRL c)) ≡ true
-  pub sys : NonZero f.pll_sys → pll_runs c 0 file ≡ true
-  pub usb : NonZero f.pll_usb → pll_runs c 1 file ≡ true
+pub record RunningAt (f : Sources) (rosc crystal : ℕ) (pll0 pll1 : Bool) : Type 0 where
+  pub ring : oscillates rosc ≡ true
+  pub xosc : NonZero f.xosc → oscillates crystal ≡ true
+  pub sys : NonZero f.pll_sys → pll0 ≡ true
+  pub usb : NonZero f.pll_usb → pll1 ≡ true
+
+abbrev pub Running : Chip → Sources → (ℕ → ℕ) → Type 0
+Running c f file = RunningAt f (file (ROSC_CTRL c)) (file (XOSC_CTRL c)) (pll_runs c 0 file) (pll_runs c 1 file)
 
 pub record Referred (c : Chip) (f : Sources) (file : ℕ → ℕ) : Type 0 where
   pub sources : Running c f file
@@ -82,43 +89,26 @@ on-released c file e =
     (oscillates (file (XOSC_CTRL c))) (eqb (bits_at 0 1 pwr) 0) (eqb (bits_at 5 1 pwr) 0) (eqb (bits_at 3 1 pwr) 0)
     (held c 1 (file (RESET c))) e
 
+headed : {rosc : ℕ} → oscillates rosc ≡ true → HeadedAt rosc 0 0x2D 0x2D
+headed on = record { ring = on; reset = refl; sys = refl; usb = refl }
+
 pub head : (c : Chip) → Walk c (source_runs c) (Awake c) (Headed c) (head_part c)
 unfolding access_of has head_part
 head Rp2040 =
-    record {
-      walk = λ file p. (
-        rw (
-          sys-cleared (file (CLK_SYS_CTRL Rp2040)),
-          ref-cleared (file (CLK_REF_CTRL Rp2040)),
-          on-released Rp2040 file p.reference,
-          p.ring,
-        ),
-        record { ring = p.ring; reset = refl; sys = refl; usb = refl },
-      );
-    }
+    record { walk = λ file p. (rw (sys-cleared, ref-cleared, on-released Rp2040 file p.reference, p.ring), headed p.ring) }
 head Rp235x =
-    record {
-      walk = λ file p. (
-        rw (
-          sys-cleared (file (CLK_SYS_CTRL Rp235x)),
-          ref-cleared (file (CLK_REF_CTRL Rp235x)),
-          on-released Rp235x file p.reference,
-          p.ring,
-        ),
-        record { ring = p.ring; reset = refl; sys = refl; usb = refl },
-      );
-    }
+    record { walk = λ file p. (rw (sys-cleared, ref-cleared, on-released Rp235x file p.reference, p.ring), headed p.ring) }
+
+turned-on : {rosc resets pwr0 pwr1 : ℕ} (r : RoscRange) → HeadedAt rosc resets pwr0 pwr1
+    → HeadedAt (FREQ_RANGE (range_code r) + OSCILLATOR_ON) resets pwr0 pwr1
+turned-on r p = record { ring = range-on r; reset = p.reset; sys = p.sys; usb = p.usb }
 
 pub ring : (c : Chip) (pass : ℕ) (r : Option RoscConfig) → Walk c (source_runs c) (Headed c) (Headed c) (ring_part pass r)
 unfolding access_of has ring_part
-ring Rp2040 pass (Some r) =
-    record { walk = λ file p. (refl, record { ring = range-on r.range; reset = p.reset; sys = p.sys; usb = p.usb }) }
-ring Rp2040 pass None =
-    record { walk = λ file p. (refl, record { ring = p.ring; reset = p.reset; sys = p.sys; usb = p.usb }) }
-ring Rp235x pass (Some r) =
-    record { walk = λ file p. (refl, record { ring = range-on r.range; reset = p.reset; sys = p.sys; usb = p.usb }) }
-ring Rp235x pass None =
-    record { walk = λ file p. (refl, record { ring = p.ring; reset = p.reset; sys = p.sys; usb = p.usb }) }
+ring Rp2040 pass (Some r) = record { walk = λ file p. (refl, turned-on r.range p) }
+ring Rp2040 pass None = record { walk = λ file p. (refl, p) }
+ring Rp235x pass (Some r) = record { walk = λ file p. (refl, turned-on r.range p) }
+ring Rp235x pass None = record { walk = λ file p. (refl, p) }
 
 voltage-apart : (c : Chip) → (member (ROSC_CTRL c) (voltage_own c) ≡ false) × (member (RESET c) (voltage_own c) ≡ false)
     × (member (PLL_PWR c 0) (voltage_own c) ≡ false) × (member (PLL_PWR c 1) (voltage_own c) ≡ false)
@@ -148,13 +138,10 @@ crystal-quiet : (c : Chip) (delay : ℕ) (a b : Option PllConfig) (file : ℕ �
     → all_waits c (source_runs c) (crystal_steps delay a b) file ≡ true
 unfolding access_of has
 crystal-quiet Rp2040 delay (Some p) (Some q) file = refl
-crystal-quiet Rp2040 delay (Some p) None file = refl
 crystal-quiet Rp2040 delay None (Some q) file = refl
-crystal-quiet Rp2040 delay None None file = refl
 crystal-quiet Rp235x delay (Some p) (Some q) file = refl
-crystal-quiet Rp235x delay (Some p) None file = refl
 crystal-quiet Rp235x delay None (Some q) file = refl
-crystal-quiet Rp235x delay None None file = refl
+crystal-quiet c delay a b file = refl
 
 -- the crystal's part keeps the ring and RESET
 crystal-apart : (c : Chip) → (member (ROSC_CTRL c) (crystal_own c) ≡ false) × (member (RESET c) (crystal_own c) ≡ false)

@@ -7,8 +7,6 @@ use native.Mathlib.Omega.{arith}
 use lib.{Dec.eqb, Bits.bit_and}
 use Rattle.base.specs.Choice.{pick}
 use Rattle.chip.specs.declared.{Chip.Chip, Chip.TheVariants.Rp2040, Chip.TheVariants.Rp235x}
-use Rattle.step.specs.declared.kind.Kind.{Kind}
-use Rattle.step.specs.declared.kind.Kind.TheVariants as kind
 use Rattle.config.specs.declared.{RoscRange.RoscRange, RefClkConfig.RefClkConfig}
 use Rattle.pll.specs.declared.PllConfig.{PllConfig}
 use Rattle.config.specs.declared.{SysClkSrc.SysClkSrc, Board.Board, PeriClkSrc.PeriClkSrc}
@@ -18,14 +16,14 @@ use Rattle.config.specs.Codes.{range_code, ref_code, sys_select, sys_aux, peri_a
 use Rattle.settings.specs.Settings.{ring_hz}
 use Rattle.registers.specs.Access.{has, access_of}
 use Rattle.registers.specs.Map.{on, field, RESET, CLK_REF_CTRL, CLK_REF_DIV, CLK_SYS_CTRL, CLK_SYS_DIV, CLK_PERI_CTRL}
-use Rattle.registers.specs.Map.{CLK_USB_CTRL, CLK_USB_DIV, CLK_ADC_CTRL, CLK_ADC_DIV, CLK_RTC_CTRL, CLK_RTC_DIV, XOSC_CTRL, ROSC_CTRL}
+use Rattle.registers.specs.Map.{CLK_RTC_CTRL, CLK_RTC_DIV, XOSC_CTRL, ROSC_CTRL}
 use Rattle.registers.specs.Map.{PLL_CS, PLL_PWR, PLL_FBDIV_INT, PLL_PRIM, BLOCKS, REF_SRC, SYS_SRC, AUXSRC, ENABLE, PHASE, INT}
 use Rattle.registers.specs.Map.{FREQ_RANGE, OSCILLATOR_ON, REFDIV, FBDIV, POSTDIV1, POSTDIV2}
 use Rattle.sheet.specs.Steps.{head_part, ring_part, crystal_part, ref_part, switch_steps, sys_part, peri_part, aux_part, rtc_part}
 use Rattle.sheet.specs.Steps.{last_part}
 use Rattle.bring_up.specs.Machine.{powers_down, carried_out}
 use Rattle.bring_up.specs.Tree.{oscillates}
-use Rattle.bring_up.proofs.Parts.{crystal_steps, system_steps}
+use Rattle.bring_up.proofs.Parts.{Aux, Usb, aux_control, aux_divider, aux_of, crystal_steps, system_steps}
 
 -- the head leaves no block in reset, and both PLLs without power
 pub head-sets : (c : Chip) (file : ℕ → ℕ) → let after = carried_out c (head_part c) file in
@@ -76,19 +74,13 @@ pub record Plls (c : Chip) (a b : Option PllConfig) (file : ℕ → ℕ) : Type 
 crystal-of : (c : Chip) (delay : ℕ) (a b : Option PllConfig) (file : ℕ → ℕ)
     → file (PLL_PWR c 0) ≡ 0x2D → file (PLL_PWR c 1) ≡ 0x2D → Plls c a b (carried_out c (crystal_steps delay a b) file)
 unfolding access_of has
-crystal-of Rp2040 delay (Some p) (Some q) file h k =
-    record { on = refl; sys = (refl, refl, refl, refl); usb = (refl, refl, refl, refl) }
-crystal-of Rp2040 delay (Some p) None file h k =
-    record { on = refl; sys = (refl, refl, refl, refl); usb = k }
-crystal-of Rp2040 delay None (Some q) file h k =
-    record { on = refl; sys = h; usb = (refl, refl, refl, refl) }
+crystal-of Rp2040 delay (Some p) (Some q) file h k = record { on = refl; sys = (refl, refl, refl, refl); usb = (refl, refl, refl, refl) }
+crystal-of Rp2040 delay (Some p) None file h k = record { on = refl; sys = (refl, refl, refl, refl); usb = k }
+crystal-of Rp2040 delay None (Some q) file h k = record { on = refl; sys = h; usb = (refl, refl, refl, refl) }
 crystal-of Rp2040 delay None None file h k = record { on = refl; sys = h; usb = k }
-crystal-of Rp235x delay (Some p) (Some q) file h k =
-    record { on = refl; sys = (refl, refl, refl, refl); usb = (refl, refl, refl, refl) }
-crystal-of Rp235x delay (Some p) None file h k =
-    record { on = refl; sys = (refl, refl, refl, refl); usb = k }
-crystal-of Rp235x delay None (Some q) file h k =
-    record { on = refl; sys = h; usb = (refl, refl, refl, refl) }
+crystal-of Rp235x delay (Some p) (Some q) file h k = record { on = refl; sys = (refl, refl, refl, refl); usb = (refl, refl, refl, refl) }
+crystal-of Rp235x delay (Some p) None file h k = record { on = refl; sys = (refl, refl, refl, refl); usb = k }
+crystal-of Rp235x delay None (Some q) file h k = record { on = refl; sys = h; usb = (refl, refl, refl, refl) }
 crystal-of Rp235x delay None None file h k = record { on = refl; sys = h; usb = k }
 
 abbrev pub CrystalSet : Chip → Option Crystal → (ℕ → ℕ) → Type 0
@@ -116,9 +108,8 @@ system-of : (c : Chip) (same : Bool) (hz aux select whole fraction : ℕ) (file 
     (after (CLK_SYS_CTRL c) ≡ AUXSRC aux + SYS_SRC select) × (after (CLK_SYS_DIV c) ≡ packed c whole fraction)
 unfolding access_of has
 system-of Rp2040 true hz aux select whole fraction file = (refl, refl)
-system-of Rp2040 false hz aux select whole fraction file = (refl, refl)
 system-of Rp235x true hz aux select whole fraction file = (refl, refl)
-system-of Rp235x false hz aux select whole fraction file = (refl, refl)
+system-of c same hz aux select whole fraction file = (refl, refl)
 
 pub sys-sets : (b : Board) (hz : ℕ) (src : SysClkSrc) (file : ℕ → ℕ) → let after = carried_out b.chip (sys_part b hz src) file in
     (after (CLK_SYS_CTRL b.chip) ≡ AUXSRC (sys_aux src) + SYS_SRC (sys_select src))
@@ -137,19 +128,13 @@ peri-sets Rp235x hz src file = refl
 abbrev pub control : ℕ → ℕ → ℕ
 control phase aux = PHASE phase + AUXSRC aux + ENABLE
 
-pub usb-sets : (c : Chip) (hz : ℕ) (a : AuxClkConfig) (file : ℕ → ℕ)
-    → let after = carried_out c (aux_part kind.UsbDivider kind.UsbControl 7 hz (Some a)) file in
-    (after (CLK_USB_CTRL c) ≡ control a.phase (aux_code a.src)) × (after (CLK_USB_DIV c) ≡ INT c (a.div % 4))
+pub aux-sets : (c : Chip) (k : Aux) (hz : ℕ) (a : AuxClkConfig) (file : ℕ → ℕ)
+    → let after = carried_out c (aux_of k hz (Some a)) file in
+    (after (aux_control c k) ≡ control a.phase (aux_code a.src)) × (after (aux_divider c k) ≡ INT c (a.div % 4))
 unfolding access_of has aux_part
-usb-sets Rp2040 hz a file = (refl, refl)
-usb-sets Rp235x hz a file = (refl, refl)
-
-pub adc-sets : (c : Chip) (hz : ℕ) (a : AuxClkConfig) (file : ℕ → ℕ)
-    → let after = carried_out c (aux_part kind.AdcDivider kind.AdcControl 8 hz (Some a)) file in
-    (after (CLK_ADC_CTRL c) ≡ control a.phase (aux_code a.src)) × (after (CLK_ADC_DIV c) ≡ INT c (a.div % 4))
-unfolding access_of has aux_part
-adc-sets Rp2040 hz a file = (refl, refl)
-adc-sets Rp235x hz a file = (refl, refl)
+aux-sets Rp2040 Usb hz a file = (refl, refl)
+aux-sets Rp235x Usb hz a file = (refl, refl)
+aux-sets c k hz a file = (refl, refl)
 
 pub rtc-sets : (hz : ℕ) (r : RtcClkConfig) (file : ℕ → ℕ)
     → let after = carried_out Rp2040 (rtc_part Rp2040 hz (Some r)) file in
@@ -164,34 +149,32 @@ unfolding access_of has peri_part
 peri-absent Rp2040 hz file x = refl
 peri-absent Rp235x hz file x = refl
 
-pub aux-absent : (c : Chip) (divider set : Kind) (clock hz : ℕ) (file : ℕ → ℕ) (x : ℕ)
-    → carried_out c (aux_part divider set clock hz None) file x ≡ file x
+pub aux-absent : (c : Chip) (k : Aux) (hz : ℕ) (file : ℕ → ℕ) (x : ℕ) → carried_out c (aux_of k hz None) file x ≡ file x
 unfolding access_of has aux_part
-aux-absent Rp2040 divider set clock hz file x = refl
-aux-absent Rp235x divider set clock hz file x = refl
+aux-absent Rp2040 Usb hz file x = refl
+aux-absent Rp235x Usb hz file x = refl
+aux-absent c k hz file x = refl
 
 pub rtc-absent : (c : Chip) (hz : ℕ) (file : ℕ → ℕ) (x : ℕ) → carried_out c (rtc_part c hz None) file x ≡ file x
 unfolding access_of has rtc_part
 rtc-absent Rp2040 hz file x = refl
 rtc-absent Rp235x hz file x = refl
 
--- a release where nothing is in reset changes nothing
+-- a release where nothing is in reset changes nothing: it leaves RESET 0, and a PLL out of reset keeps its power
 released : (mask v : ℕ) → v ≡ 0 → v - bit_and v (BLOCKS mask) + 0 ≡ 0
 released mask v e = ap (λ (n : ℕ). n - bit_and n (BLOCKS mask) + 0) e ∙ omega arith
+
+kept : (c : Chip) (w v power : ℕ) → v ≡ 0 → powers_down c (PLL_PWR c w) 0 ≡ false
+    → pick (powers_down c (PLL_PWR c w) v) 0x2D power ≡ power
+kept c w v power e out = ap (λ (n : ℕ). pick (powers_down c (PLL_PWR c w) n) 0x2D power) e ∙ ap (λ (down : Bool). pick down 0x2D power) out
 
 pub last-sets : (c : Chip) (mask : ℕ) (file : ℕ → ℕ) → file (RESET c) ≡ 0
     → let after = carried_out c (last_part mask) file in
     (after (RESET c) ≡ 0) × (after (PLL_PWR c 0) ≡ file (PLL_PWR c 0)) × (after (PLL_PWR c 1) ≡ file (PLL_PWR c 1))
 unfolding access_of has
 last-sets Rp2040 mask file e =
-    let z = released mask (file (RESET Rp2040)) e in (
-      z,
-      ap (λ (v : ℕ). pick (powers_down Rp2040 (PLL_PWR Rp2040 0) v) 0x2D (file (PLL_PWR Rp2040 0))) z,
-      ap (λ (v : ℕ). pick (powers_down Rp2040 (PLL_PWR Rp2040 1) v) 0x2D (file (PLL_PWR Rp2040 1))) z,
-    )
+    let z = released mask (file (RESET Rp2040)) e in
+    (z, kept Rp2040 0 _ (file (PLL_PWR Rp2040 0)) z refl, kept Rp2040 1 _ (file (PLL_PWR Rp2040 1)) z refl)
 last-sets Rp235x mask file e =
-    let z = released mask (file (RESET Rp235x)) e in (
-      z,
-      ap (λ (v : ℕ). pick (powers_down Rp235x (PLL_PWR Rp235x 0) v) 0x2D (file (PLL_PWR Rp235x 0))) z,
-      ap (λ (v : ℕ). pick (powers_down Rp235x (PLL_PWR Rp235x 1) v) 0x2D (file (PLL_PWR Rp235x 1))) z,
-    )
+    let z = released mask (file (RESET Rp235x)) e in
+    (z, kept Rp235x 0 _ (file (PLL_PWR Rp235x 0)) z refl, kept Rp235x 1 _ (file (PLL_PWR Rp235x 1)) z refl)

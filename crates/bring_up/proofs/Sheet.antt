@@ -14,7 +14,7 @@ use Rattle.sheet.specs.Steps.{aux_part, rtc_part, release_mask, last_part}
 use Rattle.bring_up.specs.Machine.{carried_out}
 use Rattle.bring_up.proofs.Addresses.{member, member-append, outside, reach, steps-keep, append}
 use Rattle.bring_up.proofs.Parts.{On, owns, mark, head, ring, voltage, crystal, source, reference, system, peri}
-use Rattle.bring_up.proofs.Parts.{usb, adc, rtc, last}
+use Rattle.bring_up.proofs.Parts.{Usb, Adc, aux, rtc, last}
 
 abbrev pub joined : {A : Type 0} → List (List A) → List A
 joined [] = []
@@ -102,9 +102,9 @@ all-parts reading s =
                     (
                       (peri c f.peri s.peri).on,
                       (
-                        (usb c f.usb s.usb).on,
+                        (aux c Usb f.usb s.usb).on,
                         (
-                          (adc c f.adc s.adc).on,
+                          (aux c Adc f.adc s.adc).on,
                           (
                             (rtc c f.rtc s.board.rtc).on,
                             (last c (release_mask c s.peri s.usb s.adc s.board.rtc), tt),

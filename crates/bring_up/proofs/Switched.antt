@@ -1,9 +1,9 @@
 -- The source that a clock is switched to runs, since the reference and system clocks of an accepted plan have no
 -- source of 0 Hz.
-use mathlib.Core.{Bool.Bool, Bool.true, Bool.false, Bool.◌&&◌, Path.◌≡◌, Path.refl, Path.ap}
+use mathlib.Core.{Bool.Bool, Bool.true, Bool.false, Bool.◌&&◌, Path.◌≡◌, Path.refl, Path.ap, List.[], List.◌∷◌}
 use Prim.Native.Nat.{ℕ, ◌+◌, ◌*◌, ◌/◌}
 use native.Mathlib.{Nat.div-le_self, Omega.arith}
-use lib.{Dec.eqb}
+use lib.{Dec.eqb, ListN.get_or}
 use borrow.Author.Tests.{eqb-false}
 use Rattle.std.proofs.lemmas.Bool.{or_parts}
 use Rattle.chip.specs.declared.{Chip.Chip, Chip.TheVariants.Rp2040, Chip.TheVariants.Rp235x}
@@ -12,122 +12,83 @@ use Rattle.divider.specs.Clock.{divided_hz}
 use Rattle.config.specs.declared.{RefClkSrc.RefClkSrc}
 use Rattle.config.specs.declared.{RefClkConfig.RefClkConfig, SysClkSrc.SysClkSrc, Board.Board}
 use Rattle.settings.specs.declared.{Sources.Sources, Frequencies.Frequencies}
-use Rattle.config.specs.Codes.{sys_select, sys_aux}
+use Rattle.config.specs.Codes.{ref_code, sys_select, sys_aux}
 use Rattle.settings.specs.Settings.{settings_of}
 use Rattle.settings.specs.Frequencies.{ref_source, ref_hz, sys_source, sys_hz, sources_in, ref_in, frequencies_of}
 use Rattle.refusals.specs.Rules.{reference_bad}
 use Rattle.refusals.proofs.Accepted.{accepted-by}
 use Rattle.registers.specs.Access.{has, access_of}
-use Rattle.registers.specs.Map.{XOSC_CTRL, ROSC_CTRL}
+use Rattle.registers.specs.Map.{XOSC_CTRL, ROSC_CTRL, CLK_REF_CTRL, REF_SRC, AUXSRC, SYS_SRC}
 use Rattle.sheet.specs.Steps.{source_part, ref_part, switch_steps}
 use Rattle.sheet.specs.Steps.{sys_part, release_mask, last_part, clocks_part, steps_of}
-use Rattle.bring_up.specs.Machine.{carried_out}
+use Rattle.bring_up.specs.Machine.{bits_at, carried_out}
 use Rattle.bring_up.specs.Tree.{oscillates}
 use Rattle.bring_up.specs.ClockWaits.{pll_runs, ref_runs, source_runs, SourcesRun}
-use Rattle.bring_up.proofs.Parts.{system_steps, peri, usb, adc, rtc}
+use Rattle.bring_up.proofs.Parts.{Usb, Adc, system_steps, peri, aux, rtc}
 use Rattle.bring_up.proofs.Walk.{Walk, ◌then◌, Any, calmly}
 use Rattle.bring_up.proofs.Running.{NonZero, Running, Referred, mark, head, ring, voltage, crystal}
 
 source : (c : Chip) (f : Sources) → Walk c (source_runs c) (Running c f) (Running c f) (source_part f)
 unfolding access_of has
-source Rp2040 f =
-    record { walk = λ file p. (refl, record { ring = p.ring; xosc = p.xosc; sys = p.sys; usb = p.usb }) }
-source Rp235x f =
-    record { walk = λ file p. (refl, record { ring = p.ring; xosc = p.xosc; sys = p.sys; usb = p.usb }) }
+source Rp2040 f = record { walk = λ file p. (refl, p) }
+source Rp235x f = record { walk = λ file p. (refl, p) }
 
--- the reference part keeps the sources
-moved : (c : Chip) (f : Sources) (stored : ℕ) (r : RefClkConfig) (file : ℕ → ℕ) → Running c f file
-    → Running c f (carried_out c (ref_part c stored r) file)
-unfolding access_of has
-moved Rp2040 f stored r file p = record { ring = p.ring; xosc = p.xosc; sys = p.sys; usb = p.usb }
-moved Rp235x f stored r file p = record { ring = p.ring; xosc = p.xosc; sys = p.sys; usb = p.usb }
+-- the source that the reference part selects runs
+pub selected : (c : Chip) (f : Sources) (src : RefClkSrc) (file : ℕ → ℕ) → file (CLK_REF_CTRL c) ≡ REF_SRC (ref_code src)
+    → Running c f file → NonZero (ref_source f src) → ref_runs c file ≡ true
+selected c f RefClkSrc.Rosc file e p nonzero = rw e p.ring
+selected c f RefClkSrc.Xosc file e p nonzero = rw e (p.xosc nonzero)
+selected c f RefClkSrc.PllUsb file e p nonzero = rw e (p.usb nonzero)
 
--- the source of the reference clock runs
-ref-runs : (c : Chip) (f : Sources) (stored div : ℕ) (src : RefClkSrc) → NonZero (ref_source f src)
-    → Walk c (source_runs c) (Running c f) (Referred c f) (ref_part c stored (record { src = src; div = div }))
+referred : (c : Chip) (f : Sources) (r : RefClkConfig) → NonZero (ref_source f r.src) → (file : ℕ → ℕ)
+    → file (CLK_REF_CTRL c) ≡ REF_SRC (ref_code r.src) → Running c f file → ((ref_runs c file && true) ≡ true) × Referred c f file
+referred c f r nonzero file e p =
+    let runs = selected c f r.src file e p nonzero in
+    (ap (λ (b : Bool). b && true) runs, record { sources = p; reference = runs })
+
+ref-runs : (c : Chip) (f : Sources) (stored : ℕ) (r : RefClkConfig) → NonZero (ref_source f r.src)
+    → Walk c (source_runs c) (Running c f) (Referred c f) (ref_part c stored r)
 unfolding access_of has
-ref-runs Rp2040 f stored div RefClkSrc.Rosc nonzero =
-    record {
-      walk = λ file p. (
-        ap (λ (b : Bool). b && true) p.ring,
-        record { sources = moved Rp2040 f stored (record { src = RefClkSrc.Rosc; div = div }) file p; reference = p.ring },
-      );
-    }
-ref-runs Rp2040 f stored div RefClkSrc.Xosc nonzero =
-    record {
-      walk = λ file p. (
-        ap (λ (b : Bool). b && true) (p.xosc nonzero),
-        record { sources = moved Rp2040 f stored (record { src = RefClkSrc.Xosc; div = div }) file p; reference = p.xosc nonzero },
-      );
-    }
-ref-runs Rp2040 f stored div RefClkSrc.PllUsb nonzero =
-    record {
-      walk = λ file p. (
-        ap (λ (b : Bool). b && true) (p.usb nonzero),
-        record { sources = moved Rp2040 f stored (record { src = RefClkSrc.PllUsb; div = div }) file p; reference = p.usb nonzero },
-      );
-    }
-ref-runs Rp235x f stored div RefClkSrc.Rosc nonzero =
-    record {
-      walk = λ file p. (
-        ap (λ (b : Bool). b && true) p.ring,
-        record { sources = moved Rp235x f stored (record { src = RefClkSrc.Rosc; div = div }) file p; reference = p.ring },
-      );
-    }
-ref-runs Rp235x f stored div RefClkSrc.Xosc nonzero =
-    record {
-      walk = λ file p. (
-        ap (λ (b : Bool). b && true) (p.xosc nonzero),
-        record { sources = moved Rp235x f stored (record { src = RefClkSrc.Xosc; div = div }) file p; reference = p.xosc nonzero },
-      );
-    }
-ref-runs Rp235x f stored div RefClkSrc.PllUsb nonzero =
-    record {
-      walk = λ file p. (
-        ap (λ (b : Bool). b && true) (p.usb nonzero),
-        record { sources = moved Rp235x f stored (record { src = RefClkSrc.PllUsb; div = div }) file p; reference = p.usb nonzero },
-      );
-    }
+ref-runs Rp2040 f stored r nonzero =
+    record { walk = λ file p. referred Rp2040 f r nonzero (carried_out Rp2040 (ref_part Rp2040 stored r) file) refl p }
+ref-runs Rp235x f stored r nonzero =
+    record { walk = λ file p. referred Rp235x f r nonzero (carried_out Rp235x (ref_part Rp235x stored r) file) refl p }
+
+-- the source that the system part selects runs
+sys-selected : (c : Chip) (f : Sources) (reference : ℕ) (src : SysClkSrc) → NonZero (sys_source f reference src) → (file : ℕ → ℕ)
+    → Referred c f file → let ctrl = AUXSRC (sys_aux src) + SYS_SRC (sys_select src) in
+    get_or (ref_runs c file
+    ∷ get_or (pll_runs c 0 file ∷ pll_runs c 1 file ∷ oscillates (file (ROSC_CTRL c)) ∷ oscillates (file (XOSC_CTRL c)) ∷ [])
+    (bits_at 5 3 ctrl) false ∷ []) (bits_at 0 1 ctrl) false ≡ true
+sys-selected c f reference SysClkSrc.Ref nonzero file p = p.reference
+sys-selected c f reference SysClkSrc.PllSys nonzero file p = p.sources.sys nonzero
+sys-selected c f reference SysClkSrc.PllUsb nonzero file p = p.sources.usb nonzero
+sys-selected c f reference SysClkSrc.Rosc nonzero file p = p.sources.ring
+sys-selected c f reference SysClkSrc.Xosc nonzero file p = p.sources.xosc nonzero
 
 -- away from aux to the reference clock, then to aux
-both : (a b : Bool) → a ≡ true → b ≡ true → (a && (b && true)) ≡ true
-both a b h k = rw (h, k)
+both : {a b : Bool} → a ≡ true → b ≡ true → (a && (b && true)) ≡ true
+both h k = rw (h, k)
 
+-- by whether the system part starts there
 sys-runs : (c : Chip) (f : Sources) (reference stored whole fraction : ℕ) (src : SysClkSrc) → NonZero (sys_source f reference src)
-    → Walk c (source_runs c) (Referred c f) Any
-    (system_steps c (eqb (sys_select src) 0) stored (sys_aux src) (sys_select src) whole fraction)
+    → (same : Bool)
+    → Walk c (source_runs c) (Referred c f) Any (system_steps c same stored (sys_aux src) (sys_select src) whole fraction)
 unfolding access_of has
-sys-runs Rp2040 f reference stored whole fraction SysClkSrc.Ref nonzero =
-    record { walk = λ file p. (ap (λ (b : Bool). b && true) p.reference, tt) }
-sys-runs Rp2040 f reference stored whole fraction SysClkSrc.PllSys nonzero =
-    record { walk = λ file p. (both (ref_runs Rp2040 file) (pll_runs Rp2040 0 file) p.reference (p.sources.sys nonzero), tt) }
-sys-runs Rp2040 f reference stored whole fraction SysClkSrc.PllUsb nonzero =
-    record { walk = λ file p. (both (ref_runs Rp2040 file) (pll_runs Rp2040 1 file) p.reference (p.sources.usb nonzero), tt) }
-sys-runs Rp2040 f reference stored whole fraction SysClkSrc.Rosc nonzero =
-    record { walk = λ file p. (both (ref_runs Rp2040 file) (oscillates (file (ROSC_CTRL Rp2040))) p.reference p.sources.ring, tt) }
-sys-runs Rp2040 f reference stored whole fraction SysClkSrc.Xosc nonzero =
-    record {
-      walk = λ file p.
-          (both (ref_runs Rp2040 file) (oscillates (file (XOSC_CTRL Rp2040))) p.reference (p.sources.xosc nonzero), tt);
-    }
-sys-runs Rp235x f reference stored whole fraction SysClkSrc.Ref nonzero =
-    record { walk = λ file p. (ap (λ (b : Bool). b && true) p.reference, tt) }
-sys-runs Rp235x f reference stored whole fraction SysClkSrc.PllSys nonzero =
-    record { walk = λ file p. (both (ref_runs Rp235x file) (pll_runs Rp235x 0 file) p.reference (p.sources.sys nonzero), tt) }
-sys-runs Rp235x f reference stored whole fraction SysClkSrc.PllUsb nonzero =
-    record { walk = λ file p. (both (ref_runs Rp235x file) (pll_runs Rp235x 1 file) p.reference (p.sources.usb nonzero), tt) }
-sys-runs Rp235x f reference stored whole fraction SysClkSrc.Rosc nonzero =
-    record { walk = λ file p. (both (ref_runs Rp235x file) (oscillates (file (ROSC_CTRL Rp235x))) p.reference p.sources.ring, tt) }
-sys-runs Rp235x f reference stored whole fraction SysClkSrc.Xosc nonzero =
-    record {
-      walk = λ file p.
-          (both (ref_runs Rp235x file) (oscillates (file (XOSC_CTRL Rp235x))) p.reference (p.sources.xosc nonzero), tt);
-    }
+sys-runs Rp2040 f reference stored whole fraction src nonzero true =
+    record { walk = λ file p. (ap (λ (b : Bool). b && true) (sys-selected Rp2040 f reference src nonzero file p), tt) }
+sys-runs Rp2040 f reference stored whole fraction src nonzero false =
+    record { walk = λ file p. (both p.reference (sys-selected Rp2040 f reference src nonzero file p), tt) }
+sys-runs Rp235x f reference stored whole fraction src nonzero true =
+    record { walk = λ file p. (ap (λ (b : Bool). b && true) (sys-selected Rp235x f reference src nonzero file p), tt) }
+sys-runs Rp235x f reference stored whole fraction src nonzero false =
+    record { walk = λ file p. (both p.reference (sys-selected Rp235x f reference src nonzero file p), tt) }
 
 system : (b : Board) (f : Sources) (reference stored : ℕ) (src : SysClkSrc) → NonZero (sys_source f reference src)
     → Walk b.chip (source_runs b.chip) (Referred b.chip f) Any (sys_part b stored src)
 unfolding sys_part switch_steps
-system b f reference stored src nonzero = sys-runs b.chip f reference stored b.whole b.fraction src nonzero
+system b f reference stored src nonzero =
+    sys-runs b.chip f reference stored b.whole b.fraction src nonzero (eqb (sys_select src) 0)
 
 -- the last part waits for no source
 last : (c : Chip) (mask : ℕ) → Walk c (source_runs c) Any Any (last_part mask)
@@ -166,11 +127,11 @@ sources-run p reading ok before on awake =
     then voltage reading s.board s.settling
     then crystal c s.rosc s.xosc
     then source c f.sources
-    then ref-runs c (sources_in s) f.reference s.reference.div s.reference.src (ref-source (sources_in s) s.reference (a 8))
+    then ref-runs c (sources_in s) f.reference s.reference (ref-source (sources_in s) s.reference (a 8))
     then system s.board (sources_in s) (ref_in s) f.sys s.sys (sys-source s.board (sources_in s) (ref_in s) s.sys (a 10))
     then calmly (peri c f.peri s.peri)
-    then calmly (usb c f.usb s.usb)
-    then calmly (adc c f.adc s.adc)
+    then calmly (aux c Usb f.usb s.usb)
+    then calmly (aux c Adc f.adc s.adc)
     then calmly (rtc c f.rtc s.board.rtc)
     then last c (release_mask c s.peri s.usb s.adc s.board.rtc)).walk before
     (record { ring = on; reference = awake })).0

@@ -4,14 +4,13 @@ use Rattle.std.specs.Prelude.{Option, Some, None}
 use Rattle.config.specs.declared.PeriClkSrc.{PeriClkSrc}
 use mathlib.Core.{Bool.Bool, Bool.false, Bool.◌||◌, Path.◌≡◌, Path.refl, Path.ap, Path.◌∙◌}
 use mathlib.Core.List.{List, [], ◌∷◌}
-use Prim.Native.Nat.{ℕ, suc, ◌≤◌}
+use Prim.Native.Nat.{ℕ, suc, ◌/◌, ◌≤◌}
 use native.Mathlib.Omega.{arith}
 use lib.{Dec.eqb, Dec.ltb, ListN.take, ListN.drop}
 use Rattle.base.specs.Choice.{pick}
 use Rattle.std.proofs.lemmas.Bool.{or_parts}
 use Rattle.chip.specs.declared.{Chip.Chip, Chip.TheVariants.Rp2040, Chip.TheVariants.Rp235x}
 use Rattle.chip.specs.Chips.{facts_of}
-use Rattle.step.specs.declared.kind.Kind.TheVariants as kind
 use Rattle.config.specs.declared.{ChipConfig.ChipConfig}
 use Rattle.pll.specs.declared.PllConfig.{PllConfig}
 use Rattle.config.specs.Board.{board_of}
@@ -27,17 +26,17 @@ use Rattle.sheet.proofs.Facts.{none_more, aux-fits, aux-divider}
 use Rattle.registers.specs.Map.{RESET, CLK_REF_CTRL, CLK_REF_DIV, CLK_SYS_CTRL, CLK_SYS_DIV, CLK_PERI_CTRL, CLK_USB_CTRL, CLK_USB_DIV}
 use Rattle.registers.specs.Map.{CLK_ADC_CTRL, CLK_ADC_DIV, CLK_RTC_CTRL, CLK_RTC_DIV, XOSC_CTRL, ROSC_CTRL, PLL_CS, PLL_PWR}
 use Rattle.registers.specs.Map.{PLL_FBDIV_INT, PLL_PRIM}
-use Rattle.sheet.specs.Steps.{crystal_part, peri_part, aux_part, rtc_part, release_mask, clocks_part, steps_of}
+use Rattle.sheet.specs.Steps.{crystal_part, peri_part, rtc_part, release_mask, clocks_part, steps_of}
 use Rattle.bring_up.specs.Machine.{held, carried_out}
-use Rattle.bring_up.specs.Tree.{oscillates, sources_at, ref_at, sys_at, usb_at, adc_at, rtc_at, sys_from, peri_from}
+use Rattle.bring_up.specs.Tree.{oscillates, sources_at, ref_at, sys_at, rtc_at, sys_from, peri_from, aux_from}
 use Rattle.bring_up.specs.Tree.{CLK_PERI_DIV, int_from, peri_divider}
 use Rattle.bring_up.specs.Times.{has_peri, has_aux, has_rtc, Runs, AllTrue, TimesAreTrue}
 use Rattle.bring_up.proofs.Addresses.{member}
-use Rattle.bring_up.proofs.Parts.{owns}
+use Rattle.bring_up.proofs.Parts.{Aux, Usb, Adc, aux_control, aux_divider, aux_of, owns}
 use Rattle.bring_up.proofs.Sheet.{joined, up_to, holds, stays}
 use Rattle.bring_up.proofs.Set.{head-sets, ring-sets, PllSet, CrystalSet, crystal-sets, pll-moves, ref-sets}
 use Rattle.bring_up.proofs.Set.{sys-sets, peri-sets}
-use Rattle.bring_up.proofs.Set.{usb-sets, adc-sets, rtc-sets, peri-absent, aux-absent, rtc-absent, last-sets}
+use Rattle.bring_up.proofs.Set.{aux-sets, rtc-sets, peri-absent, aux-absent, rtc-absent, last-sets}
 use Rattle.bring_up.proofs.Hz.{sources-true, ref-true, sys-true, peri-true, aux-true, rtc-true}
 
 -- registers that no part from k + 1 to n has; with the parts before k, none of the first n
@@ -83,13 +82,16 @@ peri-free : (c : Chip) → Free c 8 13 (CLK_PERI_CTRL c ∷ []) × Apart c 8 (CL
 peri-free Rp2040 = ((refl, tt), (refl, tt), (refl, tt))
 peri-free Rp235x = ((refl, tt), (refl, tt), (refl, tt))
 
-usb-free : (c : Chip) → Free c 9 13 (CLK_USB_CTRL c ∷ CLK_USB_DIV c ∷ []) × Apart c 9 (CLK_USB_CTRL c ∷ [])
-usb-free Rp2040 = ((refl, (refl, tt)), (refl, tt))
-usb-free Rp235x = ((refl, (refl, tt)), (refl, tt))
+-- the place of the part of USB or ADC
+abbrev aux_place : Aux → ℕ
+aux_place Usb = 9
+aux_place Adc = 10
 
-adc-free : (c : Chip) → Free c 10 13 (CLK_ADC_CTRL c ∷ CLK_ADC_DIV c ∷ []) × Apart c 10 (CLK_ADC_CTRL c ∷ [])
-adc-free Rp2040 = ((refl, (refl, tt)), (refl, tt))
-adc-free Rp235x = ((refl, (refl, tt)), (refl, tt))
+aux-free : (c : Chip) (k : Aux) → let n = aux_place k in
+    Free c n 13 (aux_control c k ∷ aux_divider c k ∷ []) × Apart c n (aux_control c k ∷ [])
+aux-free Rp2040 Usb = ((refl, (refl, tt)), (refl, tt))
+aux-free Rp235x Usb = ((refl, (refl, tt)), (refl, tt))
+aux-free c k = ((refl, (refl, tt)), (refl, tt))
 
 rtc-free : (c : Chip) → Free c 11 13 (CLK_RTC_CTRL ∷ CLK_RTC_DIV ∷ []) × Apart c 11 (CLK_RTC_CTRL ∷ [])
 rtc-free Rp2040 = ((refl, (refl, tt)), (refl, tt))
@@ -193,27 +195,17 @@ peri-off : (c : Chip) (hz : ℕ) (o : Option PeriClkSrc) (file before after : �
 peri-off c hz (Some src) file before after e0 e1 h = let z : ◌≡◌ {A = ℕ} 0 1 = cc in absurd (omega arith)
 peri-off c hz None file before after e0 e1 h = e0 ∙ peri-absent c hz file (CLK_PERI_CTRL c) ∙ e1
 
-usb-runs : (c : Chip) (hz : ℕ) (o : Option AuxClkConfig) (f : Sources) (file before after : ℕ → ℕ) → AuxSmall o
-    → let set = carried_out c (aux_part kind.UsbDivider kind.UsbControl 7 hz o) file in
-    after (CLK_USB_CTRL c) ≡ set (CLK_USB_CTRL c) → after (CLK_USB_DIV c) ≡ set (CLK_USB_DIV c)
-    → file (CLK_USB_CTRL c) ≡ before (CLK_USB_CTRL c)
-    → Runs (has_aux o) (usb_at c f after) (aux_hz f o) (CLK_USB_CTRL c) before after
-usb-runs c hz (Some a) f file before after small e0 e1 e2 =
-    let set = usb-sets c hz a file in
-    aux-true c f a (after (CLK_USB_CTRL c)) (after (CLK_USB_DIV c)) small (e0 ∙ set.0) (e1 ∙ set.1)
-usb-runs c hz None f file before after small e0 e1 e2 =
-    e0 ∙ aux-absent c kind.UsbDivider kind.UsbControl 7 hz file (CLK_USB_CTRL c) ∙ e2
-
-adc-runs : (c : Chip) (hz : ℕ) (o : Option AuxClkConfig) (f : Sources) (file before after : ℕ → ℕ) → AuxSmall o
-    → let set = carried_out c (aux_part kind.AdcDivider kind.AdcControl 8 hz o) file in
-    after (CLK_ADC_CTRL c) ≡ set (CLK_ADC_CTRL c) → after (CLK_ADC_DIV c) ≡ set (CLK_ADC_DIV c)
-    → file (CLK_ADC_CTRL c) ≡ before (CLK_ADC_CTRL c)
-    → Runs (has_aux o) (adc_at c f after) (aux_hz f o) (CLK_ADC_CTRL c) before after
-adc-runs c hz (Some a) f file before after small e0 e1 e2 =
-    let set = adc-sets c hz a file in
-    aux-true c f a (after (CLK_ADC_CTRL c)) (after (CLK_ADC_DIV c)) small (e0 ∙ set.0) (e1 ∙ set.1)
-adc-runs c hz None f file before after small e0 e1 e2 =
-    e0 ∙ aux-absent c kind.AdcDivider kind.AdcControl 8 hz file (CLK_ADC_CTRL c) ∙ e2
+aux-runs : (c : Chip) (k : Aux) (hz : ℕ) (o : Option AuxClkConfig) (f : Sources) (file before after : ℕ → ℕ) → AuxSmall o
+    → let set = carried_out c (aux_of k hz o) file in
+    after (aux_control c k) ≡ set (aux_control c k) → after (aux_divider c k) ≡ set (aux_divider c k)
+    → file (aux_control c k) ≡ before (aux_control c k)
+    → Runs (has_aux o) (aux_from f (after (aux_control c k)) / int_from c 4 (after (aux_divider c k))) (aux_hz f o)
+    (aux_control c k) before after
+aux-runs c k hz (Some a) f file before after small e0 e1 e2 =
+    let set = aux-sets c k hz a file in
+    aux-true c f a (after (aux_control c k)) (after (aux_divider c k)) small (e0 ∙ set.0) (e1 ∙ set.1)
+aux-runs c k hz None f file before after small e0 e1 e2 =
+    e0 ∙ aux-absent c k hz file (aux_control c k) ∙ e2
 
 -- only a plan for the RP2040 has an RTC
 abbrev RtcOf : Chip → Option RtcClkConfig → Type 0
@@ -290,17 +282,17 @@ true_of reading s before ok t one now same =
       peri_divider_kept =
           divider-same c after before (stays 13 reading s before CLK_PERI_DIV (peri-free c).2.0);
       usb =
-          usb-runs c f.usb s.usb (sources_in s) (up_to 9 reading s before) before after
+          aux-runs c Usb f.usb s.usb (sources_in s) (up_to 9 reading s before) before after
           (aux-divider s.usb (aux-fits f.usb_source s.usb (a 12)))
-          (holds 13 9 reading s before (CLK_USB_CTRL c) (usb-free c).0.0)
-          (holds 13 9 reading s before (CLK_USB_DIV c) (usb-free c).0.1.0)
-          (stays 9 reading s before (CLK_USB_CTRL c) (usb-free c).1.0);
+          (holds 13 9 reading s before (CLK_USB_CTRL c) (aux-free c Usb).0.0)
+          (holds 13 9 reading s before (CLK_USB_DIV c) (aux-free c Usb).0.1.0)
+          (stays 9 reading s before (CLK_USB_CTRL c) (aux-free c Usb).1.0);
       adc =
-          adc-runs c f.adc s.adc (sources_in s) (up_to 10 reading s before) before after
+          aux-runs c Adc f.adc s.adc (sources_in s) (up_to 10 reading s before) before after
           (aux-divider s.adc (aux-fits f.adc_source s.adc (a 13)))
-          (holds 13 10 reading s before (CLK_ADC_CTRL c) (adc-free c).0.0)
-          (holds 13 10 reading s before (CLK_ADC_DIV c) (adc-free c).0.1.0)
-          (stays 10 reading s before (CLK_ADC_CTRL c) (adc-free c).1.0);
+          (holds 13 10 reading s before (CLK_ADC_CTRL c) (aux-free c Adc).0.0)
+          (holds 13 10 reading s before (CLK_ADC_DIV c) (aux-free c Adc).0.1.0)
+          (stays 10 reading s before (CLK_ADC_CTRL c) (aux-free c Adc).1.0);
       rtc =
           rtc-runs c f.rtc_source f.rtc s.board.rtc (sources_in s) (up_to 11 reading s before) before after
           one t.rtc (a 14)
