@@ -21,43 +21,36 @@ joined [] = []
 joined (x ∷ xs) = x ++ joined xs
 
 -- each part has its registers
-abbrev pub All : Chip → List (List ℕ) → List (List Step) → Type 0
-All c [] [] = Unit {0}
-All c [] (p ∷ ps) = ⊥
-All c (o ∷ os) [] = ⊥
-All c (o ∷ os) (p ∷ ps) = On c o p × All c os ps
+infixr 20 ◌also◌
+pub data All (c : Chip) : List (List ℕ) → List (List Step) → Type 0 where
+  none : All c [] []
+  ◌also◌ : {o : List ℕ} {p : List Step} {os : List (List ℕ)} {ps : List (List Step)} → On c o p → All c os ps → All c (o ∷ os) (p ∷ ps)
 
-all_take : (c : Chip) (n : ℕ) (os : List (List ℕ)) (ps : List (List Step)) → All c os ps → All c (take n os) (take n ps)
-all_take c zero os ps all = tt
-all_take c (suc n) [] [] all = tt
-all_take c (suc n) [] (p ∷ ps) all = absurd all
-all_take c (suc n) (o ∷ os) [] all = absurd all
-all_take c (suc n) (o ∷ os) (p ∷ ps) all = (all.0, all_take c n os ps all.1)
+all_take : {c : Chip} {os : List (List ℕ)} {ps : List (List Step)} (n : ℕ) → All c os ps → All c (take n os) (take n ps)
+all_take zero all = none
+all_take (suc n) none = none
+all_take (suc n) (on also all) = on also all_take n all
 
-parts-keep : (c : Chip) (os : List (List ℕ)) (ps : List (List Step)) → All c os ps
+parts-keep : {c : Chip} {os : List (List ℕ)} {ps : List (List Step)} → All c os ps
     → (x : ℕ) → member x (joined os) ≡ false → (file : ℕ → ℕ) → carried_out c (joined ps) file x ≡ file x
-parts-keep c [] [] all x h file = refl
-parts-keep c [] (p ∷ ps) all x h file = absurd all
-parts-keep c (o ∷ os) [] all x h file = absurd all
-parts-keep c (o ∷ os) (p ∷ ps) all x h file =
+parts-keep none x h file = refl
+parts-keep {c} (◌also◌ {o} {p} {os} {ps} on all) x h file =
     let both = member-append x o (joined os) h in
     ap (λ (g : ℕ → ℕ). g x) (append c p (joined ps) file)
-    ∙ parts-keep c os ps all.1 x both.1 (carried_out c p file)
-    ∙ steps-keep c p file x (outside x (reach c p) o all.0.inside both.0)
+    ∙ parts-keep all x both.1 (carried_out c p file)
+    ∙ steps-keep c p file x (outside x (reach c p) o on.inside both.0)
 
 -- a register that no later part has keeps the value of part k
-wins : (c : Chip) (k : ℕ) (os : List (List ℕ)) (ps : List (List Step)) → All c os ps
+wins : {c : Chip} {os : List (List ℕ)} {ps : List (List Step)} (k : ℕ) → All c os ps
     → (x : ℕ) → member x (joined (drop (suc k) os)) ≡ false → (file : ℕ → ℕ)
     → carried_out c (joined ps) file x ≡ carried_out c (get_or ps k []) (carried_out c (joined (take k ps)) file) x
-wins c zero [] [] all x h file = refl
-wins c (suc k) [] [] all x h file = refl
-wins c k [] (p ∷ ps) all x h file = absurd all
-wins c k (o ∷ os) [] all x h file = absurd all
-wins c zero (o ∷ os) (p ∷ ps) all x h file =
-    ap (λ (g : ℕ → ℕ). g x) (append c p (joined ps) file) ∙ parts-keep c os ps all.1 x h (carried_out c p file)
-wins c (suc k) (o ∷ os) (p ∷ ps) all x h file =
+wins zero none x h file = refl
+wins (suc k) none x h file = refl
+wins {c} zero (◌also◌ {o} {p} {os} {ps} on all) x h file =
+    ap (λ (g : ℕ → ℕ). g x) (append c p (joined ps) file) ∙ parts-keep all x h (carried_out c p file)
+wins {c} (suc k) (◌also◌ {o} {p} {os} {ps} on all) x h file =
     ap (λ (g : ℕ → ℕ). g x) (append c p (joined ps) file)
-    ∙ wins c k os ps all.1 x h (carried_out c p file)
+    ∙ wins k all x h (carried_out c p file)
     ∙ ap (λ (g : ℕ → ℕ). carried_out c (get_or ps k []) g x) (sym (append c p (joined (take k ps)) file))
 
 -- the parts of the sheet of settings
@@ -83,43 +76,21 @@ parts_of reading s =
 pub all-parts : (reading : ℕ) (s : Settings) → All s.board.chip (owns s.board.chip) (parts_of reading s)
 all-parts reading s =
     let c : Chip = s.board.chip in
-    let f : Frequencies = frequencies_of s in (
-      (mark c).on,
-      (
-        head c,
-        (
-          (ring c (facts_of c).pass s.rosc).on,
-          (
-            (voltage reading s.board s.settling).on,
-            (
-              crystal c s.xosc,
-              (
-                (source c f.sources).on,
-                (
-                  reference c f.reference s.reference,
-                  (
-                    system s.board f.sys s.sys,
-                    (
-                      (peri c f.peri s.peri).on,
-                      (
-                        (aux c Usb f.usb s.usb).on,
-                        (
-                          (aux c Adc f.adc s.adc).on,
-                          (
-                            (rtc c f.rtc s.board.rtc).on,
-                            (last c (release_mask c s.peri s.usb s.adc s.board.rtc), tt),
-                          ),
-                        ),
-                      ),
-                    ),
-                  ),
-                ),
-              ),
-            ),
-          ),
-        ),
-      ),
-    )
+    let f : Frequencies = frequencies_of s in
+    (mark c).on
+    also head c
+    also (ring c (facts_of c).pass s.rosc).on
+    also (voltage reading s.board s.settling).on
+    also crystal c s.xosc
+    also (source c f.sources).on
+    also reference c f.reference s.reference
+    also system s.board f.sys s.sys
+    also (peri c f.peri s.peri).on
+    also (aux c Usb f.usb s.usb).on
+    also (aux c Adc f.adc s.adc).on
+    also (rtc c f.rtc s.board.rtc).on
+    also last c (release_mask c s.peri s.usb s.adc s.board.rtc)
+    also none
 
 -- the file after the first n parts
 abbrev pub up_to : ℕ → ℕ → Settings → (ℕ → ℕ) → (ℕ → ℕ)
@@ -131,15 +102,9 @@ pub holds : (n k reading : ℕ) (s : Settings) (before : ℕ → ℕ) (x : ℕ)
     → up_to n reading s before x
     ≡ carried_out s.board.chip (get_or (take n (parts_of reading s)) k [])
     (carried_out s.board.chip (joined (take k (take n (parts_of reading s)))) before) x
-holds n k reading s before x h =
-    let c : Chip = s.board.chip in
-    wins c k (take n (owns c)) (take n (parts_of reading s)) (all_take c n (owns c) (parts_of reading s) (all-parts reading s))
-    x h before
+holds n k reading s before x h = wins k (all_take n (all-parts reading s)) x h before
 
 -- a register that none of them has is unchanged
 pub stays : (n reading : ℕ) (s : Settings) (before : ℕ → ℕ) (x : ℕ)
     → member x (joined (take n (owns s.board.chip))) ≡ false → up_to n reading s before x ≡ before x
-stays n reading s before x h =
-    let c : Chip = s.board.chip in
-    parts-keep c (take n (owns c)) (take n (parts_of reading s))
-    (all_take c n (owns c) (parts_of reading s) (all-parts reading s)) x h before
+stays n reading s before x h = parts-keep (all_take n (all-parts reading s)) x h before
