@@ -7,7 +7,7 @@ use lib.Dec.{eqb}
 use borrow.Author.Tests.{ne_eqb}
 use Rattle.base.specs.{Choice.pick, Answer.Answer, Answer.value, Answer.refusal}
 use Rattle.std.proofs.lemmas.Bool.{and_parts, or_parts}
-use Rattle.chip.specs.declared.Chip.{Chip}
+use Rattle.chip.specs.declared.{Chip.Chip, Chip.TheVariants.Rp2040, Chip.TheVariants.Rp235x}
 use Rattle.step.specs.declared.Step.{Step}
 use Rattle.registers.specs.declared.Access.{Access}
 use Rattle.registers.specs.Access.{access_of, op_of, address_of}
@@ -21,6 +21,14 @@ member x (y ∷ ys) = eqb y x || member x ys
 abbrev pub within : List ℕ → List ℕ → Bool
 within [] ys = true
 within (x ∷ xs) ys = member x ys && within xs ys
+
+-- a register that is not among these, on a chip; on each it computes
+abbrev pub Apart : (Chip → List ℕ) → (Chip → ℕ) → Chip → Type 0
+Apart own x c = member (x c) (own c) ≡ false
+
+pub apart : (own : Chip → List ℕ) (x : Chip → ℕ) → Apart own x Rp2040 → Apart own x Rp235x → (c : Chip) → Apart own x c
+apart own x a b Rp2040 = a
+apart own x a b Rp235x = b
 
 pub member-append : (x : ℕ) (xs ys : List ℕ) → member x (xs ++ ys) ≡ false → (member x xs ≡ false) × (member x ys ≡ false)
 member-append x [] ys h = (refl, h)

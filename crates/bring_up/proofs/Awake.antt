@@ -1,9 +1,8 @@
 -- After a sheet the ring and the source of the reference clock run: both are set, or left, by one part of the sheet, and no later
 -- part changes them.
 use Rattle.std.specs.Prelude.{Option, Some, None}
-use mathlib.Core.{Bool.true, Bool.false, Path.◌≡◌, Path.refl, Path.subst, Path.ap, Path.◌∙◌, List.[], List.◌∷◌}
+use mathlib.Core.{Bool.true, Path.◌≡◌, Path.refl, Path.subst, Path.ap, Path.◌∙◌, List.[], List.◌∷◌}
 use Prim.Native.Nat.{ℕ}
-use lib.ListN.{take}
 use Rattle.chip.specs.declared.{Chip.Chip, Chip.TheVariants.Rp2040, Chip.TheVariants.Rp235x}
 use Rattle.chip.specs.Chips.{facts_of}
 use Rattle.config.specs.declared.{RoscConfig.RoscConfig}
@@ -18,11 +17,9 @@ use Rattle.sheet.specs.Steps.{ring_part, clocks_part, steps_of}
 use Rattle.bring_up.specs.Machine.{carried_out}
 use Rattle.bring_up.specs.Tree.{oscillates}
 use Rattle.bring_up.specs.ClockWaits.{Awake, StaysAwake}
-use Rattle.bring_up.proofs.Addresses.{member}
-use Rattle.bring_up.proofs.Parts.{owns}
-use Rattle.bring_up.proofs.Sheet.{joined, up_to, holds, stays}
+use Rattle.bring_up.proofs.Sheet.{up_to, holds, stays}
 use Rattle.bring_up.proofs.Set.{range-on, ref-sets}
-use Rattle.bring_up.proofs.Times.{ring-free, ref-free, ended, crystal-ends}
+use Rattle.bring_up.proofs.Times.{ended, crystal-ends}
 use Rattle.bring_up.proofs.Running.{running}
 use Rattle.bring_up.proofs.Switched.{selected, ref-source}
 
@@ -35,10 +32,6 @@ ring-stays Rp235x pass (Some r) file on = range-on r.range
 ring-stays Rp2040 pass None file on = on
 ring-stays Rp235x pass None file on = on
 
-ring-first : (c : Chip) → member (ROSC_CTRL c) (joined (take 2 (owns c))) ≡ false
-ring-first Rp2040 = refl
-ring-first Rp235x = refl
-
 -- one sheet
 awake-after : (reading : ℕ) (s : Settings) → refusal_of s reading ≡ None → (before : ℕ → ℕ)
     → oscillates (before (ROSC_CTRL s.board.chip)) ≡ true → Awake s.board.chip (carried_out s.board.chip (steps_of reading s) before)
@@ -46,15 +39,15 @@ unfolding steps_of clocks_part
 awake-after reading s ok before on =
     let c : Chip = s.board.chip in
     let after : ℕ → ℕ = up_to 13 reading s before in
-    let start = ap oscillates (stays 2 reading s before (ROSC_CTRL c) (ring-first c)) ∙ on in
+    let start = ap oscillates (stays 2 reading s before ROSC_CTRL refl refl) ∙ on in
     let ring : oscillates (after (ROSC_CTRL c)) ≡ true =
-    ap oscillates (holds 13 2 reading s before (ROSC_CTRL c) (ring-free c).0)
+    ap oscillates (holds 13 2 reading s before ROSC_CTRL refl refl)
     ∙ ring-stays c (facts_of c).pass s.rosc (up_to 2 reading s before) start in
     record {
       ring = ring;
       reference =
           selected c (sources_in s) s.reference.src after
-          (holds 13 6 reading s before (CLK_REF_CTRL c) (ref-free c).0
+          (holds 13 6 reading s before CLK_REF_CTRL refl refl
           ∙ (ref-sets c (frequencies_of s).reference s.reference (up_to 6 reading s before)).0)
           (running c s.rosc s.xosc after ring (ended reading s before).reset (crystal-ends reading s before))
           (ref-source (sources_in s) s.reference (accepted-by s reading ok 8));

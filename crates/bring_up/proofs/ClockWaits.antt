@@ -29,16 +29,15 @@ use Rattle.refusals.specs.Rules.{pll_invalid, sys_pll_invalid, usb_pll_invalid}
 use Rattle.refusals.proofs.Accepted.{accepted-by}
 use Rattle.registers.specs.Access.{has, access_of}
 use Rattle.registers.specs.Map.{RESET, XOSC_CTRL, CLK_REF_CTRL, CLK_SYS_CTRL, PLL_CS, PLL_FBDIV_INT, BLOCKS, REF_SRC}
-use Rattle.registers.specs.Map.{SYS_SRC, AUXSRC, REFDIV, FBDIV, CLK_PERI_CTRL, CLK_USB_CTRL, CLK_USB_DIV}
-use Rattle.registers.specs.Map.{CLK_ADC_CTRL, CLK_ADC_DIV, CLK_RTC_CTRL, CLK_RTC_DIV}
+use Rattle.registers.specs.Map.{SYS_SRC, AUXSRC, REFDIV, FBDIV}
 use Rattle.sheet.specs.Steps.{head_part, pll_steps, crystal_part, ref_part, switch_steps}
 use Rattle.sheet.specs.Steps.{sys_part, release_mask, last_part, clocks_part, steps_of, step0, step1, step2}
 use Rattle.bring_up.specs.Machine.{bits_at, held, carried_out}
 use Rattle.bring_up.specs.Tree.{oscillates, vco_on}
 use Rattle.bring_up.specs.ClockWaits.{locks, can_come, NoEndlessWait}
-use Rattle.bring_up.proofs.Addresses.{member}
+use Rattle.bring_up.proofs.Addresses.{Apart}
 use Rattle.bring_up.proofs.Parts.{Calm, ring_own, voltage_own, system_steps, mark, ring, voltage, source, peri, aux}
-use Rattle.bring_up.proofs.Parts.{Usb, Adc, rtc}
+use Rattle.bring_up.proofs.Parts.{Usb, Adc, rtc, peri_own, aux_own, rtc_own}
 use Rattle.bring_up.proofs.Walk.{Walk, ◌then◌, Any, calmly, keeps}
 use Rattle.bring_up.proofs.Set.{last-sets}
 
@@ -50,16 +49,9 @@ abbrev Comes : Chip → ℕ → List Step → Type 0
 Comes c hz xs = Walk c (can_come c hz) (Released c) (Released c) xs
 
 -- a part without a wait that does not write RESET
-still : {c : Chip} {own : List ℕ} {xs : List Step} (hz : ℕ) → Calm c own xs → member (RESET c) own ≡ false → Comes c hz xs
-still {c} {own} {xs} hz h apart =
-    record { walk = λ file p. (h.calm (can_come c hz) file, keeps h.on file (RESET c) apart ∙ p) }
-
-reset-apart : (c : Chip) → (member (RESET c) (ring_own c) ≡ false) × (member (RESET c) (voltage_own c) ≡ false)
-    × (member (RESET c) (CLK_PERI_CTRL c ∷ []) ≡ false) × (member (RESET c) (CLK_USB_CTRL c ∷ CLK_USB_DIV c ∷ []) ≡ false)
-    × (member (RESET c) (CLK_ADC_CTRL c ∷ CLK_ADC_DIV c ∷ []) ≡ false)
-    × (member (RESET c) (CLK_RTC_CTRL ∷ CLK_RTC_DIV ∷ []) ≡ false)
-reset-apart Rp2040 = (refl, refl, refl, refl, refl, refl)
-reset-apart Rp235x = (refl, refl, refl, refl, refl, refl)
+still : {c : Chip} {xs : List Step} (hz : ℕ) (own : Chip → List ℕ) → Calm c (own c) xs
+    → Apart own RESET Rp2040 → Apart own RESET Rp235x → Comes c hz xs
+still {c} hz own h a b = record { walk = λ file p. (h.calm (can_come c hz) file, keeps own h.on file RESET a b ∙ p) }
 
 -- a source field that was set to 0 reads 0
 pub sys-cleared : (v : ℕ) → bits_at 0 1 (v - bit_and v 1 + 0) ≡ 0
@@ -193,17 +185,16 @@ no-endless-wait p reading ok before =
     let hz : ℕ = (sources_in s).xosc in
     let f : Frequencies = frequencies_of s in
     let a = accepted-by s reading ok in
-    let apart = reset-apart c in
     ((calmly (mark c)
     then head c hz
-    then still hz (ring c (facts_of c).pass s.rosc) apart.0
-    then still hz (voltage reading s.board s.settling) apart.1
+    then still hz ring_own (ring c (facts_of c).pass s.rosc) refl refl
+    then still hz voltage_own (voltage reading s.board s.settling) refl refl
     then crystal c s.rosc s.xosc (a 5) (a 6)
-    then still hz (source c f.sources) refl
+    then still hz (λ c. []) (source c f.sources) refl refl
     then reference c hz f.reference s.reference
     then system hz s.board f.sys s.sys
-    then still hz (peri c f.peri s.peri) apart.2
-    then still hz (aux c Usb f.usb s.usb) apart.3
-    then still hz (aux c Adc f.adc s.adc) apart.4
-    then still hz (rtc c f.rtc s.board.rtc) apart.5
+    then still hz peri_own (peri c f.peri s.peri) refl refl
+    then still hz (aux_own Usb) (aux c Usb f.usb s.usb) refl refl
+    then still hz (aux_own Adc) (aux c Adc f.adc s.adc) refl refl
+    then still hz rtc_own (rtc c f.rtc s.board.rtc) refl refl
     then last c hz (release_mask c s.peri s.usb s.adc s.board.rtc)).walk before tt).0

@@ -82,6 +82,15 @@ ref_own c =
 abbrev pub sys_own : Chip → List ℕ
 sys_own c = CLK_SYS_CTRL c ∷ CLK_SYS_DIV c ∷ []
 
+abbrev pub peri_own : Chip → List ℕ
+peri_own c = CLK_PERI_CTRL c ∷ []
+
+abbrev pub aux_own : Aux → Chip → List ℕ
+aux_own k c = aux_control c k ∷ aux_divider c k ∷ []
+
+abbrev pub rtc_own : Chip → List ℕ
+rtc_own c = CLK_RTC_CTRL ∷ CLK_RTC_DIV ∷ []
+
 abbrev pub last_own : Chip → List ℕ
 last_own c = RESET c ∷ PLL_PWR c 0 ∷ PLL_PWR c 1 ∷ []
 
@@ -95,10 +104,10 @@ owns c =
     ∷ []
     ∷ ref_own c
     ∷ sys_own c
-    ∷ (CLK_PERI_CTRL c ∷ [])
-    ∷ (aux_control c Usb ∷ aux_divider c Usb ∷ [])
-    ∷ (aux_control c Adc ∷ aux_divider c Adc ∷ [])
-    ∷ (CLK_RTC_CTRL ∷ CLK_RTC_DIV ∷ [])
+    ∷ peri_own c
+    ∷ aux_own Usb c
+    ∷ aux_own Adc c
+    ∷ rtc_own c
     ∷ last_own c
     ∷ []
 
@@ -181,14 +190,13 @@ pub system : (b : Board) (hz : ℕ) (src : SysClkSrc) → On b.chip (sys_own b.c
 unfolding sys_part switch_steps
 system b hz src = system-of b.chip (eqb (sys_select src) 0) hz (sys_aux src) (sys_select src) b.whole b.fraction
 
-pub peri : (c : Chip) (hz : ℕ) (o : Option PeriClkSrc) → Calm c (CLK_PERI_CTRL c ∷ []) (peri_part hz o)
+pub peri : (c : Chip) (hz : ℕ) (o : Option PeriClkSrc) → Calm c (peri_own c) (peri_part hz o)
 unfolding access_of has peri_part
 peri Rp2040 hz (Some src) = still refl refl (λ test file. refl)
 peri Rp235x hz (Some src) = still refl refl (λ test file. refl)
 peri c hz o = still refl refl (λ test file. refl)
 
-pub aux : (c : Chip) (k : Aux) (hz : ℕ) (o : Option AuxClkConfig)
-    → Calm c (aux_control c k ∷ aux_divider c k ∷ []) (aux_of k hz o)
+pub aux : (c : Chip) (k : Aux) (hz : ℕ) (o : Option AuxClkConfig) → Calm c (aux_own k c) (aux_of k hz o)
 unfolding access_of has aux_part
 aux Rp2040 Usb hz (Some a) = still refl refl (λ test file. refl)
 aux Rp2040 Adc hz (Some a) = still refl refl (λ test file. refl)
@@ -196,7 +204,7 @@ aux Rp235x Usb hz (Some a) = still refl refl (λ test file. refl)
 aux Rp235x Adc hz (Some a) = still refl refl (λ test file. refl)
 aux c k hz o = still refl refl (λ test file. refl)
 
-pub rtc : (c : Chip) (hz : ℕ) (o : Option RtcClkConfig) → Calm c (CLK_RTC_CTRL ∷ CLK_RTC_DIV ∷ []) (rtc_part c hz o)
+pub rtc : (c : Chip) (hz : ℕ) (o : Option RtcClkConfig) → Calm c (rtc_own c) (rtc_part c hz o)
 unfolding access_of has rtc_part
 rtc Rp2040 hz (Some r) = still refl refl (λ test file. refl)
 rtc Rp2040 hz None = still refl refl (λ test file. refl)

@@ -19,7 +19,6 @@ use Rattle.sheet.specs.Steps.{mark_steps, head_part, ring_part, voltage_part, cr
 use Rattle.bring_up.specs.Machine.{bits_at, held, carried_out}
 use Rattle.bring_up.specs.Tree.{oscillates}
 use Rattle.bring_up.specs.ClockWaits.{all_waits, pll_runs, ref_runs, source_runs, Awake}
-use Rattle.bring_up.proofs.Addresses.{member}
 use Rattle.bring_up.proofs.Parts.{voltage_own, crystal_own, crystal_steps}
 use Rattle.bring_up.proofs.Parts.{voltage as voltage-calm, crystal as crystal_on}
 use Rattle.bring_up.proofs.Walk.{Walk, keeps}
@@ -110,25 +109,19 @@ ring Rp2040 pass None = record { walk = λ file p. (refl, p) }
 ring Rp235x pass (Some r) = record { walk = λ file p. (refl, turned-on r.range p) }
 ring Rp235x pass None = record { walk = λ file p. (refl, p) }
 
-voltage-apart : (c : Chip) → (member (ROSC_CTRL c) (voltage_own c) ≡ false) × (member (RESET c) (voltage_own c) ≡ false)
-    × (member (PLL_PWR c 0) (voltage_own c) ≡ false) × (member (PLL_PWR c 1) (voltage_own c) ≡ false)
-voltage-apart Rp2040 = (refl, refl, refl, refl)
-voltage-apart Rp235x = (refl, refl, refl, refl)
-
 pub voltage : (reading : ℕ) (b : Board) (settling : Option ℕ)
     → Walk b.chip (source_runs b.chip) (Headed b.chip) (Headed b.chip) (voltage_part reading b settling)
 voltage reading b settling =
     let c : Chip = b.chip in
     let part = voltage-calm reading b settling in
-    let apart = voltage-apart c in
     record {
       walk = λ file p. (
         part.calm (source_runs c) file,
         record {
-          ring = ap oscillates (keeps part.on file (ROSC_CTRL c) apart.0) ∙ p.ring;
-          reset = keeps part.on file (RESET c) apart.1 ∙ p.reset;
-          sys = keeps part.on file (PLL_PWR c 0) apart.2 ∙ p.sys;
-          usb = keeps part.on file (PLL_PWR c 1) apart.3 ∙ p.usb;
+          ring = ap oscillates (keeps voltage_own part.on file ROSC_CTRL refl refl) ∙ p.ring;
+          reset = keeps voltage_own part.on file RESET refl refl ∙ p.reset;
+          sys = keeps voltage_own part.on file (λ c. PLL_PWR c 0) refl refl ∙ p.sys;
+          usb = keeps voltage_own part.on file (λ c. PLL_PWR c 1) refl refl ∙ p.usb;
         },
       );
     }
@@ -142,11 +135,6 @@ crystal-quiet Rp2040 delay None (Some q) file = refl
 crystal-quiet Rp235x delay (Some p) (Some q) file = refl
 crystal-quiet Rp235x delay None (Some q) file = refl
 crystal-quiet c delay a b file = refl
-
--- the crystal's part keeps the ring and RESET
-crystal-apart : (c : Chip) → (member (ROSC_CTRL c) (crystal_own c) ≡ false) × (member (RESET c) (crystal_own c) ≡ false)
-crystal-apart Rp2040 = (refl, refl)
-crystal-apart Rp235x = (refl, refl)
 
 pll-runs : (c : Chip) (w hz : ℕ) (o : Option PllConfig) (file : ℕ → ℕ) → oscillates (file (XOSC_CTRL c)) ≡ true
     → held c w (file (RESET c)) ≡ false → PllSet c w o file → NonZero (pll_hz hz o) → pll_runs c w file ≡ true
@@ -182,13 +170,12 @@ pub crystal : (c : Chip) (r : Option RoscConfig) (x : Option Crystal)
     → Walk c (source_runs c) (Headed c) (Running c (sources_of r x)) (crystal_part x)
 crystal c r x =
     let part = crystal_on c x in
-    let apart = crystal-apart c in
     record {
       walk = λ file p. (
         quiet c x file,
         running c r x (carried_out c (crystal_part x) file)
-            (ap oscillates (keeps part file (ROSC_CTRL c) apart.0) ∙ p.ring)
-            (keeps part file (RESET c) apart.1 ∙ p.reset)
+            (ap oscillates (keeps crystal_own part file ROSC_CTRL refl refl) ∙ p.ring)
+            (keeps crystal_own part file RESET refl refl ∙ p.reset)
             (crystal-sets c x file p.sys p.usb),
       );
     }

@@ -3,7 +3,7 @@ use mathlib.Core.{Bool.false, Path.◌≡◌, Path.refl, Path.sym, Path.ap, Path
 use mathlib.Core.List.{List, [], ◌∷◌, ◌++◌}
 use Prim.Native.Nat.{ℕ, zero, suc}
 use lib.ListN.{get_or, take, drop}
-use Rattle.chip.specs.declared.Chip.{Chip}
+use Rattle.chip.specs.declared.{Chip.Chip, Chip.TheVariants.Rp2040, Chip.TheVariants.Rp235x}
 use Rattle.chip.specs.Chips.{facts_of}
 use Rattle.step.specs.declared.Step.{Step}
 use Rattle.step.specs.declared.kind.Kind.TheVariants as kind
@@ -12,7 +12,7 @@ use Rattle.settings.specs.Frequencies.{frequencies_of}
 use Rattle.sheet.specs.Steps.{mark_steps, head_part, ring_part, voltage_part, crystal_part, source_part, ref_part, sys_part, peri_part}
 use Rattle.sheet.specs.Steps.{aux_part, rtc_part, release_mask, last_part}
 use Rattle.bring_up.specs.Machine.{carried_out}
-use Rattle.bring_up.proofs.Addresses.{member, member-append, outside, reach, steps-keep, append}
+use Rattle.bring_up.proofs.Addresses.{Apart, apart, member, member-append, outside, reach, steps-keep, append}
 use Rattle.bring_up.proofs.Parts.{On, owns, mark, head, ring, voltage, crystal, source, reference, system, peri}
 use Rattle.bring_up.proofs.Parts.{Usb, Adc, aux, rtc, last}
 
@@ -97,14 +97,24 @@ abbrev pub up_to : ℕ → ℕ → Settings → (ℕ → ℕ) → (ℕ → ℕ)
 up_to n reading s before = carried_out s.board.chip (joined (take n (parts_of reading s))) before
 
 -- a register that no part from k + 1 to n has keeps the value of part k
-pub holds : (n k reading : ℕ) (s : Settings) (before : ℕ → ℕ) (x : ℕ)
-    → member x (joined (drop (suc k) (take n (owns s.board.chip)))) ≡ false
-    → up_to n reading s before x
+abbrev pub later : ℕ → ℕ → Chip → List ℕ
+later n k c = joined (drop (suc k) (take n (owns c)))
+
+pub holds : (n k reading : ℕ) (s : Settings) (before : ℕ → ℕ) (x : Chip → ℕ)
+    → Apart (later n k) x Rp2040 → Apart (later n k) x Rp235x
+    → up_to n reading s before (x s.board.chip)
     ≡ carried_out s.board.chip (get_or (take n (parts_of reading s)) k [])
-    (carried_out s.board.chip (joined (take k (take n (parts_of reading s)))) before) x
-holds n k reading s before x h = wins k (all_take n (all-parts reading s)) x h before
+    (carried_out s.board.chip (joined (take k (take n (parts_of reading s)))) before) (x s.board.chip)
+holds n k reading s before x a b =
+    let c : Chip = s.board.chip in
+    wins k (all_take n (all-parts reading s)) (x c) (apart (later n k) x a b c) before
 
 -- a register that none of them has is unchanged
-pub stays : (n reading : ℕ) (s : Settings) (before : ℕ → ℕ) (x : ℕ)
-    → member x (joined (take n (owns s.board.chip))) ≡ false → up_to n reading s before x ≡ before x
-stays n reading s before x h = parts-keep (all_take n (all-parts reading s)) x h before
+abbrev pub first : ℕ → Chip → List ℕ
+first n c = joined (take n (owns c))
+
+pub stays : (n reading : ℕ) (s : Settings) (before : ℕ → ℕ) (x : Chip → ℕ)
+    → Apart (first n) x Rp2040 → Apart (first n) x Rp235x → up_to n reading s before (x s.board.chip) ≡ before (x s.board.chip)
+stays n reading s before x a b =
+    let c : Chip = s.board.chip in
+    parts-keep (all_take n (all-parts reading s)) (x c) (apart (first n) x a b c) before

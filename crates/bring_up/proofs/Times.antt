@@ -3,10 +3,9 @@
 use Rattle.std.specs.Prelude.{Option, Some, None}
 use Rattle.config.specs.declared.PeriClkSrc.{PeriClkSrc}
 use mathlib.Core.{Bool.Bool, Bool.false, Bool.◌||◌, Path.◌≡◌, Path.refl, Path.ap, Path.◌∙◌}
-use mathlib.Core.List.{List, [], ◌∷◌}
-use Prim.Native.Nat.{ℕ, suc, ◌/◌, ◌≤◌}
+use Prim.Native.Nat.{ℕ, ◌/◌, ◌≤◌}
 use native.Mathlib.Omega.{arith}
-use lib.{Dec.eqb, Dec.ltb, ListN.take, ListN.drop}
+use lib.{Dec.eqb, Dec.ltb}
 use Rattle.base.specs.Choice.{pick}
 use Rattle.std.proofs.lemmas.Bool.{or_parts}
 use Rattle.chip.specs.declared.{Chip.Chip, Chip.TheVariants.Rp2040, Chip.TheVariants.Rp235x}
@@ -31,71 +30,12 @@ use Rattle.bring_up.specs.Machine.{held, carried_out}
 use Rattle.bring_up.specs.Tree.{oscillates, sources_at, ref_at, sys_at, rtc_at, sys_from, peri_from, aux_from}
 use Rattle.bring_up.specs.Tree.{CLK_PERI_DIV, int_from, peri_divider}
 use Rattle.bring_up.specs.Times.{has_peri, has_aux, has_rtc, Runs, AllTrue, TimesAreTrue}
-use Rattle.bring_up.proofs.Addresses.{member}
-use Rattle.bring_up.proofs.Parts.{Aux, Usb, Adc, aux_control, aux_divider, aux_of, owns}
-use Rattle.bring_up.proofs.Sheet.{joined, up_to, holds, stays}
+use Rattle.bring_up.proofs.Parts.{Aux, Usb, Adc, aux_control, aux_divider, aux_of}
+use Rattle.bring_up.proofs.Sheet.{up_to, holds, stays}
 use Rattle.bring_up.proofs.Set.{head-sets, ring-sets, PllSet, CrystalSet, crystal-sets, pll-moves, ref-sets}
 use Rattle.bring_up.proofs.Set.{sys-sets, peri-sets}
 use Rattle.bring_up.proofs.Set.{aux-sets, rtc-sets, peri-absent, aux-absent, rtc-absent, last-sets}
 use Rattle.bring_up.proofs.Hz.{sources-true, ref-true, sys-true, peri-true, aux-true, rtc-true}
-
--- registers that no part from k + 1 to n has; with the parts before k, none of the first n
-abbrev Free : Chip → ℕ → ℕ → List ℕ → Type 0
-Free c k n [] = Unit {0}
-Free c k n (x ∷ xs) = (member x (joined (drop (suc k) (take n (owns c)))) ≡ false) × Free c k n xs
-
-abbrev Apart : Chip → ℕ → List ℕ → Type 0
-Apart c n [] = Unit {0}
-Apart c n (x ∷ xs) = (member x (joined (take n (owns c))) ≡ false) × Apart c n xs
-
-reset-free : (c : Chip) → Free c 1 12 (RESET c ∷ [])
-reset-free Rp2040 = (refl, tt)
-reset-free Rp235x = (refl, tt)
-
-power-free : (c : Chip) → Free c 1 4 (PLL_PWR c 0 ∷ PLL_PWR c 1 ∷ [])
-power-free Rp2040 = (refl, (refl, tt))
-power-free Rp235x = (refl, (refl, tt))
-
-pub ring-free : (c : Chip) → Free c 2 13 (ROSC_CTRL c ∷ [])
-ring-free Rp2040 = (refl, tt)
-ring-free Rp235x = (refl, tt)
-
-crystal-free : (c : Chip) → Free c 4 13 (XOSC_CTRL c ∷ [])
-crystal-free Rp2040 = (refl, tt)
-crystal-free Rp235x = (refl, tt)
-
-pll-free : (c : Chip) → Free c 4 12 (PLL_PWR c 0 ∷ PLL_PWR c 1 ∷ [])
-    × Free c 4 13 (PLL_CS c 0 ∷ PLL_FBDIV_INT c 0 ∷ PLL_PRIM c 0 ∷ PLL_CS c 1 ∷ PLL_FBDIV_INT c 1 ∷ PLL_PRIM c 1 ∷ [])
-pll-free Rp2040 = ((refl, (refl, tt)), (refl, (refl, (refl, (refl, (refl, (refl, tt)))))))
-pll-free Rp235x = ((refl, (refl, tt)), (refl, (refl, (refl, (refl, (refl, (refl, tt)))))))
-
-pub ref-free : (c : Chip) → Free c 6 13 (CLK_REF_CTRL c ∷ CLK_REF_DIV c ∷ [])
-ref-free Rp2040 = (refl, (refl, tt))
-ref-free Rp235x = (refl, (refl, tt))
-
-sys-free : (c : Chip) → Free c 7 13 (CLK_SYS_CTRL c ∷ CLK_SYS_DIV c ∷ [])
-sys-free Rp2040 = (refl, (refl, tt))
-sys-free Rp235x = (refl, (refl, tt))
-
-peri-free : (c : Chip) → Free c 8 13 (CLK_PERI_CTRL c ∷ []) × Apart c 8 (CLK_PERI_CTRL c ∷ [])
-    × Apart c 13 (CLK_PERI_DIV ∷ [])
-peri-free Rp2040 = ((refl, tt), (refl, tt), (refl, tt))
-peri-free Rp235x = ((refl, tt), (refl, tt), (refl, tt))
-
--- the place of the part of USB or ADC
-abbrev aux_place : Aux → ℕ
-aux_place Usb = 9
-aux_place Adc = 10
-
-aux-free : (c : Chip) (k : Aux) → let n = aux_place k in
-    Free c n 13 (aux_control c k ∷ aux_divider c k ∷ []) × Apart c n (aux_control c k ∷ [])
-aux-free Rp2040 Usb = ((refl, (refl, tt)), (refl, tt))
-aux-free Rp235x Usb = ((refl, (refl, tt)), (refl, tt))
-aux-free c k = ((refl, (refl, tt)), (refl, tt))
-
-rtc-free : (c : Chip) → Free c 11 13 (CLK_RTC_CTRL ∷ CLK_RTC_DIV ∷ []) × Apart c 11 (CLK_RTC_CTRL ∷ [])
-rtc-free Rp2040 = ((refl, (refl, tt)), (refl, tt))
-rtc-free Rp235x = ((refl, (refl, tt)), (refl, tt))
 
 -- ---- the sources
 
@@ -108,7 +48,7 @@ held_none Rp235x reset e = (ap (held Rp235x 0) e, ap (held Rp235x 1) e)
 reset-before : (reading : ℕ) (s : Settings) (before : ℕ → ℕ) → up_to 12 reading s before (RESET s.board.chip) ≡ 0
 reset-before reading s before =
     let c : Chip = s.board.chip in
-    holds 12 1 reading s before (RESET c) (reset-free c).0 ∙ (head-sets c (up_to 1 reading s before)).0
+    holds 12 1 reading s before RESET refl refl ∙ (head-sets c (up_to 1 reading s before)).0
 
 pub record Ended (reading : ℕ) (s : Settings) (before : ℕ → ℕ) : Type 0 where
   pub reset : up_to 13 reading s before (RESET s.board.chip) ≡ 0
@@ -121,9 +61,9 @@ ended reading s before =
     let mask : ℕ = release_mask c s.peri s.usb s.adc s.board.rtc in
     let set = last-sets c mask (up_to 12 reading s before) (reset-before reading s before) in
     record {
-      reset = holds 13 12 reading s before (RESET c) refl ∙ set.0;
-      sys = holds 13 12 reading s before (PLL_PWR c 0) refl ∙ set.1;
-      usb = holds 13 12 reading s before (PLL_PWR c 1) refl ∙ set.2;
+      reset = holds 13 12 reading s before RESET refl refl ∙ set.0;
+      sys = holds 13 12 reading s before (λ c. PLL_PWR c 0) refl refl ∙ set.1;
+      usb = holds 13 12 reading s before (λ c. PLL_PWR c 1) refl refl ∙ set.2;
     }
 
 -- the crystal's part and its PLLs, at the sheet's end
@@ -142,21 +82,20 @@ crystal-ends reading s before =
     let start : ℕ → ℕ = up_to 4 reading s before in
     let g : ℕ → ℕ = carried_out c (crystal_part s.xosc) start in
     let headed = head-sets c (up_to 1 reading s before) in
-    let off0 = holds 4 1 reading s before (PLL_PWR c 0) (power-free c).0 ∙ headed.1 in
-    let off1 = holds 4 1 reading s before (PLL_PWR c 1) (power-free c).1.0 ∙ headed.2 in
-    let free = pll-free c in
+    let off0 = holds 4 1 reading s before (λ c. PLL_PWR c 0) refl refl ∙ headed.1 in
+    let off1 = holds 4 1 reading s before (λ c. PLL_PWR c 1) refl refl ∙ headed.2 in
     let end = ended reading s before in
-    crystal-moves c s.xosc f g (holds 13 4 reading s before (XOSC_CTRL c) (crystal-free c).0)
+    crystal-moves c s.xosc f g (holds 13 4 reading s before XOSC_CTRL refl refl)
     (λ o.
-    pll-moves c 0 o f g (end.sys ∙ holds 12 4 reading s before (PLL_PWR c 0) free.0.0)
-    (holds 13 4 reading s before (PLL_CS c 0) free.1.0)
-    (holds 13 4 reading s before (PLL_FBDIV_INT c 0) free.1.1.0)
-    (holds 13 4 reading s before (PLL_PRIM c 0) free.1.1.1.0))
+    pll-moves c 0 o f g (end.sys ∙ holds 12 4 reading s before (λ c. PLL_PWR c 0) refl refl)
+    (holds 13 4 reading s before (λ c. PLL_CS c 0) refl refl)
+    (holds 13 4 reading s before (λ c. PLL_FBDIV_INT c 0) refl refl)
+    (holds 13 4 reading s before (λ c. PLL_PRIM c 0) refl refl))
     (λ o.
-    pll-moves c 1 o f g (end.usb ∙ holds 12 4 reading s before (PLL_PWR c 1) free.0.1.0)
-    (holds 13 4 reading s before (PLL_CS c 1) free.1.1.1.1.0)
-    (holds 13 4 reading s before (PLL_FBDIV_INT c 1) free.1.1.1.1.1.0)
-    (holds 13 4 reading s before (PLL_PRIM c 1) free.1.1.1.1.1.1.0))
+    pll-moves c 1 o f g (end.usb ∙ holds 12 4 reading s before (λ c. PLL_PWR c 1) refl refl)
+    (holds 13 4 reading s before (λ c. PLL_CS c 1) refl refl)
+    (holds 13 4 reading s before (λ c. PLL_FBDIV_INT c 1) refl refl)
+    (holds 13 4 reading s before (λ c. PLL_PRIM c 1) refl refl))
     (crystal-sets c s.xosc start off0 off1)
 
 sources-are : (reading : ℕ) (s : Settings) (before : ℕ → ℕ) → refusal_of s reading ≡ None
@@ -166,7 +105,7 @@ sources-are reading s before ok =
     let a = accepted-by s reading ok in
     let after : ℕ → ℕ = up_to 13 reading s before in
     let out = held_none c (after (RESET c)) (ended reading s before).reset in
-    let ring = holds 13 2 reading s before (ROSC_CTRL c) (ring-free c).0 in
+    let ring = holds 13 2 reading s before ROSC_CTRL refl refl in
     sources-true c s.rosc s.xosc after (a 5) (a 6) out.0 out.1
     (ap (λ (ctrl : ℕ). pick (oscillates ctrl) (ring_hz s.rosc) 0) ring
     ∙ ring-sets c (facts_of c).pass s.rosc (up_to 2 reading s before))
@@ -256,14 +195,14 @@ true_of reading s before ok t one now same =
     let whole = whole-good (facts_of c).top_whole s.board.whole (a 9) in
     let reference : ref_at c (sources_in s) after ≡ ref_in s =
     ref-true c (sources_in s) s.reference (after (CLK_REF_CTRL c)) (after (CLK_REF_DIV c)) (divider-good s.reference.div (a 7))
-    (holds 13 6 reading s before (CLK_REF_CTRL c) (ref-free c).0 ∙ r.0)
-    (holds 13 6 reading s before (CLK_REF_DIV c) (ref-free c).1.0 ∙ r.1) in
+    (holds 13 6 reading s before CLK_REF_CTRL refl refl ∙ r.0)
+    (holds 13 6 reading s before CLK_REF_DIV refl refl ∙ r.1) in
     let system : sys_at c (sources_in s) after ≡ sys_in s =
     ap (λ (n : ℕ). sys_from c (sources_in s) n (after (CLK_SYS_CTRL c)) (after (CLK_SYS_DIV c))) reference
     ∙ sys-true c (sources_in s) (ref_in s) s.sys s.board.whole s.board.fraction (after (CLK_SYS_CTRL c))
     (after (CLK_SYS_DIV c)) whole.0 whole.1 t.fraction
-    (holds 13 7 reading s before (CLK_SYS_CTRL c) (sys-free c).0 ∙ y.0)
-    (holds 13 7 reading s before (CLK_SYS_DIV c) (sys-free c).1.0 ∙ y.1) in
+    (holds 13 7 reading s before CLK_SYS_CTRL refl refl ∙ y.0)
+    (holds 13 7 reading s before CLK_SYS_DIV refl refl ∙ y.1) in
     rw same
     (record {
       sources = refl;
@@ -272,33 +211,33 @@ true_of reading s before ok t one now same =
       peri = λ one.
           peri-runs c f.peri s.peri (sources_in s) (sys_at c (sources_in s) after) (sys_in s) (peri_divider c after)
           (up_to 8 reading s before) before after
-          (holds 13 8 reading s before (CLK_PERI_CTRL c) (peri-free c).0.0)
-          (stays 8 reading s before (CLK_PERI_CTRL c) (peri-free c).1.0) system
-          (divider-same c after before (stays 13 reading s before CLK_PERI_DIV (peri-free c).2.0) ∙ one);
+          (holds 13 8 reading s before CLK_PERI_CTRL refl refl)
+          (stays 8 reading s before CLK_PERI_CTRL refl refl) system
+          (divider-same c after before (stays 13 reading s before (λ c. CLK_PERI_DIV) refl refl) ∙ one);
       peri_off =
           peri-off c f.peri s.peri (up_to 8 reading s before) before after
-          (holds 13 8 reading s before (CLK_PERI_CTRL c) (peri-free c).0.0)
-          (stays 8 reading s before (CLK_PERI_CTRL c) (peri-free c).1.0);
+          (holds 13 8 reading s before CLK_PERI_CTRL refl refl)
+          (stays 8 reading s before CLK_PERI_CTRL refl refl);
       peri_divider_kept =
-          divider-same c after before (stays 13 reading s before CLK_PERI_DIV (peri-free c).2.0);
+          divider-same c after before (stays 13 reading s before (λ c. CLK_PERI_DIV) refl refl);
       usb =
           aux-runs c Usb f.usb s.usb (sources_in s) (up_to 9 reading s before) before after
           (aux-divider s.usb (aux-fits f.usb_source s.usb (a 12)))
-          (holds 13 9 reading s before (CLK_USB_CTRL c) (aux-free c Usb).0.0)
-          (holds 13 9 reading s before (CLK_USB_DIV c) (aux-free c Usb).0.1.0)
-          (stays 9 reading s before (CLK_USB_CTRL c) (aux-free c Usb).1.0);
+          (holds 13 9 reading s before CLK_USB_CTRL refl refl)
+          (holds 13 9 reading s before CLK_USB_DIV refl refl)
+          (stays 9 reading s before CLK_USB_CTRL refl refl);
       adc =
           aux-runs c Adc f.adc s.adc (sources_in s) (up_to 10 reading s before) before after
           (aux-divider s.adc (aux-fits f.adc_source s.adc (a 13)))
-          (holds 13 10 reading s before (CLK_ADC_CTRL c) (aux-free c Adc).0.0)
-          (holds 13 10 reading s before (CLK_ADC_DIV c) (aux-free c Adc).0.1.0)
-          (stays 10 reading s before (CLK_ADC_CTRL c) (aux-free c Adc).1.0);
+          (holds 13 10 reading s before CLK_ADC_CTRL refl refl)
+          (holds 13 10 reading s before CLK_ADC_DIV refl refl)
+          (stays 10 reading s before CLK_ADC_CTRL refl refl);
       rtc =
           rtc-runs c f.rtc_source f.rtc s.board.rtc (sources_in s) (up_to 11 reading s before) before after
           one t.rtc (a 14)
-          (holds 13 11 reading s before CLK_RTC_CTRL (rtc-free c).0.0)
-          (holds 13 11 reading s before CLK_RTC_DIV (rtc-free c).0.1.0)
-          (stays 11 reading s before CLK_RTC_CTRL (rtc-free c).1.0);
+          (holds 13 11 reading s before (λ c. CLK_RTC_CTRL) refl refl)
+          (holds 13 11 reading s before (λ c. CLK_RTC_DIV) refl refl)
+          (stays 11 reading s before (λ c. CLK_RTC_CTRL) refl refl);
     })
 
 pub times-are-true : TimesAreTrue

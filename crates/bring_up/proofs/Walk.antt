@@ -1,14 +1,14 @@
 -- A walk over steps: from a file with property P, the test holds at each wait, and the file after the steps has property Q.
-use mathlib.Core.{Bool.Bool, Bool.true, Bool.false, Path.◌≡◌, Path.sym, Path.subst, List.List, List.[], List.◌∷◌, List.◌++◌}
+use mathlib.Core.{Bool.Bool, Bool.true, Path.◌≡◌, Path.sym, Path.subst, List.List, List.[], List.◌∷◌, List.◌++◌}
 use Prim.Native.Nat.{ℕ}
 use Rattle.std.proofs.lemmas.Bool.{and_parts}
-use Rattle.chip.specs.declared.Chip.{Chip}
+use Rattle.chip.specs.declared.{Chip.Chip, Chip.TheVariants.Rp2040, Chip.TheVariants.Rp235x}
 use Rattle.step.specs.declared.Step.{Step}
 use Rattle.registers.specs.declared.Access.{Access}
 use Rattle.registers.specs.Access.{access_of}
 use Rattle.bring_up.specs.Machine.{done, carried_out}
 use Rattle.bring_up.specs.ClockWaits.{at_wait, all_waits}
-use Rattle.bring_up.proofs.Addresses.{member, outside, reach, steps-keep, append}
+use Rattle.bring_up.proofs.Addresses.{Apart, apart, outside, reach, steps-keep, append}
 use Rattle.bring_up.proofs.Parts.{On, Calm}
 
 pub record Walk (c : Chip) (test : Access → (ℕ → ℕ) → Bool) (P Q : (ℕ → ℕ) → Type 0) (xs : List Step) : Type 0 where
@@ -43,6 +43,6 @@ pub calmly : {c : Chip} {test : Access → (ℕ → ℕ) → Bool} {own : List �
 calmly {c} {test} {own} {xs} h = record { walk = λ file p. (h.calm test file, tt) }
 
 -- a part keeps a register that is not its own
-pub keeps : {c : Chip} {own : List ℕ} {xs : List Step} → On c own xs → (file : ℕ → ℕ) (x : ℕ) → member x own ≡ false
-    → carried_out c xs file x ≡ file x
-keeps {c} {own} {xs} h file x apart = steps-keep c xs file x (outside x (reach c xs) own h.inside apart)
+pub keeps : {c : Chip} {xs : List Step} (own : Chip → List ℕ) → On c (own c) xs → (file : ℕ → ℕ) (x : Chip → ℕ)
+    → Apart own x Rp2040 → Apart own x Rp235x → carried_out c xs file (x c) ≡ file (x c)
+keeps {c} {xs} own h file x a b = steps-keep c xs file (x c) (outside (x c) (reach c xs) (own c) h.inside (apart own x a b c))
