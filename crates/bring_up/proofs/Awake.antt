@@ -29,8 +29,7 @@ ring-stays : (c : Chip) (pass : ℕ) (r : Option RoscConfig) (file : ℕ → ℕ
 unfolding access_of has ring_part
 ring-stays Rp2040 pass (Some r) file on = range-on r.range
 ring-stays Rp235x pass (Some r) file on = range-on r.range
-ring-stays Rp2040 pass None file on = on
-ring-stays Rp235x pass None file on = on
+ring-stays c pass r file on = on
 
 -- one sheet
 awake-after : (reading : ℕ) (s : Settings) → refusal_of s reading ≡ None → (before : ℕ → ℕ)

@@ -41,13 +41,12 @@ one-of-four P a b c e (suc (suc (suc (suc zero)))) h = e
 one-of-four P a b c e (suc (suc (suc (suc (suc n))))) h = absurd (omega (arith, h.1))
 
 -- of the reference clock, and of USB and ADC
-pub int-back : (c : Chip) (d : ℕ) → Small d → (int_from c 8 (INT c (d % 4)) ≡ d) × (int_from c 4 (INT c (d % 4)) ≡ d)
-int-back Rp2040 =
-    one-of-four (λ (d : ℕ). (int_from Rp2040 8 (INT Rp2040 (d % 4)) ≡ d) × (int_from Rp2040 4 (INT Rp2040 (d % 4)) ≡ d))
-    (refl, refl) (refl, refl) (refl, refl) (refl, refl)
-int-back Rp235x =
-    one-of-four (λ (d : ℕ). (int_from Rp235x 8 (INT Rp235x (d % 4)) ≡ d) × (int_from Rp235x 4 (INT Rp235x (d % 4)) ≡ d))
-    (refl, refl) (refl, refl) (refl, refl) (refl, refl)
+abbrev pub IntBack : Chip → ℕ → Type 0
+IntBack c d = (int_from c 8 (INT c (d % 4)) ≡ d) × (int_from c 4 (INT c (d % 4)) ≡ d)
+
+pub int-back : (c : Chip) (d : ℕ) → Small d → IntBack c d
+int-back Rp2040 = one-of-four (IntBack Rp2040) (refl, refl) (refl, refl) (refl, refl) (refl, refl)
+int-back Rp235x = one-of-four (IntBack Rp235x) (refl, refl) (refl, refl) (refl, refl) (refl, refl)
 
 whole-counts : (w : ℕ) → 1 ≤ w → gpout_whole w ≡ w
 whole-counts w h = rw (ne_eqb w 0 (λ e. omega arith))

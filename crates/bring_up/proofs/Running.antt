@@ -60,20 +60,18 @@ unfolding access_of has
 mark Rp2040 = record { walk = λ file p. (refl, p) }
 mark Rp235x = record { walk = λ file p. (refl, record { ring = p.ring; reference = p.reference }) }
 
--- a source that ran still runs if its PLL is out of reset
-runs_on : (m n : ℕ) (ring xosc p q u v h : Bool)
-    → get_or (ring ∷ get_or ((p && ((q && (u && not h)) && v)) ∷ []) n false ∷ xosc ∷ []) m false ≡ true
-    → get_or (ring ∷ get_or ((p && ((q && (u && true)) && v)) ∷ []) n false ∷ xosc ∷ []) m false ≡ true
-runs_on zero n ring xosc p q u v h e = e
-runs_on (suc zero) zero ring xosc p q u v h e =
-    let e0 = and_parts p ((q && (u && not h)) && v) e in
-    let e1 = and_parts (q && (u && not h)) v e0.1 in
-    let e2 = and_parts q (u && not h) e1.0 in
-    let e3 = and_parts u (not h) e2.1 in
-    rw (e0.0, e2.0, e3.0, e1.1)
-runs_on (suc zero) (suc n) ring xosc p q u v h e = e
-runs_on (suc (suc zero)) n ring xosc p q u v h e = e
-runs_on (suc (suc (suc m))) n ring xosc p q u v h e = e
+-- a PLL that ran still runs if it is out of reset
+out-of-reset : (p q u v h : Bool) → (p && ((q && (u && not h)) && v)) ≡ true → (p && ((q && (u && true)) && v)) ≡ true
+out-of-reset true true true v h e = (and_parts (not h) v e).1
+out-of-reset p q u v h e = e
+
+runs_on : (m n : ℕ) (ring xosc : Bool) {a b : Bool} → (a ≡ true → b ≡ true)
+    → get_or (ring ∷ get_or (a ∷ []) n false ∷ xosc ∷ []) m false ≡ true
+    → get_or (ring ∷ get_or (b ∷ []) n false ∷ xosc ∷ []) m false ≡ true
+runs_on zero n ring xosc f e = e
+runs_on (suc zero) zero ring xosc f e = f e
+runs_on (suc zero) (suc n) ring xosc f e = e
+runs_on (suc (suc m)) n ring xosc f e = e
 
 on-released : (c : Chip) (file : ℕ → ℕ) → ref_runs c file ≡ true
     → let ctrl = file (CLK_REF_CTRL c) in let pwr = file (PLL_PWR c 1) in
@@ -84,9 +82,9 @@ on-released : (c : Chip) (file : ℕ → ℕ) → ref_runs c file ≡ true
 on-released c file e =
     let ctrl : ℕ = file (CLK_REF_CTRL c) in
     let pwr : ℕ = file (PLL_PWR c 1) in
-    runs_on (bits_at 0 2 ctrl) (bits_at 5 2 ctrl) (oscillates (file (ROSC_CTRL c))) (oscillates (file (XOSC_CTRL c)))
-    (oscillates (file (XOSC_CTRL c))) (eqb (bits_at 0 1 pwr) 0) (eqb (bits_at 5 1 pwr) 0) (eqb (bits_at 3 1 pwr) 0)
-    (held c 1 (file (RESET c))) e
+    let xosc : Bool = oscillates (file (XOSC_CTRL c)) in
+    runs_on (bits_at 0 2 ctrl) (bits_at 5 2 ctrl) (oscillates (file (ROSC_CTRL c))) xosc
+    (out-of-reset xosc (eqb (bits_at 0 1 pwr) 0) (eqb (bits_at 5 1 pwr) 0) (eqb (bits_at 3 1 pwr) 0) (held c 1 (file (RESET c)))) e
 
 headed : {rosc : ℕ} → oscillates rosc ≡ true → HeadedAt rosc 0 0x2D 0x2D
 headed on = record { ring = on; reset = refl; sys = refl; usb = refl }

@@ -117,22 +117,20 @@ divider-same : (c : Chip) (f g : ℕ → ℕ) → f CLK_PERI_DIV ≡ g CLK_PERI_
 divider-same Rp2040 f g e = refl
 divider-same Rp235x f g e = ap (int_from Rp235x 2) e
 
+-- the peripheral clock where its divider is 1, and without it at any divider
 peri-runs : (c : Chip) (hz : ℕ) (o : Option PeriClkSrc) (f : Sources) (now system divider : ℕ) (file before after : ℕ → ℕ)
     → after (CLK_PERI_CTRL c) ≡ carried_out c (peri_part hz o) file (CLK_PERI_CTRL c)
-    → file (CLK_PERI_CTRL c) ≡ before (CLK_PERI_CTRL c) → now ≡ system → divider ≡ 1
-    → Runs (has_peri o) (peri_from f now (after (CLK_PERI_CTRL c)) divider) (peri_hz f system o) (CLK_PERI_CTRL c) before after
-peri-runs c hz (Some src) f now system divider file before after e0 e1 e2 e3 =
-    ap (λ (n : ℕ). peri_from f n (after (CLK_PERI_CTRL c)) divider) e2
-    ∙ peri-true f system src (after (CLK_PERI_CTRL c)) divider (e0 ∙ peri-sets c hz src file) e3
-peri-runs c hz None f now system divider file before after e0 e1 e2 e3 =
-    e0 ∙ peri-absent c hz file (CLK_PERI_CTRL c) ∙ e1
-
-peri-off : (c : Chip) (hz : ℕ) (o : Option PeriClkSrc) (file before after : ℕ → ℕ)
-    → after (CLK_PERI_CTRL c) ≡ carried_out c (peri_part hz o) file (CLK_PERI_CTRL c)
-    → file (CLK_PERI_CTRL c) ≡ before (CLK_PERI_CTRL c) → has_peri o ≡ false
-    → after (CLK_PERI_CTRL c) ≡ before (CLK_PERI_CTRL c)
-peri-off c hz (Some src) file before after e0 e1 h = let z : ◌≡◌ {A = ℕ} 0 1 = cc in absurd (omega arith)
-peri-off c hz None file before after e0 e1 h = e0 ∙ peri-absent c hz file (CLK_PERI_CTRL c) ∙ e1
+    → file (CLK_PERI_CTRL c) ≡ before (CLK_PERI_CTRL c) → now ≡ system
+    → (divider ≡ 1
+    → Runs (has_peri o) (peri_from f now (after (CLK_PERI_CTRL c)) divider) (peri_hz f system o) (CLK_PERI_CTRL c) before after)
+    × (has_peri o ≡ false → after (CLK_PERI_CTRL c) ≡ before (CLK_PERI_CTRL c))
+peri-runs c hz (Some src) f now system divider file before after e0 e1 e2 = (
+  λ one. ap (λ (n : ℕ). peri_from f n (after (CLK_PERI_CTRL c)) divider) e2
+      ∙ peri-true f system src (after (CLK_PERI_CTRL c)) divider (e0 ∙ peri-sets c hz src file) one,
+  λ off. let z : ◌≡◌ {A = ℕ} 0 1 = cc in absurd (omega arith),
+)
+peri-runs c hz None f now system divider file before after e0 e1 e2 =
+    let kept = e0 ∙ peri-absent c hz file (CLK_PERI_CTRL c) ∙ e1 in (λ one. kept, λ off. kept)
 
 aux-runs : (c : Chip) (k : Aux) (hz : ℕ) (o : Option AuxClkConfig) (f : Sources) (file before after : ℕ → ℕ) → AuxSmall o
     → let set = carried_out c (aux_of k hz o) file in
@@ -203,23 +201,20 @@ true_of reading s before ok t one now same =
     (after (CLK_SYS_DIV c)) whole.0 whole.1 t.fraction
     (holds 13 7 reading s before CLK_SYS_CTRL refl refl ∙ y.0)
     (holds 13 7 reading s before CLK_SYS_DIV refl refl ∙ y.1) in
+    let divider = divider-same c after before (stays 13 reading s before (λ c. CLK_PERI_DIV) refl refl) in
+    let peri =
+    peri-runs c f.peri s.peri (sources_in s) (sys_at c (sources_in s) after) (sys_in s) (peri_divider c after)
+    (up_to 8 reading s before) before after
+    (holds 13 8 reading s before CLK_PERI_CTRL refl refl)
+    (stays 8 reading s before CLK_PERI_CTRL refl refl) system in
     rw same
     (record {
       sources = refl;
       reference = reference;
       sys = system;
-      peri = λ one.
-          peri-runs c f.peri s.peri (sources_in s) (sys_at c (sources_in s) after) (sys_in s) (peri_divider c after)
-          (up_to 8 reading s before) before after
-          (holds 13 8 reading s before CLK_PERI_CTRL refl refl)
-          (stays 8 reading s before CLK_PERI_CTRL refl refl) system
-          (divider-same c after before (stays 13 reading s before (λ c. CLK_PERI_DIV) refl refl) ∙ one);
-      peri_off =
-          peri-off c f.peri s.peri (up_to 8 reading s before) before after
-          (holds 13 8 reading s before CLK_PERI_CTRL refl refl)
-          (stays 8 reading s before CLK_PERI_CTRL refl refl);
-      peri_divider_kept =
-          divider-same c after before (stays 13 reading s before (λ c. CLK_PERI_DIV) refl refl);
+      peri = λ one. peri.0 (divider ∙ one);
+      peri_off = peri.1;
+      peri_divider_kept = divider;
       usb =
           aux-runs c Usb f.usb s.usb (sources_in s) (up_to 9 reading s before) before after
           (aux-divider s.usb (aux-fits f.usb_source s.usb (a 12)))
