@@ -1,7 +1,6 @@
 -- No wait of a sheet is endless, since this holds of each part. From the head on nothing is in reset, which the PLLs
 -- and the last release need; every other condition of a wait is set in its own part.
 use Rattle.std.specs.Prelude.{Option, Some, None}
-use Rattle.config.specs.declared.RoscConfig.{RoscConfig}
 use mathlib.Core.{Bool.Bool, Bool.true, Bool.false, Bool.◌&&◌, Bool.not, Path.◌≡◌, Path.refl, Path.ap, Path.◌∙◌}
 use mathlib.Core.List.{List, [], ◌∷◌}
 use Prim.Native.Nat.{ℕ, ◌+◌, ◌-◌, ◌%◌, ◌^◌}
@@ -15,12 +14,10 @@ use Rattle.chip.specs.Chips.{facts_of}
 use Rattle.step.specs.declared.Step.{Step}
 use Rattle.step.specs.Steps.{step_of}
 use Rattle.step.specs.declared.kind.Kind.TheVariants as kind
-use Rattle.pll.specs.declared.PllConfig.{PllConfig}
-use Rattle.pll.specs.{Ranges.reference_min, Ranges.reference_max, Ranges.vco_min, Ranges.vco_max}
+use Rattle.pll.specs.{Ranges.reference_min, Ranges.reference_max, Ranges.vco_min, Ranges.vco_max, declared.PllConfig.PllConfig}
 use Rattle.pll.specs.Setting.{reference_of, vco_of, valid_of}
 use Rattle.pll.proofs.Valid.{valid}
-use Rattle.config.specs.declared.{RefClkConfig.RefClkConfig}
-use Rattle.config.specs.declared.{SysClkSrc.SysClkSrc, Board.Board}
+use Rattle.config.specs.declared.{RefClkConfig.RefClkConfig, SysClkSrc.SysClkSrc, Board.Board, RoscConfig.RoscConfig}
 use Rattle.settings.specs.declared.{Crystal.Crystal, Frequencies.Frequencies}
 use Rattle.config.specs.Codes.{ref_code, sys_select, sys_aux}
 use Rattle.settings.specs.Settings.{settings_of}
@@ -28,16 +25,16 @@ use Rattle.settings.specs.Frequencies.{sources_of, sources_in, frequencies_of}
 use Rattle.refusals.specs.Rules.{pll_invalid, sys_pll_invalid, usb_pll_invalid}
 use Rattle.refusals.proofs.Accepted.{accepted-by}
 use Rattle.registers.specs.Access.{has, access_of}
-use Rattle.registers.specs.Map.{RESET, XOSC_CTRL, CLK_REF_CTRL, CLK_SYS_CTRL, PLL_CS, PLL_FBDIV_INT, BLOCKS, REF_SRC}
-use Rattle.registers.specs.Map.{SYS_SRC, AUXSRC, REFDIV, FBDIV}
-use Rattle.sheet.specs.Steps.{head_part, pll_steps, crystal_part, ref_part, switch_steps}
-use Rattle.sheet.specs.Steps.{sys_part, release_mask, last_part, clocks_part, steps_of, step0, step1, step2}
+use Rattle.registers.specs.Map.{RESET, XOSC_CTRL, CLK_REF_CTRL, CLK_SYS_CTRL, PLL_CS, PLL_FBDIV_INT, BLOCKS, REF_SRC, SYS_SRC, AUXSRC}
+use Rattle.registers.specs.Map.{REFDIV, FBDIV}
+use Rattle.sheet.specs.Steps.{head_part, pll_steps, crystal_part, ref_part, switch_steps, sys_part, release_mask, last_part, clocks_part}
+use Rattle.sheet.specs.Steps.{steps_of, step0, step1, step2}
 use Rattle.bring_up.specs.Machine.{bits_at, held, carried_out}
 use Rattle.bring_up.specs.Tree.{oscillates, vco_on}
 use Rattle.bring_up.specs.ClockWaits.{locks, can_come, NoEndlessWait}
 use Rattle.bring_up.proofs.Addresses.{Apart}
-use Rattle.bring_up.proofs.Parts.{Calm, ring_own, voltage_own, system_steps, mark, ring, voltage, source, peri, aux}
-use Rattle.bring_up.proofs.Parts.{Usb, Adc, rtc, peri_own, aux_own, rtc_own}
+use Rattle.bring_up.proofs.Parts.{Calm, ring_own, voltage_own, system_steps, mark, ring, voltage, source, peri, aux, Usb, Adc, rtc}
+use Rattle.bring_up.proofs.Parts.{peri_own, aux_own, rtc_own}
 use Rattle.bring_up.proofs.Walk.{Walk, ◌then◌, Any, calmly, keeps}
 use Rattle.bring_up.proofs.Set.{last-sets}
 

@@ -2,7 +2,6 @@
 -- from the kinds of its steps. They compute once the chip and each choice are given: a last clause that only has names
 -- stands for the cases that no clause above it has.
 use Rattle.std.specs.Prelude.{Option, Some, None}
-use Rattle.config.specs.declared.RoscConfig.{RoscConfig}
 use mathlib.Core.{Bool.Bool, Bool.true, Bool.false, Path.◌≡◌, Path.refl, List.List, List.[], List.◌∷◌, List.◌++◌}
 use Prim.Native.Nat.{ℕ}
 use lib.Dec.{eqb}
@@ -11,10 +10,9 @@ use Rattle.chip.specs.declared.{Chip.Chip, Chip.TheVariants.Rp2040, Chip.TheVari
 use Rattle.chip.specs.Chips.{facts_of}
 use Rattle.step.specs.declared.Step.{Step}
 use Rattle.step.specs.declared.kind.Kind.TheVariants as kind
-use Rattle.config.specs.declared.{RefClkConfig.RefClkConfig}
+use Rattle.config.specs.declared.{RefClkConfig.RefClkConfig, SysClkSrc.SysClkSrc, Board.Board, PeriClkSrc.PeriClkSrc}
+use Rattle.config.specs.declared.{AuxClkConfig.AuxClkConfig, RoscConfig.RoscConfig, RtcClkConfig.RtcClkConfig}
 use Rattle.pll.specs.declared.PllConfig.{PllConfig}
-use Rattle.config.specs.declared.{SysClkSrc.SysClkSrc, Board.Board, PeriClkSrc.PeriClkSrc, AuxClkConfig.AuxClkConfig}
-use Rattle.config.specs.declared.RtcClkConfig.{RtcClkConfig}
 use Rattle.settings.specs.declared.{Crystal.Crystal, Sources.Sources}
 use Rattle.config.specs.Codes.{sys_select, sys_aux}
 use Rattle.registers.specs.declared.Access.{Access}
@@ -24,8 +22,7 @@ use Rattle.registers.specs.Map.{CLK_USB_CTRL, CLK_USB_DIV, CLK_ADC_CTRL, CLK_ADC
 use Rattle.registers.specs.Map.{ROSC_CTRL, ROSC_FREQA, ROSC_FREQB, ROSC_DIV, PLL_CS, PLL_PWR, PLL_FBDIV_INT, PLL_PRIM, VREG, BOD}
 use Rattle.registers.specs.Map.{WATCHDOG_TICK, POWMAN_VREG, POWMAN_BOD, TIMER0_CTRL, TIMER0_CYCLES, WATCHDOG_CTRL, WATCHDOG_CYCLES}
 use Rattle.sheet.specs.Steps.{mark_steps, head_part, ring_part, settling_steps, voltage_part, pll_steps, crystal_part, source_part}
-use Rattle.sheet.specs.Steps.{ref_part}
-use Rattle.sheet.specs.Steps.{switch_steps, sys_part, peri_part, aux_part, rtc_part, last_part, step0, step1, step2, store_step}
+use Rattle.sheet.specs.Steps.{ref_part, switch_steps, sys_part, peri_part, aux_part, rtc_part, last_part, step0, step1, step2, store_step}
 use Rattle.bring_up.specs.{Carried.carries, ClockWaits.all_waits}
 use Rattle.bring_up.proofs.Addresses.{within, reach}
 

@@ -1,15 +1,13 @@
 -- The sources that run after each part, up to the crystal's part: the ring runs from the start, the crystal and the
 -- PLLs of the plan from their part on.
 use Rattle.std.specs.Prelude.{Option, Some, None}
-use Rattle.config.specs.declared.RoscConfig.{RoscConfig}
-use mathlib.Core.{Bool.Bool, Bool.true, Bool.false, Bool.◌&&◌, Bool.not, Path.◌≡◌, Path.refl, Path.ap, Path.◌∙◌}
-use mathlib.Core.List.{[], ◌∷◌}
+use mathlib.Core.{Bool.Bool, Bool.true, Bool.false, Bool.◌&&◌, Bool.not, Path.◌≡◌, Path.refl, Path.ap, Path.◌∙◌, List.[], List.◌∷◌}
 use Prim.Native.Nat.{ℕ, zero, suc, ◌+◌}
 use lib.{Dec.eqb, ListN.get_or}
 use Rattle.std.proofs.lemmas.Bool.{and_parts}
 use Rattle.chip.specs.declared.{Chip.Chip, Chip.TheVariants.Rp2040, Chip.TheVariants.Rp235x}
 use Rattle.pll.specs.declared.PllConfig.{PllConfig}
-use Rattle.config.specs.declared.{Board.Board, RoscRange.RoscRange}
+use Rattle.config.specs.declared.{Board.Board, RoscRange.RoscRange, RoscConfig.RoscConfig}
 use Rattle.config.specs.Codes.{range_code}
 use Rattle.settings.specs.declared.{Crystal.Crystal, Sources.Sources}
 use Rattle.settings.specs.Frequencies.{pll_hz, sources_of}
@@ -19,11 +17,9 @@ use Rattle.sheet.specs.Steps.{mark_steps, head_part, ring_part, voltage_part, cr
 use Rattle.bring_up.specs.Machine.{bits_at, held, carried_out}
 use Rattle.bring_up.specs.Tree.{oscillates}
 use Rattle.bring_up.specs.ClockWaits.{all_waits, pll_runs, ref_runs, source_runs, Awake}
-use Rattle.bring_up.proofs.Parts.{voltage_own, crystal_own, crystal_steps}
-use Rattle.bring_up.proofs.Parts.{voltage as voltage-calm, crystal as crystal_on}
-use Rattle.bring_up.proofs.Walk.{Walk, keeps}
+use Rattle.bring_up.proofs.Parts.{voltage_own, crystal_own, crystal_steps, voltage as voltage-calm, crystal as crystal_on}
 use Rattle.bring_up.proofs.Set.{range-on, PllSet, CrystalSet, crystal-sets}
-use Rattle.bring_up.proofs.{Hz.pll-on, Times.held_none, ClockWaits.sys-cleared, ClockWaits.ref-cleared}
+use Rattle.bring_up.proofs.{Hz.pll-on, Times.held_none, ClockWaits.sys-cleared, ClockWaits.ref-cleared, Walk.Walk, Walk.keeps}
 
 -- ---- the file between the parts, over the values of its registers: a part that keeps these keeps the record
 

@@ -1,24 +1,21 @@
 -- The registers after each part, by its steps, for either chip and from any file.
 use Rattle.std.specs.Prelude.{Option, Some, None}
-use Rattle.config.specs.declared.RoscConfig.{RoscConfig}
 use mathlib.Core.{Bool.Bool, Bool.true, Bool.false, Path.◌≡◌, Path.refl, Path.ap, Path.◌∙◌}
 use Prim.Native.Nat.{ℕ, ◌+◌, ◌-◌, ◌%◌}
 use native.Mathlib.Omega.{arith}
 use lib.{Dec.eqb, Bits.bit_and}
 use Rattle.base.specs.Choice.{pick}
 use Rattle.chip.specs.declared.{Chip.Chip, Chip.TheVariants.Rp2040, Chip.TheVariants.Rp235x}
-use Rattle.config.specs.declared.{RoscRange.RoscRange, RefClkConfig.RefClkConfig}
+use Rattle.config.specs.declared.{RoscRange.RoscRange, RefClkConfig.RefClkConfig, SysClkSrc.SysClkSrc, Board.Board, PeriClkSrc.PeriClkSrc}
+use Rattle.config.specs.declared.{AuxClkConfig.AuxClkConfig, RtcClkConfig.RtcClkConfig, RoscConfig.RoscConfig}
 use Rattle.pll.specs.declared.PllConfig.{PllConfig}
-use Rattle.config.specs.declared.{SysClkSrc.SysClkSrc, Board.Board, PeriClkSrc.PeriClkSrc}
-use Rattle.config.specs.declared.{AuxClkConfig.AuxClkConfig, RtcClkConfig.RtcClkConfig}
 use Rattle.settings.specs.declared.Crystal.{Crystal}
 use Rattle.config.specs.Codes.{range_code, ref_code, sys_select, sys_aux, peri_aux, aux_code}
 use Rattle.settings.specs.Settings.{ring_hz}
 use Rattle.registers.specs.Access.{has, access_of}
-use Rattle.registers.specs.Map.{on, field, RESET, CLK_REF_CTRL, CLK_REF_DIV, CLK_SYS_CTRL, CLK_SYS_DIV, CLK_PERI_CTRL}
-use Rattle.registers.specs.Map.{CLK_RTC_CTRL, CLK_RTC_DIV, XOSC_CTRL, ROSC_CTRL}
-use Rattle.registers.specs.Map.{PLL_CS, PLL_PWR, PLL_FBDIV_INT, PLL_PRIM, BLOCKS, REF_SRC, SYS_SRC, AUXSRC, ENABLE, PHASE, INT}
-use Rattle.registers.specs.Map.{FREQ_RANGE, OSCILLATOR_ON, REFDIV, FBDIV, POSTDIV1, POSTDIV2}
+use Rattle.registers.specs.Map.{on, field, RESET, CLK_REF_CTRL, CLK_REF_DIV, CLK_SYS_CTRL, CLK_SYS_DIV, CLK_PERI_CTRL, CLK_RTC_CTRL}
+use Rattle.registers.specs.Map.{CLK_RTC_DIV, XOSC_CTRL, ROSC_CTRL, PLL_CS, PLL_PWR, PLL_FBDIV_INT, PLL_PRIM, BLOCKS, REF_SRC, SYS_SRC}
+use Rattle.registers.specs.Map.{AUXSRC, ENABLE, PHASE, INT, FREQ_RANGE, OSCILLATOR_ON, REFDIV, FBDIV, POSTDIV1, POSTDIV2}
 use Rattle.sheet.specs.Steps.{head_part, ring_part, crystal_part, ref_part, switch_steps, sys_part, peri_part, aux_part, rtc_part}
 use Rattle.sheet.specs.Steps.{last_part}
 use Rattle.bring_up.specs.Machine.{powers_down, carried_out}

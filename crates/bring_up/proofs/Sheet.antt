@@ -13,8 +13,7 @@ use Rattle.sheet.specs.Steps.{mark_steps, head_part, ring_part, voltage_part, cr
 use Rattle.sheet.specs.Steps.{aux_part, rtc_part, release_mask, last_part}
 use Rattle.bring_up.specs.Machine.{carried_out}
 use Rattle.bring_up.proofs.Addresses.{Apart, apart, member, member-append, outside, reach, steps-keep, append}
-use Rattle.bring_up.proofs.Parts.{On, owns, mark, head, ring, voltage, crystal, source, reference, system, peri}
-use Rattle.bring_up.proofs.Parts.{Usb, Adc, aux, rtc, last}
+use Rattle.bring_up.proofs.Parts.{On, owns, mark, head, ring, voltage, crystal, source, reference, system, peri, Usb, Adc, aux, rtc, last}
 
 abbrev pub joined : {A : Type 0} → List (List A) → List A
 joined [] = []

@@ -6,8 +6,7 @@ use Rattle.base.proofs.Bools.{either_way}
 use Rattle.step.specs.declared.Step.{Step}
 use Rattle.step.specs.Kinds.{is}
 use Rattle.step.specs.declared.kind.Kind.TheVariants as kind
-use Rattle.config.specs.declared.ChipConfig.{ChipConfig}
-use Rattle.config.specs.declared.ChipConfig.TheVariants.{Rp2040 as on2040, Rp235x as on235x}
+use Rattle.config.specs.declared.ChipConfig.{ChipConfig, TheVariants.Rp2040 as on2040, TheVariants.Rp235x as on235x}
 use Rattle.config.specs.declared.ClockConfig.{ClockConfig}
 use Rattle.config.specs.Board.{board_of}
 use Rattle.settings.specs.declared.Sources.{Sources}

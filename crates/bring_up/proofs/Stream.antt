@@ -6,8 +6,7 @@ use mathlib.Core.{Bool.Bool, Bool.true, Bool.false, List.List, Path.◌≡◌, P
 use borrow.Author.Tests.{eq-eqb, ne_eqb}
 use lib.ListN.{length}
 use Rattle.base.specs.Answer.{value}
-use Rattle.step.specs.declared.Step.{Step}
-use Rattle.step.specs.{Access.read_at, Sheet.max_steps}
+use Rattle.step.specs.{Access.read_at, Sheet.max_steps, declared.Step.Step}
 use Rattle.runner.specs.declared.Runner.{Runner}
 use Rattle.runner.specs.Run.{Outcome, is_wait, advance_of}
 use Rattle.runner.proofs.Going.{standing, done_at}

@@ -9,8 +9,7 @@ use Rattle.std.proofs.lemmas.Bool.{or_parts}
 use Rattle.chip.specs.declared.{Chip.Chip, Chip.TheVariants.Rp2040, Chip.TheVariants.Rp235x}
 use Rattle.chip.specs.Chips.{facts_of}
 use Rattle.divider.specs.Clock.{divided_hz}
-use Rattle.config.specs.declared.{RefClkSrc.RefClkSrc}
-use Rattle.config.specs.declared.{RefClkConfig.RefClkConfig, SysClkSrc.SysClkSrc, Board.Board}
+use Rattle.config.specs.declared.{RefClkSrc.RefClkSrc, RefClkConfig.RefClkConfig, SysClkSrc.SysClkSrc, Board.Board}
 use Rattle.settings.specs.declared.{Sources.Sources, Frequencies.Frequencies}
 use Rattle.config.specs.Codes.{ref_code, sys_select, sys_aux}
 use Rattle.settings.specs.Settings.{settings_of}
@@ -19,8 +18,7 @@ use Rattle.refusals.specs.Rules.{reference_bad}
 use Rattle.refusals.proofs.Accepted.{accepted-by}
 use Rattle.registers.specs.Access.{has, access_of}
 use Rattle.registers.specs.Map.{XOSC_CTRL, ROSC_CTRL, CLK_REF_CTRL, REF_SRC, AUXSRC, SYS_SRC}
-use Rattle.sheet.specs.Steps.{source_part, ref_part, switch_steps}
-use Rattle.sheet.specs.Steps.{sys_part, release_mask, last_part, clocks_part, steps_of}
+use Rattle.sheet.specs.Steps.{source_part, ref_part, switch_steps, sys_part, release_mask, last_part, clocks_part, steps_of}
 use Rattle.bring_up.specs.Machine.{bits_at, carried_out}
 use Rattle.bring_up.specs.Tree.{oscillates}
 use Rattle.bring_up.specs.ClockWaits.{pll_runs, ref_runs, source_runs, SourcesRun}

@@ -1,7 +1,6 @@
 -- The stored frequencies are true: the last part that writes a register of the clock tree fixes its value, and that
 -- value gives the stored frequency.
 use Rattle.std.specs.Prelude.{Option, Some, None}
-use Rattle.config.specs.declared.PeriClkSrc.{PeriClkSrc}
 use mathlib.Core.{Bool.Bool, Bool.false, Bool.◌||◌, Path.◌≡◌, Path.refl, Path.ap, Path.◌∙◌}
 use Prim.Native.Nat.{ℕ, ◌/◌, ◌≤◌}
 use native.Mathlib.Omega.{arith}
@@ -10,10 +9,9 @@ use Rattle.base.specs.Choice.{pick}
 use Rattle.std.proofs.lemmas.Bool.{or_parts}
 use Rattle.chip.specs.declared.{Chip.Chip, Chip.TheVariants.Rp2040, Chip.TheVariants.Rp235x}
 use Rattle.chip.specs.Chips.{facts_of}
-use Rattle.config.specs.declared.{ChipConfig.ChipConfig}
+use Rattle.config.specs.declared.{ChipConfig.ChipConfig, AuxClkConfig.AuxClkConfig, RtcClkConfig.RtcClkConfig, PeriClkSrc.PeriClkSrc}
 use Rattle.pll.specs.declared.PllConfig.{PllConfig}
 use Rattle.config.specs.Board.{board_of}
-use Rattle.config.specs.declared.{AuxClkConfig.AuxClkConfig, RtcClkConfig.RtcClkConfig}
 use Rattle.settings.specs.declared.{Settings.Settings, Sources.Sources, Frequencies.Frequencies, Crystal.Crystal}
 use Rattle.settings.specs.{Settings.settings_of, Settings.ring_hz, Typed.Typed, Typed.RtcTyped}
 use Rattle.settings.specs.Frequencies.{sys_hz, peri_hz, aux_hz, rtc_hz, sources_in, ref_in, sys_in, frequencies_of}
@@ -23,18 +21,17 @@ use Rattle.refusals.specs.Refusals.{refusal_of}
 use Rattle.refusals.proofs.Accepted.{accepted-by, divider-good, whole-good}
 use Rattle.sheet.proofs.Facts.{none_more, aux-fits, aux-divider}
 use Rattle.registers.specs.Map.{RESET, CLK_REF_CTRL, CLK_REF_DIV, CLK_SYS_CTRL, CLK_SYS_DIV, CLK_PERI_CTRL, CLK_USB_CTRL, CLK_USB_DIV}
-use Rattle.registers.specs.Map.{CLK_ADC_CTRL, CLK_ADC_DIV, CLK_RTC_CTRL, CLK_RTC_DIV, XOSC_CTRL, ROSC_CTRL, PLL_CS, PLL_PWR}
-use Rattle.registers.specs.Map.{PLL_FBDIV_INT, PLL_PRIM}
+use Rattle.registers.specs.Map.{CLK_ADC_CTRL, CLK_ADC_DIV, CLK_RTC_CTRL, CLK_RTC_DIV, XOSC_CTRL, ROSC_CTRL, PLL_CS, PLL_PWR, PLL_FBDIV_INT}
+use Rattle.registers.specs.Map.{PLL_PRIM}
 use Rattle.sheet.specs.Steps.{crystal_part, peri_part, rtc_part, release_mask, clocks_part, steps_of}
 use Rattle.bring_up.specs.Machine.{held, carried_out}
-use Rattle.bring_up.specs.Tree.{oscillates, sources_at, ref_at, sys_at, rtc_at, sys_from, peri_from, aux_from}
-use Rattle.bring_up.specs.Tree.{CLK_PERI_DIV, int_from, peri_divider}
+use Rattle.bring_up.specs.Tree.{oscillates, sources_at, ref_at, sys_at, rtc_at, sys_from, peri_from, aux_from, CLK_PERI_DIV, int_from}
+use Rattle.bring_up.specs.Tree.{peri_divider}
 use Rattle.bring_up.specs.Times.{has_peri, has_aux, has_rtc, Runs, AllTrue, TimesAreTrue}
 use Rattle.bring_up.proofs.Parts.{Aux, Usb, Adc, aux_control, aux_divider, aux_of}
 use Rattle.bring_up.proofs.Sheet.{up_to, holds, stays}
-use Rattle.bring_up.proofs.Set.{head-sets, ring-sets, PllSet, CrystalSet, crystal-sets, pll-moves, ref-sets}
-use Rattle.bring_up.proofs.Set.{sys-sets, peri-sets}
-use Rattle.bring_up.proofs.Set.{aux-sets, rtc-sets, peri-absent, aux-absent, rtc-absent, last-sets}
+use Rattle.bring_up.proofs.Set.{head-sets, ring-sets, PllSet, CrystalSet, crystal-sets, pll-moves, ref-sets, sys-sets, peri-sets, aux-sets}
+use Rattle.bring_up.proofs.Set.{rtc-sets, peri-absent, aux-absent, rtc-absent, last-sets}
 use Rattle.bring_up.proofs.Hz.{sources-true, ref-true, sys-true, peri-true, aux-true, rtc-true}
 
 -- ---- the sources
