@@ -100,18 +100,14 @@ powered w p =
 pll : (c : Chip) (usb : Bool) (hz : ℕ) (o : Option PllConfig) → pll_invalid hz o ≡ false
     → Walk c (can_come c hz) (Lit c) (Lit c) (pll_steps (bit usb) o)
 unfolding access_of has
-pll Rp2040 false hz (Some p) e = record {
-  walk = λ file lit. (pll-locks Rp2040 0 hz p (carried_out Rp2040 (powered 0 p) file) e lit refl refl refl refl, lit);
-}
-pll Rp2040 true hz (Some p) e = record {
-  walk = λ file lit. (pll-locks Rp2040 1 hz p (carried_out Rp2040 (powered 1 p) file) e lit refl refl refl refl, lit);
-}
-pll Rp235x false hz (Some p) e = record {
-  walk = λ file lit. (pll-locks Rp235x 0 hz p (carried_out Rp235x (powered 0 p) file) e lit refl refl refl refl, lit);
-}
-pll Rp235x true hz (Some p) e = record {
-  walk = λ file lit. (pll-locks Rp235x 1 hz p (carried_out Rp235x (powered 1 p) file) e lit refl refl refl refl, lit);
-}
+pll Rp2040 false hz (Some p) e =
+    record { walk = λ file lit. (pll-locks Rp2040 0 hz p (carried_out Rp2040 (powered 0 p) file) e lit refl refl refl refl, lit) }
+pll Rp2040 true hz (Some p) e =
+    record { walk = λ file lit. (pll-locks Rp2040 1 hz p (carried_out Rp2040 (powered 1 p) file) e lit refl refl refl refl, lit) }
+pll Rp235x false hz (Some p) e =
+    record { walk = λ file lit. (pll-locks Rp235x 0 hz p (carried_out Rp235x (powered 0 p) file) e lit refl refl refl refl, lit) }
+pll Rp235x true hz (Some p) e =
+    record { walk = λ file lit. (pll-locks Rp235x 1 hz p (carried_out Rp235x (powered 1 p) file) e lit refl refl refl refl, lit) }
 pll c usb hz None e = record { walk = λ file lit. (refl, lit) }
 
 -- the steps before the PLLs

@@ -171,7 +171,9 @@ control-read : (phase k : ℕ) → k < 8 → (bits_at 10 2 (control phase k) ≡
 control-read phase k h = (omega arith, omega arith)
 
 aux-source : (f : Sources) (src : AuxClkSrc) (phase : ℕ) → aux_from f (control phase (aux_code src)) ≡ aux_source f src
-aux-source f src phase = by src (control-read phase (aux_code src) (few src))
+aux-source f src phase =
+    let read = control-read phase (aux_code src) (few src) in
+    ap₂ (λ (n m : ℕ). pick (eqb n 2) (get_or (f.pll_usb ∷ f.pll_sys ∷ f.rosc ∷ f.xosc ∷ []) m 0) 0) read.0 read.1 ∙ code src
   where
     few : (src : AuxClkSrc) → aux_code src < 8
     few AuxClkSrc.PllUsb = omega arith
@@ -185,13 +187,6 @@ aux-source f src phase = by src (control-read phase (aux_code src) (few src))
     code AuxClkSrc.PllSys = refl
     code AuxClkSrc.Rosc = refl
     code AuxClkSrc.Xosc = refl
-
-    by : (src : AuxClkSrc)
-        → (bits_at 10 2 (control phase (aux_code src)) ≡ 2) × (bits_at 5 3 (control phase (aux_code src)) ≡ aux_code src)
-        → aux_from f (control phase (aux_code src)) ≡ aux_source f src
-    by src h =
-        ap₂ (λ (n m : ℕ). pick (eqb n 2) (get_or (f.pll_usb ∷ f.pll_sys ∷ f.rosc ∷ f.xosc ∷ []) m 0) 0) h.0 h.1
-        ∙ code src
 
 pub aux-true : (c : Chip) (f : Sources) (a : AuxClkConfig) (ctrl div : ℕ) → Small a.div
     → ctrl ≡ control a.phase (aux_code a.src) → div ≡ INT c (a.div % 4)
