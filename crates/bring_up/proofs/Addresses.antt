@@ -22,7 +22,7 @@ abbrev pub within : List ℕ → List ℕ → Bool
 within [] ys = true
 within (x ∷ xs) ys = member x ys && within xs ys
 
--- a register that is not among these, on a chip; on each it computes
+-- the chip's register is none of these; on a given chip this computes, so that it holds by `refl` for each
 abbrev pub Apart : (Chip → List ℕ) → (Chip → ℕ) → Chip → Type 0
 Apart own x c = member (x c) (own c) ≡ false
 

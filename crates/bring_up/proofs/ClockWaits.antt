@@ -5,14 +5,13 @@ use mathlib.Core.{Bool.Bool, Bool.true, Bool.false, Bool.◌&&◌, Bool.not, Pat
 use mathlib.Core.List.{List, [], ◌∷◌}
 use Prim.Native.Nat.{ℕ, ◌+◌, ◌-◌, ◌%◌, ◌^◌}
 use native.Mathlib.Omega.{arith}
-use lib.{Dec.eqb, Bits.bit_and, Bits.and_mask}
+use lib.{Dec.eqb, Bits.bit_and, Bits.and_mask, ListN.take}
 use borrow.Author.Tests.{eq-eqb, not-false}
 use Rattle.base.specs.Choice.{bit}
 use Rattle.base.proofs.Bools.{range-true}
 use Rattle.chip.specs.declared.{Chip.Chip, Chip.TheVariants.Rp2040, Chip.TheVariants.Rp235x}
 use Rattle.chip.specs.Chips.{facts_of}
 use Rattle.step.specs.declared.Step.{Step}
-use Rattle.step.specs.Steps.{step_of}
 use Rattle.step.specs.declared.kind.Kind.TheVariants as kind
 use Rattle.pll.specs.{Ranges.reference_min, Ranges.reference_max, Ranges.vco_min, Ranges.vco_max, declared.PllConfig.PllConfig}
 use Rattle.pll.specs.Setting.{reference_of, vco_of, valid_of}
@@ -28,7 +27,7 @@ use Rattle.registers.specs.Access.{has, access_of}
 use Rattle.registers.specs.Map.{RESET, XOSC_CTRL, CLK_REF_CTRL, CLK_SYS_CTRL, PLL_CS, PLL_FBDIV_INT, BLOCKS, REF_SRC, SYS_SRC, AUXSRC}
 use Rattle.registers.specs.Map.{REFDIV, FBDIV}
 use Rattle.sheet.specs.Steps.{head_part, pll_steps, crystal_part, ref_part, switch_steps, sys_part, release_mask, last_part, clocks_part}
-use Rattle.sheet.specs.Steps.{steps_of, step0, step1, step2}
+use Rattle.sheet.specs.Steps.{steps_of, step0, step1}
 use Rattle.bring_up.specs.Machine.{bits_at, held, carried_out}
 use Rattle.bring_up.specs.Tree.{oscillates, vco_on}
 use Rattle.bring_up.specs.ClockWaits.{locks, can_come, NoEndlessWait}
@@ -45,7 +44,7 @@ Released c file = file (RESET c) ≡ 0
 abbrev Comes : Chip → ℕ → List Step → Type 0
 Comes c hz xs = Walk c (can_come c hz) (Released c) (Released c) xs
 
--- a part without a wait that does not write RESET
+-- a part without a wait that does not write RESET, which computes on each chip
 still : {c : Chip} {xs : List Step} (hz : ℕ) (own : Chip → List ℕ) → Calm c (own c) xs
     → Apart own RESET Rp2040 → Apart own RESET Rp235x → Comes c hz xs
 still {c} hz own h a b = record { walk = λ file p. (h.calm (can_come c hz) file, keeps own h.on file RESET a b ∙ p) }
@@ -88,13 +87,7 @@ pll-locks c w hz p file e lit power out e0 e1 =
 
 -- the steps before the wait for lock
 abbrev powered : ℕ → PllConfig → List Step
-powered w p =
-    step_of kind.PllPower w 1 1 1 1
-    ∷ step1 kind.Delay 10
-    ∷ step2 kind.PllReference w p.refdiv
-    ∷ step2 kind.PllFeedback w p.fbdiv
-    ∷ step_of kind.PllPower w 0 0 1 1
-    ∷ []
+powered w p = take 5 (pll_steps w (Some p))
 
 -- a PLL's steps, by whether it is the USB PLL
 pll : (c : Chip) (usb : Bool) (hz : ℕ) (o : Option PllConfig) → pll_invalid hz o ≡ false

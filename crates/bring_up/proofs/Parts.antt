@@ -35,9 +35,10 @@ pub record Calm (c : Chip) (own : List ℕ) (xs : List Step) : Type 0 where
   pub on : On c own xs
   pub calm : (test : Access → (ℕ → ℕ) → Bool) (file : ℕ → ℕ) → all_waits c test xs file ≡ true
 
-still : {c : Chip} {own : List ℕ} {xs : List Step} → carries c xs ≡ true → within (reach c xs) own ≡ true
+-- what a clause below proves, each by computation
+calm_of : {c : Chip} {own : List ℕ} {xs : List Step} → carries c xs ≡ true → within (reach c xs) own ≡ true
     → ((test : Access → (ℕ → ℕ) → Bool) (file : ℕ → ℕ) → all_waits c test xs file ≡ true) → Calm c own xs
-still all inside calm = record { on = record { all = all; inside = inside }; calm = calm }
+calm_of all inside calm = record { on = record { all = all; inside = inside }; calm = calm }
 
 -- USB and ADC differ in their registers, in the kinds of their steps and in the clock of their store
 pub data Aux : Type 0 where
@@ -110,8 +111,8 @@ owns c =
 
 pub mark : (c : Chip) → Calm c [] (mark_steps c)
 unfolding access_of has
-mark Rp2040 = still refl refl (λ test file. refl)
-mark Rp235x = still refl refl (λ test file. refl)
+mark Rp2040 = calm_of refl refl (λ test file. refl)
+mark Rp235x = calm_of refl refl (λ test file. refl)
 
 pub head : (c : Chip) → On c (head_own c) (head_part c)
 unfolding access_of has head_part
@@ -120,9 +121,9 @@ head Rp235x = record { all = refl; inside = refl }
 
 pub ring : (c : Chip) (pass : ℕ) (r : Option RoscConfig) → Calm c (ring_own c) (ring_part pass r)
 unfolding access_of has ring_part
-ring Rp2040 pass (Some r) = still refl refl (λ test file. refl)
-ring Rp235x pass (Some r) = still refl refl (λ test file. refl)
-ring c pass r = still refl refl (λ test file. refl)
+ring Rp2040 pass (Some r) = calm_of refl refl (λ test file. refl)
+ring Rp235x pass (Some r) = calm_of refl refl (λ test file. refl)
+ring c pass r = calm_of refl refl (λ test file. refl)
 
 -- a voltage that changes
 abbrev pub changed : Chip → Board → Option ℕ → List Step
@@ -132,9 +133,9 @@ changed c b settling =
 voltage-of : (c : Chip) (b : Board) (same : Bool) (settling : Option ℕ)
     → Calm c (voltage_own c) (pick same [] (changed c b settling))
 unfolding access_of has
-voltage-of Rp2040 b false (Some n) = still refl refl (λ test file. refl)
-voltage-of Rp235x b false (Some n) = still refl refl (λ test file. refl)
-voltage-of c b same settling = still refl refl (λ test file. refl)
+voltage-of Rp2040 b false (Some n) = calm_of refl refl (λ test file. refl)
+voltage-of Rp235x b false (Some n) = calm_of refl refl (λ test file. refl)
+voltage-of c b same settling = calm_of refl refl (λ test file. refl)
 
 pub voltage : (reading : ℕ) (b : Board) (settling : Option ℕ)
     → Calm b.chip (voltage_own b.chip) (voltage_part reading b settling)
@@ -161,8 +162,8 @@ crystal c None = record { all = refl; inside = refl }
 
 pub source : (c : Chip) (f : Sources) → Calm c [] (source_part f)
 unfolding access_of has
-source Rp2040 f = still refl refl (λ test file. refl)
-source Rp235x f = still refl refl (λ test file. refl)
+source Rp2040 f = calm_of refl refl (λ test file. refl)
+source Rp235x f = calm_of refl refl (λ test file. refl)
 
 pub reference : (c : Chip) (hz : ℕ) (r : RefClkConfig) → On c (ref_own c) (ref_part c hz r)
 unfolding access_of has
@@ -189,23 +190,23 @@ system b hz src = system-of b.chip (eqb (sys_select src) 0) hz (sys_aux src) (sy
 
 pub peri : (c : Chip) (hz : ℕ) (o : Option PeriClkSrc) → Calm c (peri_own c) (peri_part hz o)
 unfolding access_of has peri_part
-peri Rp2040 hz (Some src) = still refl refl (λ test file. refl)
-peri Rp235x hz (Some src) = still refl refl (λ test file. refl)
-peri c hz o = still refl refl (λ test file. refl)
+peri Rp2040 hz (Some src) = calm_of refl refl (λ test file. refl)
+peri Rp235x hz (Some src) = calm_of refl refl (λ test file. refl)
+peri c hz o = calm_of refl refl (λ test file. refl)
 
 pub aux : (c : Chip) (k : Aux) (hz : ℕ) (o : Option AuxClkConfig) → Calm c (aux_own k c) (aux_of k hz o)
 unfolding access_of has aux_part
-aux Rp2040 Usb hz (Some a) = still refl refl (λ test file. refl)
-aux Rp2040 Adc hz (Some a) = still refl refl (λ test file. refl)
-aux Rp235x Usb hz (Some a) = still refl refl (λ test file. refl)
-aux Rp235x Adc hz (Some a) = still refl refl (λ test file. refl)
-aux c k hz o = still refl refl (λ test file. refl)
+aux Rp2040 Usb hz (Some a) = calm_of refl refl (λ test file. refl)
+aux Rp2040 Adc hz (Some a) = calm_of refl refl (λ test file. refl)
+aux Rp235x Usb hz (Some a) = calm_of refl refl (λ test file. refl)
+aux Rp235x Adc hz (Some a) = calm_of refl refl (λ test file. refl)
+aux c k hz o = calm_of refl refl (λ test file. refl)
 
 pub rtc : (c : Chip) (hz : ℕ) (o : Option RtcClkConfig) → Calm c (rtc_own c) (rtc_part c hz o)
 unfolding access_of has rtc_part
-rtc Rp2040 hz (Some r) = still refl refl (λ test file. refl)
-rtc Rp2040 hz None = still refl refl (λ test file. refl)
-rtc Rp235x hz o = still refl refl (λ test file. refl)
+rtc Rp2040 hz (Some r) = calm_of refl refl (λ test file. refl)
+rtc Rp2040 hz None = calm_of refl refl (λ test file. refl)
+rtc Rp235x hz o = calm_of refl refl (λ test file. refl)
 
 pub last : (c : Chip) (mask : ℕ) → On c (last_own c) (last_part mask)
 unfolding access_of has

@@ -99,9 +99,8 @@ turned-on r p = record { ring = range-on r; reset = p.reset; sys = p.sys; usb = 
 pub ring : (c : Chip) (pass : ℕ) (r : Option RoscConfig) → Walk c (source_runs c) (Headed c) (Headed c) (ring_part pass r)
 unfolding access_of has ring_part
 ring Rp2040 pass (Some r) = record { walk = λ file p. (refl, turned-on r.range p) }
-ring Rp2040 pass None = record { walk = λ file p. (refl, p) }
 ring Rp235x pass (Some r) = record { walk = λ file p. (refl, turned-on r.range p) }
-ring Rp235x pass None = record { walk = λ file p. (refl, p) }
+ring c pass r = record { walk = λ file p. (refl, p) }
 
 pub voltage : (reading : ℕ) (b : Board) (settling : Option ℕ)
     → Walk b.chip (source_runs b.chip) (Headed b.chip) (Headed b.chip) (voltage_part reading b settling)

@@ -163,7 +163,7 @@ released mask v e = ap (λ (n : ℕ). n - bit_and n (BLOCKS mask) + 0) e ∙ ome
 
 kept : (c : Chip) (w v power : ℕ) → v ≡ 0 → powers_down c (PLL_PWR c w) 0 ≡ false
     → pick (powers_down c (PLL_PWR c w) v) 0x2D power ≡ power
-kept c w v power e out = ap (λ (n : ℕ). pick (powers_down c (PLL_PWR c w) n) 0x2D power) e ∙ ap (λ (down : Bool). pick down 0x2D power) out
+kept c w v power e out = rw (e, out)
 
 pub last-sets : (c : Chip) (mask : ℕ) (file : ℕ → ℕ) → file (RESET c) ≡ 0
     → let after = carried_out c (last_part mask) file in

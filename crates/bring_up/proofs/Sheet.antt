@@ -6,20 +6,19 @@ use lib.ListN.{get_or, take, drop}
 use Rattle.chip.specs.declared.{Chip.Chip, Chip.TheVariants.Rp2040, Chip.TheVariants.Rp235x}
 use Rattle.chip.specs.Chips.{facts_of}
 use Rattle.step.specs.declared.Step.{Step}
-use Rattle.step.specs.declared.kind.Kind.TheVariants as kind
 use Rattle.settings.specs.declared.{Settings.Settings, Frequencies.Frequencies}
 use Rattle.settings.specs.Frequencies.{frequencies_of}
 use Rattle.sheet.specs.Steps.{mark_steps, head_part, ring_part, voltage_part, crystal_part, source_part, ref_part, sys_part, peri_part}
-use Rattle.sheet.specs.Steps.{aux_part, rtc_part, release_mask, last_part}
+use Rattle.sheet.specs.Steps.{rtc_part, release_mask, last_part}
 use Rattle.bring_up.specs.Machine.{carried_out}
 use Rattle.bring_up.proofs.Addresses.{Apart, apart, member, member-append, outside, reach, steps-keep, append}
-use Rattle.bring_up.proofs.Parts.{On, owns, mark, head, ring, voltage, crystal, source, reference, system, peri, Usb, Adc, aux, rtc, last}
+use Rattle.bring_up.proofs.Parts.{On, owns, mark, head, ring, voltage, crystal, source, reference, system, peri, Usb, Adc, aux_of, aux, rtc, last}
 
 abbrev pub joined : {A : Type 0} → List (List A) → List A
 joined [] = []
 joined (x ∷ xs) = x ++ joined xs
 
--- each part has its registers
+-- each part, in turn, has its registers
 infixr 20 ◌also◌
 pub data All (c : Chip) : List (List ℕ) → List (List Step) → Type 0 where
   none : All c [] []
@@ -66,8 +65,8 @@ parts_of reading s =
     ∷ ref_part c f.reference s.reference
     ∷ sys_part s.board f.sys s.sys
     ∷ peri_part f.peri s.peri
-    ∷ aux_part kind.UsbDivider kind.UsbControl 7 f.usb s.usb
-    ∷ aux_part kind.AdcDivider kind.AdcControl 8 f.adc s.adc
+    ∷ aux_of Usb f.usb s.usb
+    ∷ aux_of Adc f.adc s.adc
     ∷ rtc_part c f.rtc s.board.rtc
     ∷ last_part (release_mask c s.peri s.usb s.adc s.board.rtc)
     ∷ []
@@ -95,7 +94,7 @@ all-parts reading s =
 abbrev pub up_to : ℕ → ℕ → Settings → (ℕ → ℕ) → (ℕ → ℕ)
 up_to n reading s before = carried_out s.board.chip (joined (take n (parts_of reading s))) before
 
--- a register that no part from k + 1 to n has keeps the value of part k
+-- a register that no part from k + 1 to n has, which computes on each chip, keeps the value of part k
 abbrev pub later : ℕ → ℕ → Chip → List ℕ
 later n k c = joined (drop (suc k) (take n (owns c)))
 
@@ -108,7 +107,7 @@ holds n k reading s before x a b =
     let c : Chip = s.board.chip in
     wins k (all_take n (all-parts reading s)) (x c) (apart (later n k) x a b c) before
 
--- a register that none of them has is unchanged
+-- a register that none of the first n parts has is unchanged
 abbrev pub first : ℕ → Chip → List ℕ
 first n c = joined (take n (owns c))
 

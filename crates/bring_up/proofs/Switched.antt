@@ -64,11 +64,11 @@ sys-selected c f reference SysClkSrc.PllUsb nonzero file p = p.sources.usb nonze
 sys-selected c f reference SysClkSrc.Rosc nonzero file p = p.sources.ring
 sys-selected c f reference SysClkSrc.Xosc nonzero file p = p.sources.xosc nonzero
 
--- away from aux to the reference clock, then to aux
+-- both waits of a part that switches to the reference clock and then to its source
 both : {a b : Bool} → a ≡ true → b ≡ true → (a && (b && true)) ≡ true
 both h k = rw (h, k)
 
--- by whether the system part starts there
+-- with the switch to the reference clock, or without it where that is the source already
 sys-runs : (c : Chip) (f : Sources) (reference stored whole fraction : ℕ) (src : SysClkSrc) → NonZero (sys_source f reference src)
     → (same : Bool)
     → Walk c (source_runs c) (Referred c f) Any (system_steps c same stored (sys_aux src) (sys_select src) whole fraction)
