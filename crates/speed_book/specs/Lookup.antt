@@ -8,7 +8,7 @@ use Rattle.pll.specs.declared.PllConfig.{PllConfig}
 use Rattle.speed_book.specs.Book.{output_in, setting_in}
 
 abbrev pub middle : ℕ → ℕ → ℕ
-middle low high = low + (high - low) / 2
+middle low high = (low + high) / 2
 
 -- the indices from low to high after n halvings: below `low` each entry is less than the bound, from `high` on none is
 unfoldable pub halved : List ℕ → ℕ → ℕ → ℕ → ℕ → ℕ
