@@ -1,6 +1,6 @@
 -- Each register that a step of either chip uses has a name, and the cycles of each pause fit 32 bits. The proof goes kind by
--- kind, and for a PLL's register over both PLLs.
-use mathlib.Core.{Path.◌≡◌, Path.refl, Bool.Bool, Bool.true, Bool.false}
+-- kind, and for a PLL's register over both PLLs of both chips.
+use mathlib.Core.{Path.◌≡◌, Path.refl, Bool.Bool, Bool.true}
 use Prim.Native.Nat.{ℕ, ◌+◌, ◌^◌, ◌<◌}
 use native.Mathlib.{Nat.mod-lt, Omega.arith}
 use lib.{Dec.eqb, Dec.leb, ListN.length, Pow.pow_pos}
@@ -12,6 +12,7 @@ use Rattle.registers.specs.{declared.Access.Access, Access.row_of, Access.has, A
 use Rattle.step.specs.declared.kind.Kind.{Kind}
 use Rattle.step.specs.declared.kind.Kind.TheVariants as kind
 use Rattle.registers.specs.Access.{op_of, address_of, value_of}
+use Rattle.registers.specs.Map.{PLL}
 use Rattle.wording.specs.StepNames.{name_rows, name_of}
 
 -- 1 to 3 use a register: it has a name
@@ -27,48 +28,28 @@ abbrev Told : Chip → Kind → Type 0
 Told c k = (s : Step) →
     (pick (has c k) (named c (op_of (row_of k c s)) (address_of (row_of k c s))) true ≡ true) × Paused (row_of k c s)
 
--- a PLL's register, whichever PLL it is
-either : (P : ℕ → Type 0) (usb sys : ℕ) → P usb → P sys → (b : Bool) → P (pick b usb sys)
-either P usb sys p q true = p
-either P usb sys p q false = q
+-- what holds of both PLLs of both chips by their bases, USB first, holds of each
+either : (P : Chip → ℕ → Type 0) → P Rp2040 0x4002C000 → P Rp2040 0x40028000 → P Rp235x 0x40058000 → P Rp235x 0x40050000
+    → (c : Chip) (w : ℕ) → P c (PLL c w)
+either P usb sys usb235 sys235 Rp2040 w = either_way (eqb w 1) (λ e. rw e usb) (λ e. rw e sys)
+either P usb sys usb235 sys235 Rp235x w = either_way (eqb w 1) (λ e. rw e usb235) (λ e. rw e sys235)
 
-told-2040 : (k : Kind) → Told Rp2040 k
+-- the register of a PLL that a step of this kind uses has a name, where the chip has the kind
+abbrev PllNamed : Kind → ℕ → (ℕ → ℕ) → Chip → ℕ → Type 0
+PllNamed k op register c base = pick (has c k) (named c op (register base)) true ≡ true
+
+told : (k : Kind) (c : Chip) → Told c k
 unfolding has name_of name_rows
-told-2040 kind.Delay s = (refl, omega (arith, mod-lt s.f0 (pow_pos 32)))
-told-2040 kind.PllPower s =
-    (either (λ base. named Rp2040 1 (base + 0x4) ≡ true) 0x4002C000 0x40028000 refl refl (eqb s.f0 1), tt)
-told-2040 kind.PllReference s =
-    (either (λ base. named Rp2040 1 base ≡ true) 0x4002C000 0x40028000 refl refl (eqb s.f0 1), tt)
-told-2040 kind.PllFeedback s =
-    (either (λ base. named Rp2040 1 (base + 0x8) ≡ true) 0x4002C000 0x40028000 refl refl (eqb s.f0 1), tt)
-told-2040 kind.WaitLock s =
-    (either (λ base. named Rp2040 3 base ≡ true) 0x4002C000 0x40028000 refl refl (eqb s.f0 1), tt)
-told-2040 kind.PllPosts s =
-    (either (λ base. named Rp2040 1 (base + 0xC) ≡ true) 0x4002C000 0x40028000 refl refl (eqb s.f0 1), tt)
-told-2040 kind.PllPostOn s =
-    (either (λ base. named Rp2040 2 (base + 0x4) ≡ true) 0x4002C000 0x40028000 refl refl (eqb s.f0 1), tt)
-told-2040 k s = (refl, tt)
-
-told-235x : (k : Kind) → Told Rp235x k
-unfolding has name_of name_rows
-told-235x kind.Delay s = (refl, omega (arith, mod-lt s.f0 (pow_pos 32)))
-told-235x kind.PllPower s =
-    (either (λ base. named Rp235x 1 (base + 0x4) ≡ true) 0x40058000 0x40050000 refl refl (eqb s.f0 1), tt)
-told-235x kind.PllReference s =
-    (either (λ base. named Rp235x 1 base ≡ true) 0x40058000 0x40050000 refl refl (eqb s.f0 1), tt)
-told-235x kind.PllFeedback s =
-    (either (λ base. named Rp235x 1 (base + 0x8) ≡ true) 0x40058000 0x40050000 refl refl (eqb s.f0 1), tt)
-told-235x kind.WaitLock s =
-    (either (λ base. named Rp235x 3 base ≡ true) 0x40058000 0x40050000 refl refl (eqb s.f0 1), tt)
-told-235x kind.PllPosts s =
-    (either (λ base. named Rp235x 1 (base + 0xC) ≡ true) 0x40058000 0x40050000 refl refl (eqb s.f0 1), tt)
-told-235x kind.PllPostOn s =
-    (either (λ base. named Rp235x 2 (base + 0x4) ≡ true) 0x40058000 0x40050000 refl refl (eqb s.f0 1), tt)
-told-235x k s = (refl, tt)
-
-told : (c : Chip) (k : Kind) → Told c k
-told Rp2040 = told-2040
-told Rp235x = told-235x
+told kind.PllPower c s = (either (PllNamed kind.PllPower 1 (λ base. base + 0x4)) refl refl refl refl c s.f0, tt)
+told kind.PllReference c s = (either (PllNamed kind.PllReference 1 (λ base. base)) refl refl refl refl c s.f0, tt)
+told kind.PllFeedback c s = (either (PllNamed kind.PllFeedback 1 (λ base. base + 0x8)) refl refl refl refl c s.f0, tt)
+told kind.WaitLock c s = (either (PllNamed kind.WaitLock 3 (λ base. base)) refl refl refl refl c s.f0, tt)
+told kind.PllPosts c s = (either (PllNamed kind.PllPosts 1 (λ base. base + 0xC)) refl refl refl refl c s.f0, tt)
+told kind.PllPostOn c s = (either (PllNamed kind.PllPostOn 2 (λ base. base + 0x4)) refl refl refl refl c s.f0, tt)
+told kind.Delay Rp2040 s = (refl, omega (arith, mod-lt s.f0 (pow_pos 32)))
+told kind.Delay Rp235x s = (refl, omega (arith, mod-lt s.f0 (pow_pos 32)))
+told k Rp2040 s = (refl, tt)
+told k Rp235x s = (refl, tt)
 
 -- what a step does, where the chip has it
 abbrev pub NamedIn : Chip → Answer Access → Type 0
@@ -77,4 +58,4 @@ NamedIn c (refusal n) = Unit {0}
 
 pub each-named : (c : Chip) (s : Step) → NamedIn c (access_of c s)
 unfolding access_of
-each-named c s = either_way (has c s.kind) (λ e. rw e (rw e at (told c s.kind s))) (λ e. rw e tt)
+each-named c s = either_way (has c s.kind) (λ e. rw e (rw e at (told s.kind c s))) (λ e. rw e tt)
