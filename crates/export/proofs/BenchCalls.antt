@@ -2,10 +2,11 @@
 -- So what holds of benches holds of exported calls: after a start each board is a single runner of its own.
 use mathlib.Core.{Bool.Bool, Bool.true, Bool.false, List.List, List.[], List.◌∷◌, List.map}
 use mathlib.Core.Path.{◌≡◌, refl, sym, ap, ◌∙◌}
-use Prim.Native.Nat.{ℕ, zero, suc, ◌+◌, ◌*◌, ◌≤◌}
+use Prim.Native.Nat.{ℕ, ◌+◌, ◌*◌, ◌≤◌}
 use native.Mathlib.Omega.{arith}
 use borrow.Author.Tests.{le-leb, ltb-true, ltb-false}
-use lib.{Dec.eqb, Dec.ltb, ListN.length, ListN.get_or, ListN.replicate}
+use lib.{Dec.eqb, Dec.ltb, ListN.length, ListN.get_or, ListN.get_or-append, ListN.replicate}
+use Rattle.std.proofs.lemmas.List.{get_or-replicate}
 use Rattle.base.proofs.Bools.{either_way}
 use Rattle.step.specs.Sheet.{max_bytes}
 use Rattle.step.specs.Size.{bad_size}
@@ -46,15 +47,13 @@ started-bench h sheet e =
     )
   where
     fresh-marks : (n : ℕ) → n ≤ 7 → get_or (fresh_numbers (length sheet)) (14 * n + 3) 0 ≤ 1
-    fresh-marks zero h = omega arith
-    fresh-marks (suc zero) h = omega arith
-    fresh-marks (suc (suc zero)) h = omega arith
-    fresh-marks (suc (suc (suc zero))) h = omega arith
-    fresh-marks (suc (suc (suc (suc zero)))) h = omega arith
-    fresh-marks (suc (suc (suc (suc (suc zero))))) h = omega arith
-    fresh-marks (suc (suc (suc (suc (suc (suc zero)))))) h = omega arith
-    fresh-marks (suc (suc (suc (suc (suc (suc (suc zero))))))) h = omega arith
-    fresh-marks (suc (suc (suc (suc (suc (suc (suc (suc n)))))))) h = absurd (omega arith)
+    fresh-marks n h =
+        let at : ℕ = 14 * n + 3 in
+        omega (
+          arith,
+          get_or-append (replicate 112 0) (length sheet ∷ []) 0 at (omega arith),
+          get_or-replicate {A = ℕ} 112 at 0 0 (omega arith),
+        )
 
 one-event : (h : Held) (e : BenchEvent) → IsBench h.numbers
     → (bench_held (bench_call_leaves h e) ≡ bench_after (bench_held h) (e ∷ [])) × IsBench (bench_call_leaves h e).numbers

@@ -21,7 +21,7 @@ use Rattle.runner.proofs.{Starts.start-refused, Starts.start-kept, Steps.turn_fo
 use Rattle.boards.specs.History.{Own, start, poll, single_after, single_answers}
 use Rattle.bring_up.specs.Wait.{runner_after, call_answer, OnTheWay}
 use Rattle.bring_up.proofs.{ComesUp.comes-up, Run.sheet-size}
-use Rattle.numbers.proofs.PartRows.{row-take}
+use Rattle.numbers.proofs.PartRows.{row-drop}
 use Rattle.numbers.specs.Answers.{answer_number}
 use Rattle.numbers.specs.Run.{progress_number, with_state, with_freqs, run_number, run_leaves, start_leaves}
 use Rattle.export.specs.Calls.{Held, runner_of, held_of, call_leaves, held_after, run_numbers, polls, polls_with, ExportedOneSheet}
@@ -38,7 +38,7 @@ read-written h long marked =
     let ns = h.numbers in
     let whole : (held_of (runner_of h)).numbers ≡ ns =
     rw (mark-same (get_or ns 3 0) marked)
-    (ap (λ (l : List ℕ). l ++ drop 5 ns) (row-take 5 ns (omega arith)) ∙ take-append-drop 5 ns) in
+    (ap (λ (l : List ℕ). l ++ drop 5 ns) (row-drop 5 0 ns (omega arith)) ∙ take-append-drop 5 ns) in
     λ i. record { numbers = whole i; bytes = h.bytes }
 
 -- all zeros are a runner before any start

@@ -5,7 +5,7 @@ use mathlib.Core.{Path.◌≡◌, Path.refl, Path.ap, Logic.◌↔◌, List.List
 use Prim.Native.Nat.{ℕ, ◌<◌}
 use native.Mathlib.Omega.{arith}
 use Rattle.base.specs.Answer.{Answer, value, refusal}
-use Rattle.std.specs.Prelude.{Ok}
+use Rattle.std.specs.{Prelude.Ok, Option.option_map}
 use Rattle.config.specs.declared.ClockConfig.{ClockConfig}
 use Rattle.config.specs.Presets.{system_plan, system_plan_from}
 use Rattle.settings.specs.Settings.{settings_of}
@@ -13,7 +13,7 @@ use Rattle.sheet.specs.{Writer.init_answer, Writer.InitCall, Demand3.SameUpTo}
 use Rattle.sheet.proofs.Demand3.{demand-3}
 use Rattle.numbers.specs.Answers.{answer_number, itself, refusals, chip_numbered}
 use Rattle.export.specs.Sheet.{plan_given, SheetCall, preset_on, plan_on}
-use Rattle.export.specs.Demand3.{settings_in, Sheets, PlanSheets, SystemSheets, SystemSheetsFrom}
+use Rattle.export.specs.Demand3.{Sheets, PlanSheets, SystemSheets, SystemSheetsFrom}
 
 -- a call that answers a length is a call of `init`
 record Wrote (plan : Option ClockConfig) (reading : ℕ) (before : List ℕ) (r : ℕ) (after : List ℕ) : Type 0 where
@@ -43,7 +43,8 @@ wrote None c low = absurd (omega (arith, c.answer))
 
 both : (p q : Option ClockConfig) (reading : ℕ) (b b' c c' : List ℕ) (r s : ℕ)
     → Wrote p reading b r b' → Wrote q reading c s c'
-    → ((r ≡ s) × SameUpTo r b' c') ↔ (settings_in p reading ≡ settings_in q reading)
+    → ((r ≡ s) × SameUpTo r b' c')
+    ↔ (option_map (λ p. settings_of p reading) p ≡ option_map (λ q. settings_of q reading) q)
 both p q reading b b' c c' r s first second =
     let x = first.config in
     let y = second.config in

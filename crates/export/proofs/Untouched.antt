@@ -1,6 +1,7 @@
 -- A refusal leaves what was lent unchanged. For the runner and the bench this follows from runner/proofs/Untouched; for the other
 -- calls, from the fact that their values have numbers below the refusals.
 use Rattle.std.specs.Prelude.{Option, Some, None}
+use Rattle.std.specs.Option.{option_map}
 use mathlib.Core.{Bool.Bool, Bool.true, Bool.false, Logic.inl, Logic.inr}
 use mathlib.Core.{List.List, List.[], List.◌∷◌, List.flat_map, Path.◌≡◌, Path.refl, Path.sym, Path.ap, Path.◌∙◌}
 use Prim.Native.Nat.{ℕ, ◌+◌, ◌*◌, ◌≤◌}
@@ -35,11 +36,11 @@ use Rattle.boards.proofs.Benches.{all-refused, all-kept}
 use Rattle.sleep.specs.declared.steps.Step.{Step}
 use Rattle.sleep.specs.Sleep.{SleepOutcome}
 use Rattle.numbers.specs.Slots.{steps_numbers}
-use Rattle.numbers.specs.Answers.{refusals, itself, answer_number, limits_after}
+use Rattle.numbers.specs.Answers.{refusals, itself, answer_number, left_by, limits_after, Writes}
 use Rattle.numbers.specs.Answers.{done as margin-done}
-use Rattle.numbers.specs.Run.{runner_in, progress_number, go_number, run_number, run_leaves, start_leaves, StartCall}
-use Rattle.numbers.specs.Bench.{stepper_at, bench_in, with_board, bench_number, bench_leaves, start_all_leaves, StartAllCall}
-use Rattle.numbers.specs.{SleepCall.SlotsCall, Read.chip_number, Read.RowCall, Access.op_number, Access.AccessCall}
+use Rattle.numbers.specs.Run.{runner_in, progress_number, go_number, run_number, run_leaves, started_numbers, Starts, StartCall}
+use Rattle.numbers.specs.Bench.{stepper_at, bench_in, with_board, bench_number, bench_leaves, fresh_numbers, StartAllCall}
+use Rattle.numbers.specs.{SleepCall.SlotsCall, Read.chip_number, Access.AccessCall}
 use Rattle.registers.specs.declared.Access.{Access}
 use Rattle.registers.specs.declared.Access.TheVariants as access
 use Rattle.registers.specs.Access.{access_at, op_of}
@@ -105,33 +106,31 @@ bench-keeps ns kept n sheet ready r =
     (board-number ns kept n sheet ready few m) (left_is ns kept n few marked sheet ready) (board-again ns n marked) refl r)
     (λ m. inl (sym (bad-leaves ns kept n sheet ready few (leb-false (nth ns (14 * n + 3)) 1 m)))))
 
--- a start that answers a refusal's number changes nothing
-start-refuses : {A : Type 0} (b next : A) (x : Begun A) (bad : Bool) → (bad ≡ true → outcome (refusal 20) b ≡ x)
-    → (bad ≡ false → outcome (value tt) next ≡ x) → {r : ℕ} → r ≡ answer_number go_number x.answer → Refused r
-    → x ≡ outcome (refusal 20) b
-start-refuses {A} b next x bad refused taken e low =
-    either_way bad (λ t. sym (refused t))
-    (λ t. absurd (omega (arith, e, ap (λ (y : Begun A). answer_number go_number y.answer) (taken t), low.0)))
+-- a start that answers a refusal's number changes nothing: x is the start of a runner or a bench b
+start-refuses : {A : Type 0} (kept_of fresh_of : A → List ℕ) (b next : A) (x : Begun A) (bad : Bool)
+    → (bad ≡ true → outcome (refusal 20) b ≡ x) → (bad ≡ false → outcome (value tt) next ≡ x) → {ns : List ℕ} {r : ℕ} {ns' kept' : List ℕ}
+    → Starts x.answer (fresh_of x.next) (kept_of x.next) ns r ns' kept' → Refused r → (ns' ≡ ns) × (kept' ≡ kept_of b)
+start-refuses {A} kept_of fresh_of b next x bad refused taken {ns} c low =
+    either_way bad
+    (λ t. let o = sym (refused t) in (
+      c.numbers ∙ ap (λ (y : Begun A). left_by (λ go before. fresh_of y.next) y.answer ns) o,
+      c.bytes ∙ ap (λ (y : Begun A). kept_of y.next) o,
+    ))
+    (λ t. absurd (omega (arith, c.answer, ap (λ (y : Begun A). answer_number go_number y.answer) (taken t), low.0)))
 
-start-keeps : {ns kept sheet ns' kept' : List ℕ} {r : ℕ} → StartCall ns kept sheet r ns' kept' → Refused r
+start-keeps : (ns kept sheet : List ℕ) {r : ℕ} {ns' kept' : List ℕ} → StartCall ns kept sheet r ns' kept' → Refused r
     → (ns' ≡ ns) × (kept' ≡ kept)
-start-keeps {ns} {kept} {sheet} c low =
+start-keeps ns kept sheet =
     let at : Runner = runner_in ns kept in
-    let o = start-refuses at (started_with sheet) (start_of at sheet) (bad_size (length sheet)) (start-refused at sheet)
-    (start-kept at sheet) c.answer low in (
-      c.numbers ∙ ap (λ (x : Begun Runner). start_leaves x.answer ns x.next.len) o,
-      c.bytes ∙ ap (λ (x : Begun Runner). x.next.kept) o,
-    )
+    start-refuses (λ r. r.kept) (λ r. started_numbers r.len) at (started_with sheet) (start_of at sheet) (bad_size (length sheet))
+    (start-refused at sheet) (start-kept at sheet)
 
-bench-start-keeps : {ns kept sheet ns' kept' : List ℕ} {r : ℕ} → StartAllCall ns kept sheet r ns' kept' → Refused r
+bench-start-keeps : (ns kept sheet : List ℕ) {r : ℕ} {ns' kept' : List ℕ} → StartAllCall ns kept sheet r ns' kept' → Refused r
     → (ns' ≡ ns) × (kept' ≡ kept)
-bench-start-keeps {ns} {kept} {sheet} c low =
+bench-start-keeps ns kept sheet =
     let at : Bench = bench_in ns kept in
-    let o = start-refuses at (eight_of (started_with sheet)) (start_all_of at sheet) (bad_size (length sheet)) (all-refused at sheet)
-    (all-kept at sheet) c.answer low in (
-      c.numbers ∙ ap (λ (x : Begun Bench). start_all_leaves x.answer ns x.next.len) o,
-      c.bytes ∙ ap (λ (x : Begun Bench). x.next.kept) o,
-    )
+    start-refuses (λ b. b.kept) (λ b. fresh_numbers b.len) at (eight_of (started_with sheet)) (start_all_of at sheet)
+    (bad_size (length sheet)) (all-refused at sheet) (all-kept at sheet)
 
 -- a sheet has at most 528 bytes
 init-keeps : (p : ClockConfig) (reading : ℕ) (buffer : List ℕ) → Refused (answer_number itself (init_answer p reading buffer))
@@ -170,39 +169,36 @@ list-keeps input target before r =
     either_way (has_room input target (length before))
     (λ e. let low = rw e at r in absurd (omega (arith, low.0, keep-few (meets input target) in_order, order-long))) (λ e. rw e)
 
+-- a call that writes numbers, whose values have small numbers
+writes-keep : {A : Type 0} {number : A → ℕ} {write : A → List ℕ → List ℕ} → ((a : A) → number a ≤ 4)
+    → (given : Option (Answer A)) {before after : List ℕ} {r : ℕ} → Writes number write given before r after → Refused r
+    → after ≡ before
+writes-keep small (Some (value a)) c low = absurd (omega (arith, c.answer, small a, low.0))
+writes-keep small (Some (refusal n)) c low = c.numbers
+writes-keep small None c low = c.numbers
+
 margin-keeps : (a : Answer Margin) (before : List ℕ) → Refused (answer_number margin-done a) → limits_after a before ≡ before
 margin-keeps (value s) before r = absurd (omega arith)
 margin-keeps (refusal n) before r = refl
 
-chip-few : (chip : Chip) → chip_number chip ≤ 1
-chip-few Rp2040 = omega arith
-chip-few Rp235x = omega arith
-
-row_keeps : (read : Answer ClockConfig) {before after : List ℕ} {r : ℕ} → RowCall read before r after → Refused r
-    → after ≡ before
-row_keeps (value p) c low = absurd (omega (arith, c.answer, chip-few (board_of p.chip).chip, low.0))
-row_keeps (refusal n) c low = c.numbers
-
 plan-keeps : (plan : Option (Answer ClockConfig)) {before after : List ℕ} {r : ℕ} → PlanCall plan before r after → Refused r
     → after ≡ before
-plan-keeps (Some read) c low = row_keeps read (record { answer = c.answer; numbers = c.numbers }) low
-plan-keeps None c low = c.numbers
-
-op-few : (a : Access) → op_of a ≤ 4
-op-few access.Nothing = omega arith
-op-few (access.Write at v) = omega arith
-op-few (access.Change at m v) = omega arith
-op-few (access.Wait at m v) = omega arith
-op-few (access.Pause n) = omega arith
+plan-keeps = writes-keep (λ p. chip-few (board_of p.chip).chip)
+  where
+    chip-few : (chip : Chip) → chip_number chip ≤ 4
+    chip-few Rp2040 = omega arith
+    chip-few Rp235x = omega arith
 
 access-keeps : (chip : Option Chip) (sheet : List ℕ) (position : ℕ) {before after : List ℕ} {r : ℕ}
     → AccessCall chip sheet position before r after → Refused r → after ≡ before
-access-keeps None sheet position c low = c.numbers
-access-keeps (Some chip) sheet position {before} {after} {r} c low = go (access_at chip sheet position) refl
+access-keeps chip sheet position = writes-keep op-few (option_map (λ on. access_at on sheet position) chip)
   where
-    go : (x : Answer Access) → access_at chip sheet position ≡ x → after ≡ before
-    go (value a) e = absurd (omega (arith, c.answer, ap (answer_number op_number) e, op-few a, low.0))
-    go (refusal n) e = rw e at c.numbers
+    op-few : (a : Access) → op_of a ≤ 4
+    op-few access.Nothing = omega arith
+    op-few (access.Write at v) = omega arith
+    op-few (access.Change at m v) = omega arith
+    op-few (access.Wait at m v) = omega arith
+    op-few (access.Pause n) = omega arith
 
 slots-keep : (o : Option SleepOutcome) {slots words steps slots' words' steps' : List ℕ} {r : ℕ} → length steps ≡ 28
     → SlotsCall o slots words steps r slots' words' steps' → Refused r
@@ -226,7 +222,7 @@ untouched =
       sheets = sheets-keep;
       list = list-keeps;
       margin = λ input target. margin-keeps (margin_of input target);
-      read_sheet = row_keeps;
+      read_sheet = λ read. plan-keeps (Some read);
       presets = plan-keeps;
       access = access-keeps;
       slots = slots-keep;

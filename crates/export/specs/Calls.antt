@@ -3,7 +3,8 @@
 -- the runner, bench or slots after the same calls. What their numbers mean is in specs/State.
 use Rattle.std.specs.Prelude.{Some}
 use mathlib.Core.{Bool.Bool, Bool.false, Path.◌≡◌, List.List, List.[], List.◌∷◌}
-use Rattle.std.specs.Prelude.{ℕ, zero, suc, ◌+◌, ◌*◌, ◌≤◌, ◌<◌}
+use Rattle.std.specs.Prelude.{ℕ, zero, suc, ◌+◌, ◌*◌, ◌≤◌, ◌<◌, map}
+use Rattle.std.specs.List.{fold}
 use lib.{Dec.eqb, ListN.length, ListN.get_or, ListN.drop, ListN.replicate, Seq.sets}
 use Rattle.base.specs.Choice.{pick, bit}
 use Rattle.config.specs.declared.ClockConfig.{ClockConfig}
@@ -52,8 +53,7 @@ call_leaves h (poll sheet ready) =
     record { numbers = run_leaves h.numbers h.bytes sheet ready; bytes = h.bytes }
 
 abbrev pub held_after : Held → List Own → Held
-held_after h [] = h
-held_after h (e ∷ es) = held_after (call_leaves h e) es
+held_after = fold call_leaves
 
 -- the answers of the calls of `dizbaral_run`
 abbrev pub run_numbers : Held → List Own → List ℕ
@@ -68,8 +68,7 @@ polls [] = []
 polls (call sheet ready ∷ calls) = poll sheet ready ∷ polls calls
 
 abbrev pub polls_with : List ℕ → List Bool → List Own
-polls_with sheet [] = []
-polls_with sheet (ready ∷ flags) = poll sheet ready ∷ polls_with sheet flags
+polls_with sheet = map (poll sheet)
 
 -- whatever the runner was before an accepted start, and whatever sheets are handed in after it, the numbers and bytes are those
 -- after the same calls with the sheet of the start alone
@@ -118,8 +117,7 @@ bench_call_leaves h (BenchEvent.poll n sheet ready) =
     record { numbers = bench_leaves h.numbers h.bytes n sheet ready; bytes = h.bytes }
 
 abbrev pub bench_held_after : Held → List BenchEvent → Held
-bench_held_after h [] = h
-bench_held_after h (e ∷ es) = bench_held_after (bench_call_leaves h e) es
+bench_held_after = fold bench_call_leaves
 
 -- the answers of the calls for board n
 abbrev pub bench_numbers : ℕ → Held → List BenchEvent → List ℕ

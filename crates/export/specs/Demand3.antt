@@ -1,6 +1,7 @@
 -- Demand 3 of the exported calls: two sheets are equal exactly when their plans agree in every setting (docs/FORMAT.md, Settings
 -- that count).
-use Rattle.std.specs.Prelude.{Option, Some, None}
+use Rattle.std.specs.Prelude.{Option}
+use Rattle.std.specs.Option.{option_map}
 use mathlib.Core.{Path.◌≡◌, Logic.◌↔◌, List.List}
 use Rattle.std.specs.Prelude.{ℕ, ◌<◌}
 use Rattle.base.specs.Answer.{Answer}
@@ -12,10 +13,9 @@ use Rattle.sheet.specs.Demand3.{SameUpTo}
 use Rattle.numbers.specs.Answers.{refusals, chip_numbered}
 use Rattle.export.specs.Sheet.{plan_given, SheetCall, preset_on, plan_on}
 
--- the settings of a plan, where there is one
-abbrev pub settings_in : Option ClockConfig → ℕ → Option Settings
-settings_in (Some plan) reading = Some (settings_of plan reading)
-settings_in None reading = None
+-- the settings of the plan that is given, where there is one
+abbrev pub settings_in : Option (Answer ClockConfig) → ℕ → Option Settings
+settings_in plan reading = option_map (λ plan. settings_of plan reading) (plan_given plan)
 
 -- two calls at one reading, of any two plans, with any two buffers, that both answer lengths
 abbrev pub Sheets : Option (Answer ClockConfig) → Option (Answer ClockConfig) → Type 0
@@ -23,7 +23,7 @@ Sheets p q =
     (reading : ℕ) (b b' c c' : List ℕ) (r s : ℕ)
     → SheetCall p reading b r b' → r < refusals
     → SheetCall q reading c s c' → s < refusals
-    → ((r ≡ s) × SameUpTo r b' c') ↔ (settings_in (plan_given p) reading ≡ settings_in (plan_given q) reading)
+    → ((r ≡ s) × SameUpTo r b' c') ↔ (settings_in p reading ≡ settings_in q reading)
 
 -- sheets of plans given as any numbers, for any chips
 abbrev pub PlanSheets : Type 0

@@ -1,5 +1,5 @@
 -- The exported calls that write the numbers of a preset's plan (docs/FORMAT.md, Presets).
-use Rattle.std.specs.Prelude.{Option, Some, None, ℕ, ◌≤◌}
+use Rattle.std.specs.Prelude.{Option, Some, ℕ, ◌≤◌}
 use mathlib.Core.{Path.◌≡◌, List.List}
 use Rattle.base.specs.Answer.{Answer, value}
 use Rattle.chip.specs.declared.{Chip.Chip, Chip.TheVariants.Rp2040, voltage.CoreVoltage.CoreVoltage}
@@ -7,22 +7,11 @@ use Rattle.pll.specs.declared.PllConfig.{PllConfig}
 use Rattle.config.specs.declared.ClockConfig.{ClockConfig}
 use Rattle.config.specs.Presets.{crystal_plan, rosc_plan, default_plan, system_plan, system_plan_from, manual_plan}
 use Rattle.numbers.specs.Fields.{u32}
-use Rattle.numbers.specs.{Answers.answer_number, Answers.malformed, Read.plan_chip, Read.row_after, Row.plan_row, Plan.plan_numbered}
+use Rattle.numbers.specs.{Answers.Writes, Read.plan_chip, Read.put_row, Row.plan_row, Plan.plan_numbered}
 
--- the chip of the plan, or the preset's refusal; malformed where there is no such preset
-abbrev pub plan_number : Option (Answer ClockConfig) → ℕ
-plan_number (Some plan) = answer_number plan_chip plan
-plan_number None = malformed
-
--- the plan's numbers, followed by the old ones; a refusal changes nothing
-abbrev pub plan_after : Option (Answer ClockConfig) → List ℕ → List ℕ
-plan_after (Some plan) row = row_after plan row
-plan_after None row = row
-
--- the call's contract: its answer r, and all numbers after it
-pub record PlanCall (plan : Option (Answer ClockConfig)) (before : List ℕ) (r : ℕ) (after : List ℕ) : Type 0 where
-  pub answer : r ≡ plan_number plan
-  pub numbers : after ≡ plan_after plan before
+-- the call's contract: its answer r, which is malformed where there is no such preset, and all numbers after it
+abbrev pub PlanCall : Option (Answer ClockConfig) → List ℕ → ℕ → List ℕ → Type 0
+PlanCall = Writes plan_chip put_row
 
 -- the numbers of a plan are read back as the plan, so `dizbaral_plan_sheet` of what a preset wrote makes the preset's sheet
 abbrev pub Back : Chip → ClockConfig → Type 0

@@ -37,9 +37,9 @@ pub record Untouched : Type 1 where
       → SaveTimeout (bench_number ns kept n sheet ready) ns (bench_leaves ns kept n sheet ready)
       (with_board n (stepper_timed_out (stepper_at ns n)) ns)
   -- `dizbaral_start`, `dizbaral_bench_start`
-  pub start : {ns kept sheet ns' kept' : List ℕ} {r : ℕ} → StartCall ns kept sheet r ns' kept' → Refused r
+  pub start : (ns kept sheet : List ℕ) {r : ℕ} {ns' kept' : List ℕ} → StartCall ns kept sheet r ns' kept' → Refused r
       → (ns' ≡ ns) × (kept' ≡ kept)
-  pub bench_start : {ns kept sheet ns' kept' : List ℕ} {r : ℕ} → StartAllCall ns kept sheet r ns' kept' → Refused r
+  pub bench_start : (ns kept sheet : List ℕ) {r : ℕ} {ns' kept' : List ℕ} → StartAllCall ns kept sheet r ns' kept' → Refused r
       → (ns' ≡ ns) × (kept' ≡ kept)
   -- `dizbaral_system_sheet`, `dizbaral_system_sheet_from`, `dizbaral_plan_sheet`
   pub sheets : (plan : Option (Answer ClockConfig)) {reading r : ℕ} {before after : List ℕ}

@@ -1,5 +1,6 @@
 -- The numbers of a plan read back as the plan, and a row that reads as a plan is the row of that plan's numbers.
 use Rattle.std.specs.Prelude.{Option, Some, None}
+use Rattle.std.specs.Option.{option_map, unwrap_or}
 use Rattle.config.specs.declared.XoscConfig.{XoscConfig}
 use mathlib.Core.{Bool.Bool, Bool.true, Bool.false, Bool.◌&&◌}
 use mathlib.Core.{List.List, List.[], List.◌∷◌, List.◌++◌, Path.◌≡◌, Path.refl, Path.sym, Path.ap, Path.◌∙◌}
@@ -10,7 +11,6 @@ use lib.{Dec.eqb, Dec.leb, ListN.length}
 use Rattle.base.{specs.Answer.Answer, specs.Answer.value, specs.Answer.refusal, specs.Choice.pick, proofs.Bools.either_way}
 use Rattle.std.proofs.lemmas.Bool.{and_parts}
 use Rattle.chip.specs.declared.{Chip.Chip, Chip.TheVariants.Rp2040, Chip.TheVariants.Rp235x}
-use Rattle.chip.specs.declared.voltage.{CoreVoltage.CoreVoltage, CoreVoltage235.CoreVoltage235}
 use Rattle.chip.specs.Voltage.{code_of, voltages, with_code, core_voltage_of}
 use Rattle.chip.proofs.Codes.{core-voltage-code, code-small}
 use Rattle.pll.specs.declared.PllConfig.{PllConfig}
@@ -19,18 +19,19 @@ use Rattle.config.specs.declared.ChipConfig.TheVariants.{Rp2040 as on2040, Rp235
 use Rattle.config.specs.Board.{board_of}
 use Rattle.config.specs.Codes.{ref_code}
 use Rattle.settings.proofs.Decoded.{board-small}
-use Rattle.numbers.specs.Fields.{nth, byte_at, half_at, u8, u16, u32}
+use Rattle.numbers.specs.Fields.{nth, byte_at, u8, u16, u32}
 use Rattle.numbers.specs.Row.{ring_row, crystal_row, sys_pll_in, usb_pll_in, pll_row, oscillator_row, first_row, sys_row, peri_row}
-use Rattle.numbers.specs.Row.{aux_row}
+use Rattle.numbers.specs.Row.{time_row, aux_row}
 use Rattle.numbers.specs.Row.{clock_row, rtc_row, rtc_numbers, plan_row}
 use Rattle.numbers.specs.Parts.{fit_from, is_part}
 use Rattle.numbers.specs.Plan.{whole_oscillators, whole_clocks, whole_chip, whole_plan, strengths_at, ring_at, option_pll_at}
 use Rattle.numbers.specs.Plan.{crystal_at, settling_at, reference_at, peripheral_at, divided_at, rtc_at, chip_at, plan_at}
-use Rattle.numbers.specs.Plan.{flagged, with2040, with235x, with_chip, plan_numbered}
+use Rattle.numbers.specs.Plan.{flagged, part2040, part235x, plan_numbered}
+use Rattle.numbers.specs.Answers.{of_value}
 use Rattle.numbers.specs.Typed.{PllTyped, CrystalTyped, ChipTyped, PlanTyped}
 use Rattle.numbers.proofs.PartRows.{row_from, row-whole, cut, both, fits, gone, ref-code, sys-code, codes, code_read}
-use Rattle.numbers.proofs.PartRows.{ring_limits, ring-back, ring-row, pll_limits, pll-back, pll-row, time_row, time_limits}
-use Rattle.numbers.proofs.PartRows.{first-row, time-back, time-row, peri_limits, peri-back, peri-row, aux_limits, aux-back}
+use Rattle.numbers.proofs.PartRows.{ring_limits, ring-back, ring-row, pll_limits, pll-back, pll-row, time_limits}
+use Rattle.numbers.proofs.PartRows.{time-back, time-row, peri_limits, peri-back, peri-row, aux_limits, aux-back}
 use Rattle.numbers.proofs.PartRows.{aux-row, rtc_limits, rtc-back, rtc-row, there-fits}
 
 -- the rows of a plan's parts, one after another
@@ -135,8 +136,7 @@ module _ (c : ChipConfig) (p : ClockConfig) (t : PlanTyped p) (z : List ℕ) whe
   row_is e =
       let plls = plls-typed p.xosc t.xosc in
       let time = (time-back p.voltage_stabilization_delay_us t.settling).0 in
-      let first = ap (λ (l : List ℕ). (board_of c).volts.code ∷ (l ++ (ref_code p.ref_clk.src ∷ p.ref_clk.div ∷ []))) time
-      ∙ sym (first-row (board_of c).volts.code p.voltage_stabilization_delay_us p.ref_clk) in
+      let first = ap (λ (l : List ℕ). (board_of c).volts.code ∷ (l ++ (ref_code p.ref_clk.src ∷ p.ref_clk.div ∷ []))) time in
       λ i. joined ((ring-back p.rosc t.rosc).0 i) ((crystal-back p.xosc t.xosc).long i)
       ((pll-back (sys_pll_in p.xosc) plls.0).0 i) ((pll-back (usb_pll_in p.xosc) plls.1).0 i) (first i)
       (sys_row p.sys_clk_src (board_of c).whole (board_of c).fraction) ((peri-back p.peri_clk_src).0 i)
@@ -180,8 +180,9 @@ module _ (c : ChipConfig) (p : ClockConfig) (t : PlanTyped p) (z : List ℕ) whe
   unfolding plan_numbered
   read-so chip e fit read =
       ap (plan_numbered chip) (sym (row_is e))
-      ∙ ap (λ (b : Bool). pick b (with_chip (chip_at chip row) row) None) (both fit (both oscillators-fit clocks-fit))
-      ∙ ap (λ (o : Option ChipConfig). with_chip o row) read ∙ ap Some plan-is
+      ∙ ap (λ (b : Bool). pick b (option_map (λ (c : ChipConfig). plan_at c row) (chip_at chip row)) None)
+      (both fit (both oscillators-fit clocks-fit))
+      ∙ ap (option_map (λ (c : ChipConfig). plan_at c row)) read ∙ ap Some plan-is
 
 -- every typed plan reads back from its numbers
 pub plan-back : (p : ClockConfig) → PlanTyped p → plan_numbered (board_of p.chip).chip (plan_row p) ≡ Some p
@@ -195,7 +196,7 @@ plan-back p t = go p.chip t.chip
         let small : code_of Rp2040 c.core_voltage ≤ 255 = omega (arith, code-small Rp2040 c.core_voltage) in
         read-so (on2040 c) p t (row_from 5 0 z) Rp2040 r.0
         (both refl (both (both (le-leb _ u32 h.0) (both (le-leb _ u8 h.1) refl)) r.1))
-        (ap (λ (a : Answer CoreVoltage). with2040 a (row (on2040 c) p t (row_from 5 0 z)))
+        (ap (of_value (part2040 (row (on2040 c) p t (row_from 5 0 z))))
         (ap (core_voltage_of Rp2040) (cut small) ∙ core-voltage-code Rp2040 c.core_voltage)
         ∙ (λ i. Some (on2040 (record {
           core_voltage = c.core_voltage;
@@ -206,7 +207,7 @@ plan-back p t = go p.chip t.chip
     go (on235x c) h =
         let small : code_of Rp235x c.core_voltage ≤ 255 = omega (arith, code-small Rp235x c.core_voltage) in
         read-so (on235x c) p t [] Rp235x refl (both refl (both (le-leb _ u16 h.0) (both (le-leb _ u16 h.1) refl)))
-        (ap (λ (a : Answer CoreVoltage235). with235x a (row (on235x c) p t []))
+        (ap (of_value (part235x (row (on235x c) p t [])))
         (ap (core_voltage_of Rp235x) (cut small) ∙ core-voltage-code Rp235x c.core_voltage)
         ∙ (λ i. Some (on235x (record {
           core_voltage = c.core_voltage;
@@ -216,12 +217,10 @@ plan-back p t = go p.chip t.chip
 
 -- ---- a row that reads as a plan
 
--- the chip-specific part of it
-abbrev old : CoreVoltage → List ℕ → ChipConfig
-old v n = on2040 (record { core_voltage = v; div_int = nth n 31; div_frac = byte_at n 32; rtc_clk = rtc_at n })
-
-abbrev new : CoreVoltage235 → List ℕ → ChipConfig
-new v n = on235x (record { core_voltage = v; div_int = half_at n 31; div_frac = half_at n 32 })
+-- what an answer gives is of its value
+valued : {A B : Type 0} (f : A → B) (a : Answer A) (b : B) → of_value f a ≡ Some b → (v : A) × (a ≡ value v) × (f v ≡ b)
+valued f (value v) b e = (v, refl, ap (λ o. unwrap_or o (f v)) e)
+valued f (refusal n) b e = let z : ◌≡◌ {A = ℕ} 0 1 = cc in absurd (omega arith)
 
 module _ (n : List ℕ) (osc : whole_oscillators n ≡ true) (clk : whole_clocks n ≡ true) where
   abbrev oscillator_tests : List Bool
@@ -257,8 +256,7 @@ module _ (n : List ℕ) (osc : whole_oscillators n ≡ true) (clk : whole_clocks
       let s = fits true n 30 (4 ∷ []) k.1.1.1.0 in
       let time = time-row (row_from 2 26 n) k.1.0 in
       let first : first_row (board_of c).volts.code (settling_at n) (reference_at n) ≡ row_from 5 25 n =
-      first-row (board_of c).volts.code (settling_at n) (reference_at n)
-      ∙ (λ i. code i ∷ (time i ++ ((codes (nth n 28)).1 r.0 i ∷ cut r.1.0 i ∷ []))) in
+      λ i. code i ∷ (time i ++ ((codes (nth n 28)).1 r.0 i ∷ cut r.1.0 i ∷ [])) in
       λ i. joined (ring-row n o.0 i) (x.0 i) (x.1 i) (x.2 i) (first i)
       (((codes (nth n 30)).2 s.0).0 i ∷ whole i ∷ fraction i ∷ []) (peri-row (row_from 2 33 n) k.1.1.1.1.0 i)
       (aux-row (row_from 4 35 n) k.1.1.1.1.1.0 i) (aux-row (row_from 4 39 n) k.1.1.1.1.1.1.0 i) (rtc_numbers c)
@@ -269,31 +267,31 @@ module _ (n : List ℕ) (osc : whole_oscillators n ≡ true) (clk : whole_clocks
       let small : nth n 25 ≤ u8 = omega (arith, code-most) in
       code_read code_of_lem (byte_at n 25) vs v read ∙ cut small
 
-  row-2040 : whole_chip Rp2040 n ≡ true → (v : CoreVoltage) → core_voltage_of Rp2040 (byte_at n 25) ≡ value v
-      → plan_row (plan_at (old v n) n) ≡ n
-  unfolding whole_chip is_part rtc_at
-  row-2040 e v read =
+  -- of each chip: the row is that of the plan whose chip-specific part is read from it, which is of this chip
+  chip-row : (chip : Chip) → whole_chip chip n ≡ true → (c : ChipConfig) → chip_at chip n ≡ Some c
+      → (plan_row (plan_at c n) ≡ n) × ((board_of c).chip ≡ chip)
+  unfolding whole_chip is_part rtc_at chip_at
+  chip-row Rp2040 e c read =
       let bs : List Bool = eqb (length n) 48 ∷ fit_from true n 31 (u32 ∷ u8 ∷ []) ∷ is_part n 43 rtc_limits ∷ [] in
       let h = all_true bs e in
       let w = fits true n 31 (u32 ∷ u8 ∷ []) h.1.0 in
-      plan-row (old v n) (code_is (code_of Rp2040) (voltages Rp2040) v read) refl (cut w.1.0)
-      ∙ ap (λ (l : List ℕ). row_from 43 0 n ++ l) (rtc-row (row_from 5 43 n) h.1.1.0)
-      ∙ row-whole 48 n (eqb-true (length n) 48 h.0)
-
-  row-235x : whole_chip Rp235x n ≡ true → (v : CoreVoltage235) → core_voltage_of Rp235x (byte_at n 25) ≡ value v
-      → plan_row (plan_at (new v n) n) ≡ n
-  unfolding whole_chip
-  row-235x e v read =
+      let of = valued (part2040 n) (core_voltage_of Rp2040 (byte_at n 25)) c read in
+      rw (← of.2) (
+        plan-row (part2040 n of.0) (code_is (code_of Rp2040) (voltages Rp2040) of.0 of.1) refl (cut w.1.0)
+            ∙ ap (λ (l : List ℕ). row_from 43 0 n ++ l) (rtc-row (row_from 5 43 n) h.1.1.0)
+            ∙ row-whole 48 n (eqb-true (length n) 48 h.0),
+        refl,
+      )
+  chip-row Rp235x e c read =
       let bs : List Bool = eqb (length n) 43 ∷ fit_from true n 31 (u16 ∷ u16 ∷ []) ∷ [] in
       let h = all_true bs e in
       let w = fits true n 31 (u16 ∷ u16 ∷ []) h.1.0 in
-      plan-row (new v n) (code_is (code_of Rp235x) (voltages Rp235x) v read) (cut w.0) (cut w.1.0)
-      ∙ row-whole 43 n (eqb-true (length n) 43 h.0)
-
--- the value of an option, or a default
-abbrev or : {A : Type 0} → A → Option A → A
-or a (Some x) = x
-or a None = a
+      let of = valued (part235x n) (core_voltage_of Rp235x (byte_at n 25)) c read in
+      rw (← of.2) (
+        plan-row (part235x n of.0) (code_is (code_of Rp235x) (voltages Rp235x) of.0 of.1) (cut w.0) (cut w.1.0)
+            ∙ row-whole 43 n (eqb-true (length n) 43 h.0),
+        refl,
+      )
 
 abbrev tests : Chip → List ℕ → List Bool
 tests chip n = whole_chip chip n ∷ whole_oscillators n ∷ whole_clocks n ∷ []
@@ -301,24 +299,14 @@ tests chip n = whole_chip chip n ∷ whole_oscillators n ∷ whole_clocks n ∷ 
 -- a row that reads as a plan is the row of the plan's numbers, and the plan is for the chip asked for
 pub row_back : (chip : Chip) (n : List ℕ) (p : ClockConfig) → plan_numbered chip n ≡ Some p
     → (plan_row p ≡ n) × ((board_of p.chip).chip ≡ chip)
-unfolding plan_numbered chip_at plan_at
-row_back Rp2040 n p e = go (whole_plan Rp2040 n) refl (core_voltage_of Rp2040 (byte_at n 25)) refl
+unfolding plan_numbered plan_at
+row_back chip n p e = go (whole_plan chip n) refl (chip_at chip n) refl
   where
-    go : (b : Bool) → whole_plan Rp2040 n ≡ b → (a : Answer CoreVoltage) → core_voltage_of Rp2040 (byte_at n 25) ≡ a
-        → (plan_row p ≡ n) × ((board_of p.chip).chip ≡ Rp2040)
-    go true f (value v) g =
-        let h = all_true (tests Rp2040 n) f in
-        let same = ap (or (plan_at (old v n) n)) (rw (f, g) at e) in
-        (ap plan_row (sym same) ∙ row-2040 n h.1.0 h.1.1.0 h.0 v g, ap (λ (q : ClockConfig). (board_of q.chip).chip) (sym same))
-    go true f (refusal m) g = let z = rw (f, g) at e in let y : ◌≡◌ {A = ℕ} 0 1 = cc in absurd (omega arith)
-    go false f a g = let z = rw f at e in let y : ◌≡◌ {A = ℕ} 0 1 = cc in absurd (omega arith)
-row_back Rp235x n p e = go (whole_plan Rp235x n) refl (core_voltage_of Rp235x (byte_at n 25)) refl
-  where
-    go : (b : Bool) → whole_plan Rp235x n ≡ b → (a : Answer CoreVoltage235) → core_voltage_of Rp235x (byte_at n 25) ≡ a
-        → (plan_row p ≡ n) × ((board_of p.chip).chip ≡ Rp235x)
-    go true f (value v) g =
-        let h = all_true (tests Rp235x n) f in
-        let same = ap (or (plan_at (new v n) n)) (rw (f, g) at e) in
-        (ap plan_row (sym same) ∙ row-235x n h.1.0 h.1.1.0 h.0 v g, ap (λ (q : ClockConfig). (board_of q.chip).chip) (sym same))
-    go true f (refusal m) g = let z = rw (f, g) at e in let y : ◌≡◌ {A = ℕ} 0 1 = cc in absurd (omega arith)
-    go false f a g = let z = rw f at e in let y : ◌≡◌ {A = ℕ} 0 1 = cc in absurd (omega arith)
+    go : (b : Bool) → whole_plan chip n ≡ b → (read : Option ChipConfig) → chip_at chip n ≡ read
+        → (plan_row p ≡ n) × ((board_of p.chip).chip ≡ chip)
+    go true f (Some c) g =
+        let h = all_true (tests chip n) f in
+        let same : plan_at c n ≡ p = ap (λ o. unwrap_or o (plan_at c n)) (rw (f, g) at e) in
+        rw (← same) (chip-row n h.1.0 h.1.1.0 chip h.0 c g)
+    go true f None g = let z = rw (f, g) at e in let y : ◌≡◌ {A = ℕ} 0 1 = cc in absurd (omega arith)
+    go false f read g = let z = rw f at e in let y : ◌≡◌ {A = ℕ} 0 1 = cc in absurd (omega arith)

@@ -2,11 +2,11 @@
 -- part, and a part that is read has these numbers.
 use Rattle.std.specs.Prelude.{Option, Some, None}
 use mathlib.Core.{Bool.Bool, Bool.true, Bool.false, Bool.◌&&◌}
-use mathlib.Core.{List.List, List.[], List.◌∷◌, List.◌++◌, Path.◌≡◌, Path.refl, Path.sym, Path.ap, Path.◌∙◌}
+use mathlib.Core.{List.List, List.[], List.◌∷◌, Path.◌≡◌, Path.refl, Path.sym, Path.ap, Path.◌∙◌}
 use Prim.Native.Nat.{ℕ, zero, suc, min, ◌+◌, ◌≤◌}
 use native.Mathlib.{Numerals.add-one, Omega.arith}
 use borrow.Author.Tests.{eqb-true, eq-eqb, ne_eqb, leb-true, le-leb}
-use lib.{Dec.eqb, Dec.leb, ListN.length, ListN.take, ListN.drop, ListN.replicate, Seq.take-length, Seq.drop-cons}
+use lib.{Dec.eqb, Dec.leb, ListN.length, ListN.get_or, ListN.take, ListN.drop, ListN.replicate, Seq.take-length, Seq.drop-cons}
 use Rattle.base.{specs.Answer.value, specs.Choice.pick, proofs.Bools.either_way}
 use Rattle.std.proofs.lemmas.Bool.{and_parts}
 use Rattle.chip.specs.Voltage.{with_code}
@@ -15,33 +15,41 @@ use Rattle.config.specs.declared.RoscConfig.{RoscConfig}
 use Rattle.config.specs.declared.PeriClkSrc.{PeriClkSrc}
 use Rattle.config.specs.declared.AuxClkConfig.{AuxClkConfig}
 use Rattle.config.specs.declared.RtcClkConfig.{RtcClkConfig}
-use Rattle.config.specs.declared.{RefClkConfig.RefClkConfig, RefClkSrc.RefClkSrc, SysClkSrc.SysClkSrc}
+use Rattle.config.specs.declared.{RefClkSrc.RefClkSrc, SysClkSrc.SysClkSrc}
 use Rattle.config.specs.Codes.{range_code, ref_code, sys_code, peri_aux, aux_code}
 use Rattle.config.specs.Codes.{range_from, ref_from, sys_source_from, peri_from, aux_from}
 use Rattle.settings.proofs.Decoded.{range-code, aux-code}
 use Rattle.numbers.specs.Fields.{nth, byte_at, u8, u16, u32}
-use Rattle.numbers.specs.Row.{ring_row, pll_row, first_row, peri_row, aux_row, rtc_row}
+use Rattle.numbers.specs.Row.{ring_row, pll_row, time_row, peri_row, aux_row, rtc_row}
 use Rattle.numbers.specs.Parts.{fit_from, is_part}
 use Rattle.numbers.specs.Plan.{flagged, strengths_at, ring_at, option_pll_at, divided_at}
 use Rattle.numbers.specs.Typed.{PllTyped, RingTyped, TimeTyped, AuxTyped, ClockTyped}
 
 -- ---- numbers in a row
 
+module _ {A : Type 0} (none : A) where
+  -- k items from index i on
+  abbrev pub items : ℕ → ℕ → List A → List A
+  items zero i l = []
+  items (suc k) i l = get_or l i none ∷ items k (i + 1) l
+
+  pub items-drop : (k i : ℕ) (l : List A) → i + k ≤ length l → items k i l ≡ take k (drop i l)
+  items-drop zero i l h = refl
+  items-drop (suc k) i l h =
+      rw (drop-cons l i none (omega arith), ← add-one i) (ap (λ r. get_or l i none ∷ r) (items-drop k (i + 1) l (omega arith)))
+
+  pub items-whole : (k : ℕ) (l : List A) → length l ≡ k → items k 0 l ≡ l
+  items-whole k l e = items-drop k 0 l (omega arith) ∙ ap (λ (n : ℕ). take n l) (sym e) ∙ take-length l
+
 -- k numbers from index i on
 abbrev pub row_from : ℕ → ℕ → List ℕ → List ℕ
-row_from zero i l = []
-row_from (suc k) i l = nth l i ∷ row_from k (i + 1) l
+row_from = items 0
 
 pub row-drop : (k i : ℕ) (l : List ℕ) → i + k ≤ length l → row_from k i l ≡ take k (drop i l)
-row-drop zero i l h = refl
-row-drop (suc k) i l h =
-    rw (drop-cons l i 0 (omega arith), ← add-one i) (ap (λ (r : List ℕ). nth l i ∷ r) (row-drop k (i + 1) l (omega arith)))
-
-pub row-take : (k : ℕ) (l : List ℕ) → k ≤ length l → row_from k 0 l ≡ take k l
-row-take k l h = row-drop k 0 l (omega arith)
+row-drop = items-drop 0
 
 pub row-whole : (k : ℕ) (l : List ℕ) → length l ≡ k → row_from k 0 l ≡ l
-row-whole k l e = row-take k l (omega arith) ∙ ap (λ (n : ℕ). take n l) (sym e) ∙ take-length l
+row-whole = items-whole 0
 
 pub cut : {n m : ℕ} → n ≤ m → min n m ≡ n
 cut h = omega arith
@@ -180,17 +188,8 @@ pll-row n e =
     (λ f one w. rw f (λ i. sym one i ∷ cut w.1.0 i ∷ cut w.1.1.0 i ∷ cut w.1.1.1.0 i
     ∷ cut w.1.1.1.1.0 i ∷ [])) (λ f. rw f)
 
-abbrev pub time_row : Option ℕ → List ℕ
-time_row (Some n) = 1 ∷ n ∷ []
-time_row None = 0 ∷ 0 ∷ []
-
 abbrev pub time_limits : List ℕ
 time_limits = 1 ∷ u32 ∷ []
-
-pub first-row : (code : ℕ) (o : Option ℕ) (c : RefClkConfig)
-    → first_row code o c ≡ code ∷ (time_row o ++ (ref_code c.src ∷ c.div ∷ []))
-first-row code (Some n) c = refl
-first-row code None c = refl
 
 pub time-back : (o : Option ℕ) → TimeTyped o
     → (row_from 2 0 (time_row o) ≡ time_row o) × (is_part (time_row o) 0 time_limits ≡ true)
@@ -216,7 +215,7 @@ peri-back (Some s) = (
   there-fits (peri_row (Some s)) peri_limits refl (omega (arith, (peri-code s).1)),
   rw (peri-code s).0,
 )
-peri-back no_peri = (refl, refl, refl)
+peri-back None = (refl, refl, refl)
 
 pub peri-row : (n : List ℕ) → is_part n 0 peri_limits ≡ true
     → peri_row (flagged n 0 (peri_from (nth n 1))) ≡ row_from 2 0 n

@@ -3,52 +3,37 @@ use Rattle.std.specs.Prelude.{Option, Some, None}
 use mathlib.Core.{Path.◌≡◌, Path.refl, List.List}
 use Prim.Native.Nat.{ℕ, ◌+◌, ◌≤◌}
 use native.Mathlib.Omega.{arith}
-use lib.{ListN.length, ListN.take, ListN.drop, ListN.length-append, Seq.take-append_seam, Seq.sets-eq}
+use lib.{ListN.length, ListN.take, ListN.drop, ListN.length-append, ListN.length-replicate, Seq.take-append_seam, Seq.sets-eq}
 use Rattle.base.specs.Placed.{Placed}
 use Rattle.config.specs.declared.RoscConfig.{RoscConfig}
 use Rattle.config.specs.declared.XoscConfig.{XoscConfig}
-use Rattle.pll.specs.declared.PllConfig.{PllConfig}
-use Rattle.config.specs.declared.PeriClkSrc.{PeriClkSrc}
-use Rattle.config.specs.declared.AuxClkConfig.{AuxClkConfig}
-use Rattle.config.specs.declared.RtcClkConfig.{RtcClkConfig}
-use Rattle.config.specs.declared.{RefClkConfig.RefClkConfig, ChipConfig.ChipConfig}
+use Rattle.config.specs.declared.{ChipConfig.ChipConfig}
 use Rattle.config.specs.declared.ChipConfig.TheVariants.{Rp2040 as on2040, Rp235x as on235x}
 use Rattle.config.specs.declared.ClockConfig.{ClockConfig}
-use Rattle.config.specs.Board.{board_of}
-use Rattle.numbers.specs.Row.{pll_row, oscillator_row, first_row, peri_row, aux_row, rtc_row, clock_row, rtc_numbers, plan_row}
+use Rattle.numbers.specs.Row.{part_row, ring_on, crystal_on, pll_on, sys_pll_in, usb_pll_in, time_on, peri_on, aux_on, rtc_on}
+use Rattle.numbers.specs.Row.{oscillator_row, clock_row, rtc_numbers, plan_row}
 
-pll-long : (o : Option PllConfig) → length (pll_row o) ≡ 5
-pll-long (Some p) = refl
-pll-long None = refl
-
-first-long : (code : ℕ) (o : Option ℕ) (c : RefClkConfig) → length (first_row code o c) ≡ 5
-first-long code (Some n) c = refl
-first-long code None c = refl
-
-peri-long : (o : Option PeriClkSrc) → length (peri_row o) ≡ 2
-peri-long (Some s) = refl
-peri-long None = refl
-
-aux-long : (o : Option AuxClkConfig) → length (aux_row o) ≡ 4
-aux-long (Some a) = refl
-aux-long None = refl
+-- the row of a part is as long as that of an absent one
+part-long : {A : Type 0} (size : ℕ) (on : A → List ℕ) → ((part : A) → length (on part) ≡ size) → (o : Option A)
+    → length (part_row size on o) ≡ size + 1
+part-long size on each (Some part) = omega (arith, each part)
+part-long size on each None = length-replicate (size + 1) 0
 
 rtc-most : (c : ChipConfig) → length (rtc_numbers c) ≤ 5
-rtc-most (on2040 c) = go c.rtc_clk
-  where
-    go : (o : Option RtcClkConfig) → length (rtc_row o) ≤ 5
-    go (Some r) = omega arith
-    go None = omega arith
+rtc-most (on2040 c) = omega (arith, part-long 4 rtc_on (λ r. refl) c.rtc_clk)
 rtc-most (on235x c) = omega arith
 
 oscillators-long : (r : Option RoscConfig) (x : Option XoscConfig) → length (oscillator_row r x) ≡ 25
 unfolding oscillator_row
-oscillators-long (Some r) (Some x) =
-    simp length-append (omega (arith, pll-long x.sys_pll, pll-long x.usb_pll))
-oscillators-long (Some r) None = refl
-oscillators-long None (Some x) =
-    simp length-append (omega (arith, pll-long x.sys_pll, pll-long x.usb_pll))
-oscillators-long None None = refl
+oscillators-long r x =
+    simp length-append
+    (omega (
+      arith,
+      part-long 11 ring_on (λ r. refl) r,
+      part-long 2 crystal_on (λ x. refl) x,
+      part-long 4 pll_on (λ p. refl) (sys_pll_in x),
+      part-long 4 pll_on (λ p. refl) (usb_pll_in x),
+    ))
 
 clocks-long : (p : ClockConfig) → length (clock_row p) ≡ 18
 unfolding clock_row
@@ -56,10 +41,10 @@ clocks-long p =
     simp length-append
     (omega (
       arith,
-      first-long (board_of p.chip).volts.code p.voltage_stabilization_delay_us p.ref_clk,
-      peri-long p.peri_clk_src,
-      aux-long p.usb_clk,
-      aux-long p.adc_clk,
+      part-long 1 time_on (λ time. refl) p.voltage_stabilization_delay_us,
+      part-long 1 peri_on (λ src. refl) p.peri_clk_src,
+      part-long 3 aux_on (λ a. refl) p.usb_clk,
+      part-long 3 aux_on (λ a. refl) p.adc_clk,
     ))
 
 pub row-most : (p : ClockConfig) → length (plan_row p) ≤ 48

@@ -1,14 +1,14 @@
 -- The start and the call of a bench that is given as 113 numbers and its kept bytes (docs/FORMAT.md, Bench).
-use mathlib.Core.{Bool.Bool, Bool.◌||◌, Bool.◌&&◌, Bool.not, Path.◌≡◌, List.List, List.[], List.◌∷◌, List.◌++◌}
+use mathlib.Core.{Bool.Bool, Bool.◌||◌, Bool.◌&&◌, Bool.not, List.List, List.[], List.◌∷◌, List.◌++◌}
 use Rattle.std.specs.Prelude.{ℕ, zero, suc, ◌+◌, ◌*◌}
 use lib.{Dec.ltb, ListN.replicate, Seq.sets}
-use Rattle.base.specs.{Answer.Answer, Answer.value, Answer.refusal, Choice.pick, Choice.bit}
+use Rattle.base.specs.{Answer.Answer, Choice.pick, Choice.bit}
 use Rattle.numbers.specs.Fields.{nth, ten_at}
 use Rattle.runner.specs.declared.Stepper.{Stepper}
 use Rattle.boards.specs.declared.Bench.{Bench}
 use Rattle.boards.specs.Bench.{board_at, bench_of, start_all_of}
-use Rattle.numbers.specs.Answers.{answer_number, malformed}
-use Rattle.numbers.specs.Run.{state_in, is_runner, progress_number, go_number}
+use Rattle.numbers.specs.Answers.{answer_number, left_by, malformed}
+use Rattle.numbers.specs.Run.{state_in, is_runner, progress_number, Starts}
 
 -- board n as a runner's 15 numbers: position, lock polls, total, stopped mark, the kept length, which is the last of the 113, and
 -- the ten frequencies
@@ -59,13 +59,11 @@ abbrev pub fresh_numbers : ℕ → List ℕ
 fresh_numbers len = replicate 112 0 ++ (len ∷ [])
 
 -- the numbers after a start; a refusal leaves them unchanged
-abbrev pub start_all_leaves : Answer Unit → List ℕ → ℕ → List ℕ
-start_all_leaves (value tt) ns len = fresh_numbers len
-start_all_leaves (refusal n) ns len = ns
+abbrev pub start_all_leaves : Answer (Unit {0}) → List ℕ → ℕ → List ℕ
+start_all_leaves answer ns len = left_by (λ x before. fresh_numbers len) answer ns
 
--- the contract of a start of all boards: its answer r, the numbers and the kept bytes after it
-pub record StartAllCall (ns kept sheet : List ℕ) (r : ℕ) (ns' kept' : List ℕ) : Type 0 where
-  pub answer : r ≡ answer_number go_number (start_all_of (bench_in ns kept) sheet).answer
-  pub numbers : ns'
-      ≡ start_all_leaves (start_all_of (bench_in ns kept) sheet).answer ns (start_all_of (bench_in ns kept) sheet).next.len
-  pub bytes : kept' ≡ (start_all_of (bench_in ns kept) sheet).next.kept
+-- the contract of a start of all boards
+abbrev pub StartAllCall : List ℕ → List ℕ → List ℕ → ℕ → List ℕ → List ℕ → Type 0
+StartAllCall ns kept sheet =
+    let o = start_all_of (bench_in ns kept) sheet in
+    Starts o.answer (fresh_numbers o.next.len) o.next.kept ns

@@ -3,7 +3,8 @@
 use mathlib.Core.{Bool.Bool, Bool.true, Bool.◌&&◌, List.List, List.[], List.◌∷◌}
 use Rattle.std.specs.Prelude.{ℕ, ◌+◌, Option, Some, None}
 use lib.{Dec.eqb, Dec.leb, ListN.length}
-use Rattle.base.specs.{Answer.Answer, Answer.value, Answer.refusal, Choice.pick}
+use Rattle.std.specs.Option.{option_map}
+use Rattle.base.specs.Choice.{pick}
 use Rattle.chip.specs.declared.{Chip.Chip, Chip.TheVariants.Rp2040, Chip.TheVariants.Rp235x}
 use Rattle.chip.specs.declared.voltage.{CoreVoltage.CoreVoltage, CoreVoltage235.CoreVoltage235}
 use Rattle.chip.specs.Voltage.{core_voltage_of}
@@ -19,6 +20,7 @@ use Rattle.config.specs.declared.ClockConfig.{ClockConfig}
 use Rattle.config.specs.Codes.{range_from, ref_from, sys_source_from, peri_from, aux_from}
 use Rattle.numbers.specs.Fields.{nth, byte_at, half_at, pll_at, u8, u16, u32}
 use Rattle.numbers.specs.Parts.{fit_from, is_part}
+use Rattle.numbers.specs.Answers.{of_value}
 
 -- the greatest values: 1 for a flag, the last code for a source or a range; a PLL needs a crystal
 unfoldable pub whole_oscillators : List ℕ → Bool
@@ -109,19 +111,17 @@ rtc_at n =
     flagged n 43
     (record { src = aux_from (nth n 44); div_int = nth n 45; div_frac = byte_at n 46; phase = byte_at n 47 })
 
-abbrev pub with2040 : Answer CoreVoltage → List ℕ → Option ChipConfig
-with2040 (value v) n =
-    Some (on2040 (record { core_voltage = v; div_int = nth n 31; div_frac = byte_at n 32; rtc_clk = rtc_at n }))
-with2040 (refusal m) n = None
+-- the chip-specific part: voltage, system divider and RTC
+abbrev pub part2040 : List ℕ → CoreVoltage → ChipConfig
+part2040 n v = on2040 (record { core_voltage = v; div_int = nth n 31; div_frac = byte_at n 32; rtc_clk = rtc_at n })
 
-abbrev pub with235x : Answer CoreVoltage235 → List ℕ → Option ChipConfig
-with235x (value v) n = Some (on235x (record { core_voltage = v; div_int = half_at n 31; div_frac = half_at n 32 }))
-with235x (refusal m) n = None
+abbrev pub part235x : List ℕ → CoreVoltage235 → ChipConfig
+part235x n v = on235x (record { core_voltage = v; div_int = half_at n 31; div_frac = half_at n 32 })
 
--- the chip-specific part: voltage, system divider and RTC; none for a number that is no voltage code of the chip
+-- none for a number that is no voltage code of the chip
 unfoldable pub chip_at : Chip → List ℕ → Option ChipConfig
-chip_at Rp2040 n = with2040 (core_voltage_of Rp2040 (byte_at n 25)) n
-chip_at Rp235x n = with235x (core_voltage_of Rp235x (byte_at n 25)) n
+chip_at Rp2040 n = of_value (part2040 n) (core_voltage_of Rp2040 (byte_at n 25))
+chip_at Rp235x n = of_value (part235x n) (core_voltage_of Rp235x (byte_at n 25))
 
 unfoldable pub plan_at : ChipConfig → List ℕ → ClockConfig
 plan_at c n =
@@ -137,9 +137,5 @@ plan_at c n =
       voltage_stabilization_delay_us = settling_at n;
     }
 
-abbrev pub with_chip : Option ChipConfig → List ℕ → Option ClockConfig
-with_chip (Some c) n = Some (plan_at c n)
-with_chip None n = None
-
 unfoldable pub plan_numbered : Chip → List ℕ → Option ClockConfig
-plan_numbered chip n = pick (whole_plan chip n) (with_chip (chip_at chip n) n) None
+plan_numbered chip n = pick (whole_plan chip n) (option_map (λ c. plan_at c n) (chip_at chip n)) None

@@ -1,9 +1,10 @@
 -- Writes a plan as a row of numbers (docs/CASES.md, A plan in numbers): the parts are in order, an optional part begins with a
 -- flag, and the numbers of an absent part are 0.
-use Rattle.std.specs.Prelude.{Option, Some, None}
+use Rattle.std.specs.Prelude.{Option, Some, None, replicate}
+use Rattle.std.specs.Option.{option_and_then}
 use Rattle.config.specs.declared.RoscConfig.{RoscConfig}
 use Rattle.config.specs.declared.XoscConfig.{XoscConfig}
-use Rattle.std.specs.Prelude.{List, [], ◌∷◌, ◌++◌, ℕ}
+use Rattle.std.specs.Prelude.{List, [], ◌∷◌, ◌++◌, ℕ, ◌+◌}
 use Rattle.pll.specs.declared.PllConfig.{PllConfig}
 use Rattle.config.specs.declared.{PeriClkSrc.PeriClkSrc, AuxClkConfig.AuxClkConfig, RtcClkConfig.RtcClkConfig}
 use Rattle.config.specs.declared.{RefClkConfig.RefClkConfig, SysClkSrc.SysClkSrc, ChipConfig.ChipConfig}
@@ -11,54 +12,76 @@ use Rattle.config.specs.declared.ClockConfig.{ClockConfig}
 use Rattle.config.specs.Board.{board_of}
 use Rattle.config.specs.Codes.{range_code, ref_code, sys_code, peri_aux, aux_code}
 
--- the ring: flag, Hz, range, eight strengths, divider
-abbrev pub ring_row : Option RoscConfig → List ℕ
-ring_row (Some r) =
-    1 ∷ r.hz ∷ range_code r.range
-    ∷ r.drive_strength.s0 ∷ r.drive_strength.s1 ∷ r.drive_strength.s2 ∷ r.drive_strength.s3
-    ∷ r.drive_strength.s4 ∷ r.drive_strength.s5 ∷ r.drive_strength.s6 ∷ r.drive_strength.s7
-    ∷ r.div ∷ []
-ring_row None = 0 ∷ 0 ∷ 0 ∷ 0 ∷ 0 ∷ 0 ∷ 0 ∷ 0 ∷ 0 ∷ 0 ∷ 0 ∷ 0 ∷ []
+-- an optional part: the flag 1 and its numbers, of which there are this many, or zeros
+abbrev pub part_row : {A : Type 0} → ℕ → (A → List ℕ) → Option A → List ℕ
+part_row size on (Some part) = 1 ∷ on part
+part_row size on None = replicate (size + 1) 0
 
--- the crystal: flag, Hz, delay multiplier
+-- the ring: Hz, range, eight strengths, divider
+abbrev pub ring_on : RoscConfig → List ℕ
+ring_on r =
+    let d = r.drive_strength in
+    r.hz ∷ range_code r.range ∷ d.s0 ∷ d.s1 ∷ d.s2 ∷ d.s3 ∷ d.s4 ∷ d.s5 ∷ d.s6 ∷ d.s7 ∷ r.div ∷ []
+
+abbrev pub ring_row : Option RoscConfig → List ℕ
+ring_row = part_row 11 ring_on
+
+-- the crystal: Hz, delay multiplier
+abbrev pub crystal_on : XoscConfig → List ℕ
+crystal_on x = x.hz ∷ x.delay_multiplier ∷ []
+
 abbrev pub crystal_row : Option XoscConfig → List ℕ
-crystal_row (Some x) = 1 ∷ x.hz ∷ x.delay_multiplier ∷ []
-crystal_row None = 0 ∷ 0 ∷ 0 ∷ []
+crystal_row = part_row 2 crystal_on
 
 -- the PLLs belong to the crystal; without one there is no PLL
 abbrev pub sys_pll_in : Option XoscConfig → Option PllConfig
-sys_pll_in (Some x) = x.sys_pll
-sys_pll_in None = None
+sys_pll_in = option_and_then (λ x. x.sys_pll)
 
 abbrev pub usb_pll_in : Option XoscConfig → Option PllConfig
-usb_pll_in (Some x) = x.usb_pll
-usb_pll_in None = None
+usb_pll_in = option_and_then (λ x. x.usb_pll)
 
--- a PLL: flag, four dividers
+-- a PLL: four dividers
+abbrev pub pll_on : PllConfig → List ℕ
+pll_on p = p.refdiv ∷ p.fbdiv ∷ p.post_div1 ∷ p.post_div2 ∷ []
+
 abbrev pub pll_row : Option PllConfig → List ℕ
-pll_row (Some p) = 1 ∷ p.refdiv ∷ p.fbdiv ∷ p.post_div1 ∷ p.post_div2 ∷ []
-pll_row None = 0 ∷ 0 ∷ 0 ∷ 0 ∷ 0 ∷ []
+pll_row = part_row 4 pll_on
 
 unfoldable pub oscillator_row : Option RoscConfig → Option XoscConfig → List ℕ
 oscillator_row r x = ring_row r ++ (crystal_row x ++ (pll_row (sys_pll_in x) ++ pll_row (usb_pll_in x)))
 
--- voltage code; flag and µs of the settling time; source and divider of the reference clock
+-- the settling time: µs
+abbrev pub time_on : ℕ → List ℕ
+time_on time = time ∷ []
+
+abbrev pub time_row : Option ℕ → List ℕ
+time_row = part_row 1 time_on
+
+-- the reference clock: source, divider
+abbrev pub ref_numbers : RefClkConfig → List ℕ
+ref_numbers c = ref_code c.src ∷ c.div ∷ []
+
+-- voltage code, settling time, reference clock
 abbrev pub first_row : ℕ → Option ℕ → RefClkConfig → List ℕ
-first_row code (Some time) c = code ∷ 1 ∷ time ∷ ref_code c.src ∷ c.div ∷ []
-first_row code None c = code ∷ 0 ∷ 0 ∷ ref_code c.src ∷ c.div ∷ []
+first_row code time c = code ∷ (time_row time ++ ref_numbers c)
 
 -- the system clock: source, whole part, fraction
 abbrev pub sys_row : SysClkSrc → ℕ → ℕ → List ℕ
 sys_row src whole fraction = sys_code src ∷ whole ∷ fraction ∷ []
 
-abbrev pub peri_row : Option PeriClkSrc → List ℕ
-peri_row (Some src) = 1 ∷ peri_aux src ∷ []
-peri_row None = 0 ∷ 0 ∷ []
+-- the peripheral clock: source
+abbrev pub peri_on : PeriClkSrc → List ℕ
+peri_on src = peri_aux src ∷ []
 
--- the USB or ADC clock: flag, source, divider, phase
+abbrev pub peri_row : Option PeriClkSrc → List ℕ
+peri_row = part_row 1 peri_on
+
+-- the USB or ADC clock: source, divider, phase
+abbrev pub aux_on : AuxClkConfig → List ℕ
+aux_on a = aux_code a.src ∷ a.div ∷ a.phase ∷ []
+
 abbrev pub aux_row : Option AuxClkConfig → List ℕ
-aux_row (Some a) = 1 ∷ aux_code a.src ∷ a.div ∷ a.phase ∷ []
-aux_row None = 0 ∷ 0 ∷ 0 ∷ 0 ∷ []
+aux_row = part_row 3 aux_on
 
 unfoldable pub clock_row : ClockConfig → List ℕ
 clock_row p =
@@ -66,10 +89,12 @@ clock_row p =
     ++ (sys_row p.sys_clk_src (board_of p.chip).whole (board_of p.chip).fraction
     ++ (peri_row p.peri_clk_src ++ (aux_row p.usb_clk ++ aux_row p.adc_clk)))
 
--- the RTC clock: flag, source, whole part, fraction, phase
+-- the RTC clock: source, whole part, fraction, phase
+abbrev pub rtc_on : RtcClkConfig → List ℕ
+rtc_on r = aux_code r.src ∷ r.div_int ∷ r.div_frac ∷ r.phase ∷ []
+
 abbrev pub rtc_row : Option RtcClkConfig → List ℕ
-rtc_row (Some r) = 1 ∷ aux_code r.src ∷ r.div_int ∷ r.div_frac ∷ r.phase ∷ []
-rtc_row None = 0 ∷ 0 ∷ 0 ∷ 0 ∷ 0 ∷ []
+rtc_row = part_row 4 rtc_on
 
 -- the RP235x has no RTC clock
 abbrev pub rtc_numbers : ChipConfig → List ℕ

@@ -2,13 +2,13 @@
 use mathlib.Core.{Bool.Bool, Path.◌≡◌, List.List, List.◌∷◌, List.◌++◌}
 use Rattle.std.specs.Prelude.{ℕ}
 use lib.{Dec.eqb, Dec.leb, ListN.get_or, ListN.set, ListN.take, ListN.drop, ListN.replicate}
-use Rattle.base.specs.{Choice.pick, Choice.bit, Answer.Answer, Answer.value, Answer.refusal}
+use Rattle.base.specs.{Choice.pick, Choice.bit, Answer.Answer}
 use Rattle.step.specs.Steps.{pack_of}
 use Rattle.runner.specs.declared.{State.State, Runner.Runner}
 use Rattle.runner.specs.declared.Reply.{Reply}
 use Rattle.runner.specs.declared.Reply.TheVariants.{Done, Handed, Passed, Waiting}
 use Rattle.runner.specs.Run.{advance_of, start_of}
-use Rattle.numbers.specs.Answers.{answer_number, malformed}
+use Rattle.numbers.specs.Answers.{answer_number, left_by, malformed}
 
 -- numbers 0 to 3: position, lock polls, total, stopped mark
 abbrev pub state_in : List ℕ → State
@@ -70,11 +70,16 @@ started_numbers len = 0 ∷ 0 ∷ 0 ∷ 0 ∷ len ∷ replicate 10 0
 
 -- the numbers after a start; a refusal leaves them unchanged
 abbrev pub start_leaves : Answer (Unit {0}) → List ℕ → ℕ → List ℕ
-start_leaves (value x) ns len = started_numbers len
-start_leaves (refusal n) ns len = ns
+start_leaves answer ns len = left_by (λ x before. started_numbers len) answer ns
 
--- the contract of a start: its answer r, the numbers and the kept bytes after it
-pub record StartCall (ns kept sheet : List ℕ) (r : ℕ) (ns' kept' : List ℕ) : Type 0 where
-  pub answer : r ≡ answer_number go_number (start_of (runner_in ns kept) sheet).answer
-  pub numbers : ns' ≡ start_leaves (start_of (runner_in ns kept) sheet).answer ns (start_of (runner_in ns kept) sheet).next.len
-  pub bytes : kept' ≡ (start_of (runner_in ns kept) sheet).next.kept
+-- a start of what has these numbers: its answer r, the numbers and the kept bytes after it
+pub record Starts (started : Answer (Unit {0})) (fresh kept ns : List ℕ) (r : ℕ) (ns' kept' : List ℕ) : Type 0 where
+  pub answer : r ≡ answer_number go_number started
+  pub numbers : ns' ≡ left_by (λ x before. fresh) started ns
+  pub bytes : kept' ≡ kept
+
+-- the contract of a start of a runner
+abbrev pub StartCall : List ℕ → List ℕ → List ℕ → ℕ → List ℕ → List ℕ → Type 0
+StartCall ns kept sheet =
+    let o = start_of (runner_in ns kept) sheet in
+    Starts o.answer (started_numbers o.next.len) o.next.kept ns

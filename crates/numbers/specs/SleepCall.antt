@@ -3,11 +3,11 @@ use Rattle.std.specs.Prelude.{Option, Some, None}
 use mathlib.Core.{Path.◌≡◌, Bool.Bool, Bool.◌&&◌, Bool.◌||◌, List.List}
 use Rattle.std.specs.Prelude.{ℕ}
 use lib.{Dec.leb, Dec.ltb, ListN.get_or, Seq.sets}
-use Rattle.base.specs.{Answer.Answer, Answer.value, Answer.refusal, Choice.pick, Placed.past}
+use Rattle.base.specs.{Choice.pick, Placed.past}
 use Rattle.sleep.specs.declared.{Slot.Slot, steps.Step.Step}
 use Rattle.sleep.specs.Sleep.{SleepOutcome}
 use Rattle.numbers.specs.Slots.{words_at, slots_in, slots_numbers, steps_numbers}
-use Rattle.numbers.specs.Answers.{answer_number, malformed}
+use Rattle.numbers.specs.Answers.{answer_number, left_by, given_number, left_given}
 
 -- each of the four flags is 0 or 1; other numbers are of no slots
 abbrev pub are_slots : List ℕ → Bool
@@ -20,17 +20,11 @@ asked_with call slots slot words =
 
 -- the count of numbers written for the steps, two for each step
 abbrev pub steps_number : Option SleepOutcome → List ℕ → ℕ
-steps_number None steps = malformed
-steps_number (Some o) steps = answer_number (λ (s : List Step). past steps 0 (steps_numbers s)) o.answer
+steps_number asked steps = given_number (λ o. answer_number (λ (s : List Step). past steps 0 (steps_numbers s)) o.answer) asked
 
--- the numbers after the call; a refusal leaves them unchanged
-abbrev pub left_by : Answer (List Step) → (List Step → List ℕ) → List ℕ → List ℕ
-left_by (value s) f numbers = sets numbers 0 (f s)
-left_by (refusal n) f numbers = numbers
-
+-- the numbers after the call, with those of its outcome and its steps written over the old ones
 abbrev pub left_asked : Option SleepOutcome → (SleepOutcome → List Step → List ℕ) → List ℕ → List ℕ
-left_asked None f numbers = numbers
-left_asked (Some o) f numbers = left_by o.answer (f o) numbers
+left_asked asked f = left_given (λ o. left_by (λ s numbers. sets numbers 0 (f o s)) o.answer) asked
 
 -- the call's contract: its answer r, and all numbers after it
 pub record SlotsCall (o : Option SleepOutcome) (slots words steps : List ℕ) (r : ℕ) (slots' words' steps' : List ℕ) : Type 0

@@ -13,7 +13,8 @@ use Rattle.std.specs.Prelude.{Result}
 use Rattle.base.specs.declared.refusal.Refusal.{Refusal}
 use Rattle.base.specs.Answer.{answer_in}
 use Rattle.wording.specs.Made.{MadeCall, order_made, reading_made}
-use Rattle.wording.specs.Demand3.{settings_in, MakeSheets}
+use Rattle.export.specs.Demand3.{settings_in}
+use Rattle.wording.specs.Demand3.{MakeSheets}
 
 record Wrote (order : Option (Answer ClockConfig)) (reading : ℕ) (before : List ℕ) (n : ℕ) (after : List ℕ) : Type 0 where
   pub config : ClockConfig

@@ -1,8 +1,8 @@
 -- The derived tests of the parts of settings are those of their numbers.
 use Rattle.std.specs.Prelude.{Option, Some, None, ℕ, ◌≡◌}
-use Rattle.std.specs.Option.{option_eq, option_map}
+use Rattle.std.specs.Option.{option_eq, option_map, option_map_or}
 use Rattle.std.proofs.Math.Bool.{and_assoc}
-use mathlib.Core.{Path.sym, Path.refl, Path.ap, Path.◌∙◌, Bool.◌&&◌}
+use mathlib.Core.{Path.sym, Path.refl, Path.ap, Path.◌∙◌, Bool.Bool, Bool.◌&&◌, List.List, List.[], List.◌∷◌}
 use lib.Dec.{eqb}
 use borrow.Author.Tests.{eqb-true, eqb-false}
 use denote.Enum.Declared.{Declared}
@@ -58,41 +58,32 @@ peri_src_same = same-code peri_src.the_type tt peri_aux peri_from (λ x. (peri-c
 aux_src_same : (a b : AuxClkSrc) → sameb aux_src.the_type a b ≡ eqb (aux_code a) (aux_code b)
 aux_src_same = same-code aux_src.the_type tt aux_code aux_from (λ x. (aux-code x).0)
 
+-- Optional parts are the same exactly where both are absent or both are there and agree in their numbers, of which each has one or more.
+optional_same : {A : Type 0} (same : A → A → Bool) (first : A → ℕ) (rest : A → List ℕ)
+    → ((x y : A) → same x y ≡ agree (first x ∷ rest x) (first y ∷ rest y)) → (a b : Option A)
+    → option_eq same a b ≡ agree (option_map_or (λ x. first x ∷ rest x) a []) (option_map_or (λ x. first x ∷ rest x) b [])
+optional_same same first rest each None None = refl
+optional_same same first rest each None (Some y) = refl
+optional_same same first rest each (Some x) None = refl
+optional_same same first rest each (Some x) (Some y) = each x y
+
 pub ring_same : (a b : Option RoscConfig) → option_eq (ring.eq-value).it a b ≡ agree (ring_numbers a) (ring_numbers b)
-ring_same None None = refl
-ring_same None (Some y) = refl
-ring_same (Some x) None = refl
-ring_same (Some x) (Some y) = simp (range_same, and_assoc)
+ring_same = optional_same _ _ _ (λ x y. simp (range_same, and_assoc))
 
 pub pll_same : (a b : Option PllConfig) → option_eq (pll.eq-value).it a b ≡ agree (pll_numbers a) (pll_numbers b)
-pll_same None None = refl
-pll_same None (Some y) = refl
-pll_same (Some x) None = refl
-pll_same (Some x) (Some y) = simp and_assoc
+pll_same = optional_same _ _ _ (λ x y. simp and_assoc)
 
 pub cycles_same : (a b : Option ℕ) → option_eq eqb a b ≡ agree (cycles_numbers a) (cycles_numbers b)
-cycles_same None None = refl
-cycles_same None (Some y) = refl
-cycles_same (Some x) None = refl
-cycles_same (Some x) (Some y) = refl
+cycles_same = optional_same _ _ _ (λ x y. refl)
 
 pub peri_same : (a b : Option PeriClkSrc) → option_eq (sameb peri_src.the_type) a b ≡ agree (peri_numbers a) (peri_numbers b)
-peri_same None None = refl
-peri_same None (Some y) = refl
-peri_same (Some x) None = refl
-peri_same (Some x) (Some y) = peri_src_same x y
+peri_same = optional_same _ _ _ peri_src_same
 
 pub aux_same : (a b : Option AuxClkConfig) → option_eq (aux.eq-value).it a b ≡ agree (aux_numbers a) (aux_numbers b)
-aux_same None None = refl
-aux_same None (Some y) = refl
-aux_same (Some x) None = refl
-aux_same (Some x) (Some y) = simp (aux_src_same, and_assoc)
+aux_same = optional_same _ _ _ (λ x y. simp (aux_src_same, and_assoc))
 
 pub rtc_same : (a b : Option RtcClkConfig) → option_eq (rtc.eq-value).it a b ≡ agree (rtc_numbers a) (rtc_numbers b)
-rtc_same None None = refl
-rtc_same None (Some y) = refl
-rtc_same (Some x) None = refl
-rtc_same (Some x) (Some y) = simp (aux_src_same, and_assoc)
+rtc_same = optional_same _ _ _ (λ x y. simp (aux_src_same, and_assoc))
 
 -- of a crystal without its PLLs
 abbrev pub hz_and_delay : Option Crystal → Option (ℕ × ℕ)

@@ -1,23 +1,17 @@
 -- Demand 3 of `make`: two sheets are equal exactly when their plans agree in every setting.
-use Rattle.std.specs.Prelude.{Option, Some, None}
+use Rattle.std.specs.Prelude.{Option, Some}
 use mathlib.Core.{Path.◌≡◌, Logic.◌↔◌, List.List}
 use Rattle.std.specs.Prelude.{ℕ}
-use Rattle.base.specs.Answer.{Answer, value, refusal}
-use Rattle.config.specs.declared.ClockConfig.{ClockConfig}
-use Rattle.settings.specs.Settings.{settings_of}
+use Rattle.base.specs.Answer.{value}
 use Rattle.settings.specs.declared.Settings.{Settings}
 use Rattle.sheet.specs.Demand3.{SameUpTo}
 use Rattle.std.specs.Prelude.{Result}
 use Rattle.base.specs.declared.refusal.Refusal.{Refusal}
 use Rattle.base.specs.Answer.{answer_in}
+use Rattle.export.specs.Demand3.{settings_in}
 use Rattle.wording.specs.Made.{order_made, reading_made, MakeCall}
 
 -- the settings of the plan that is ordered, where there is one
-abbrev pub settings_in : Option (Answer ClockConfig) → ℕ → Option Settings
-settings_in (Some (value plan)) reading = Some (settings_of plan reading)
-settings_in (Some (refusal n)) reading = None
-settings_in None reading = None
-
 abbrev pub settings_made : List ℕ → Option Settings
 settings_made line = settings_in (order_made line) (reading_made line)
 

@@ -1,71 +1,50 @@
--- The settings that count, part by part, each as its numbers (docs/FORMAT.md, Settings that count). An absent part has none.
-use Rattle.std.specs.Prelude.{Option, Some, None}
+-- The settings that count, part by part, each as its numbers (docs/FORMAT.md, Settings that count). An absent part has none;
+-- those of a part that is there are in numbers/specs/Row.
+use Rattle.std.specs.Prelude.{Option}
+use Rattle.std.specs.Option.{option_map_or, option_and_then}
 use Rattle.std.specs.Prelude.{List, [], ◌∷◌, ℕ}
 use Rattle.chip.specs.declared.{Chip.Chip, Chip.TheVariants.Rp2040, Chip.TheVariants.Rp235x}
-use Rattle.config.specs.declared.{RoscConfig.RoscConfig, RefClkConfig.RefClkConfig}
+use Rattle.config.specs.declared.{RoscConfig.RoscConfig}
 use Rattle.pll.specs.declared.PllConfig.{PllConfig}
 use Rattle.config.specs.declared.{PeriClkSrc.PeriClkSrc, AuxClkConfig.AuxClkConfig}
 use Rattle.config.specs.declared.{RtcClkConfig.RtcClkConfig}
 use Rattle.settings.specs.declared.{Crystal.Crystal, Settings.Settings}
-use Rattle.config.specs.Codes.{range_code, ref_code, sys_code, peri_aux, aux_code}
+use Rattle.numbers.specs.Row.{ring_on, pll_on, time_on, ref_numbers, sys_row, peri_on, aux_on, rtc_on}
 
 abbrev pub chip_code : Chip → ℕ
 chip_code Rp2040 = 0
 chip_code Rp235x = 1
 
-abbrev pub ring_on : RoscConfig → List ℕ
-ring_on r =
-    let d = r.drive_strength in
-    r.hz ∷ range_code r.range ∷ d.s0 ∷ d.s1 ∷ d.s2 ∷ d.s3 ∷ d.s4 ∷ d.s5 ∷ d.s6 ∷ d.s7 ∷ r.div ∷ []
-
 abbrev pub ring_numbers : Option RoscConfig → List ℕ
-ring_numbers (Some r) = ring_on r
-ring_numbers None = []
+ring_numbers r = option_map_or ring_on r []
 
 abbrev pub crystal_numbers : Option Crystal → List ℕ
-crystal_numbers (Some x) = x.hz ∷ x.delay ∷ []
-crystal_numbers None = []
+crystal_numbers x = option_map_or (λ x. x.hz ∷ x.delay ∷ []) x []
 
 -- a PLL is absent with its crystal
 abbrev pub sys_pll_of : Option Crystal → Option PllConfig
-sys_pll_of (Some x) = x.sys
-sys_pll_of None = None
+sys_pll_of = option_and_then (λ x. x.sys)
 
 abbrev pub usb_pll_of : Option Crystal → Option PllConfig
-usb_pll_of (Some x) = x.usb
-usb_pll_of None = None
+usb_pll_of = option_and_then (λ x. x.usb)
 
 abbrev pub pll_numbers : Option PllConfig → List ℕ
-pll_numbers (Some p) = p.refdiv ∷ p.fbdiv ∷ p.post_div1 ∷ p.post_div2 ∷ []
-pll_numbers None = []
+pll_numbers p = option_map_or pll_on p []
 
 abbrev pub cycles_numbers : Option ℕ → List ℕ
-cycles_numbers (Some n) = n ∷ []
-cycles_numbers None = []
-
-abbrev pub ref_numbers : RefClkConfig → List ℕ
-ref_numbers c = ref_code c.src ∷ c.div ∷ []
+cycles_numbers n = option_map_or time_on n []
 
 abbrev pub sys_numbers : Settings → List ℕ
-sys_numbers s = sys_code s.sys ∷ s.board.whole ∷ s.board.fraction ∷ []
+sys_numbers s = sys_row s.sys s.board.whole s.board.fraction
 
 abbrev pub peri_numbers : Option PeriClkSrc → List ℕ
-peri_numbers (Some src) = peri_aux src ∷ []
-peri_numbers None = []
-
-abbrev pub aux_on : AuxClkConfig → List ℕ
-aux_on a = aux_code a.src ∷ a.div ∷ a.phase ∷ []
+peri_numbers src = option_map_or peri_on src []
 
 abbrev pub aux_numbers : Option AuxClkConfig → List ℕ
-aux_numbers (Some a) = aux_on a
-aux_numbers None = []
-
-abbrev pub rtc_on : RtcClkConfig → List ℕ
-rtc_on r = aux_code r.src ∷ r.div_int ∷ r.div_frac ∷ r.phase ∷ []
+aux_numbers a = option_map_or aux_on a []
 
 abbrev pub rtc_numbers : Option RtcClkConfig → List ℕ
-rtc_numbers (Some r) = rtc_on r
-rtc_numbers None = []
+rtc_numbers r = option_map_or rtc_on r []
 
 -- reference, system, peripheral, USB, ADC and RTC clock
 abbrev pub clock_parts : Settings → List (List ℕ)
