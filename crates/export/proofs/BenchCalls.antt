@@ -1,33 +1,26 @@
 -- The numbers and bytes after any exported calls for a bench are those of the bench after the same calls, and so are the answers.
 -- So what holds of benches holds of exported calls: after a start each board is a single runner of its own.
-use mathlib.Core.{Bool.Bool, Bool.true, Bool.false, List.List, List.[], List.◌∷◌, List.map}
-use mathlib.Core.Path.{◌≡◌, refl, sym, ap, ◌∙◌}
-use Prim.Native.Nat.{ℕ, ◌+◌, ◌*◌, ◌≤◌}
+use Rattle.std.specs.Prelude.{Bool, true, false, List, [], ◌∷◌, map, ◌≡◌, ℕ, ◌+◌, ◌*◌, ◌≤◌, eqb, ltb, length, get_or, replicate}
+use mathlib.Core.Path.{refl, sym, ap, ◌∙◌}
 use native.Mathlib.Omega.{arith}
 use borrow.Author.Tests.{le-leb, ltb-true, ltb-false}
-use lib.{Dec.eqb, Dec.ltb, ListN.length, ListN.get_or, ListN.get_or-append, ListN.replicate}
+use lib.ListN.{get_or-append}
 use Rattle.std.proofs.lemmas.List.{get_or-replicate}
 use Rattle.base.proofs.Bools.{either_way}
-use Rattle.step.specs.Sheet.{max_bytes}
-use Rattle.step.specs.Size.{bad_size}
-use Rattle.numbers.specs.Fields.{nth, ten_at}
+use Rattle.step.specs.{Sheet.max_bytes, Size.bad_size}
+use Rattle.numbers.specs.Bench.{runner_at, bench_in, bench_number, fresh_numbers, start_all_leaves}
+use Rattle.numbers.specs.{Fields.nth, Fields.ten_at, Answers.answer_number, Run.progress_number}
 use Rattle.runner.specs.declared.Runner.{Runner}
 use Rattle.runner.specs.Run.{Outcome, Begun, fresh, started_with, start_of}
 use Rattle.runner.proofs.Starts.{start-kept}
 use Rattle.boards.specs.declared.Bench.{Bench}
 use Rattle.boards.specs.Bench.{fresh_bench, bench_of, start_all_of}
 use Rattle.boards.specs.History.{BenchEvent, start, poll, bench_after, answers_for, Own, own_of, single_after, single_answers, Alike}
-use Rattle.boards.proofs.History.{between-starts}
-use Rattle.boards.proofs.Benches.{all-refused, all-kept, over-seven}
-use Rattle.numbers.specs.Answers.{answer_number}
-use Rattle.numbers.specs.Run.{progress_number}
-use Rattle.numbers.specs.Bench.{runner_at, bench_in, bench_number, fresh_numbers, start_all_leaves}
+use Rattle.boards.proofs.{History.between-starts, Benches.all-refused, Benches.all-kept, Benches.over-seven}
 use Rattle.numbers.proofs.Boards.{board-at, over-leaves}
-use Rattle.export.specs.Calls.{Held, held_of, held_after, run_numbers, IsBench, bench_call_leaves, bench_held_after, bench_numbers}
-use Rattle.export.specs.Calls.{ExportedSingle, ExportedSame}
-use Rattle.export.specs.State.{bench_held}
-use Rattle.export.proofs.{Rows.mark-same, Calls.taken, Calls.answered, Calls.after-start}
-use Rattle.export.proofs.Benches.{bench-decoded, bench-held}
+use Rattle.export.specs.{Calls.Held, Calls.held_of, Calls.held_after, Calls.run_numbers, Calls.IsBench, Calls.bench_call_leaves}
+use Rattle.export.specs.{Calls.bench_held_after, Calls.bench_numbers, Calls.ExportedSingle, Calls.ExportedSame, State.bench_held}
+use Rattle.export.proofs.{Rows.mark-same, Calls.taken, Calls.answered, Calls.after-start, Benches.bench-decoded, Benches.bench-held}
 
 started_by : Held → Begun Bench → Held
 started_by h o = record { numbers = start_all_leaves o.answer h.numbers o.next.len; bytes = o.next.kept }

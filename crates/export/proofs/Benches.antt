@@ -1,26 +1,24 @@
 -- The numbers that an exported call for a board leaves, read as a bench, are the bench that the definition leaves.
-use mathlib.Core.{Bool.Bool, List.List, List.◌∷◌, Logic.◌⊎◌, Logic.inl, Logic.inr}
-use mathlib.Core.Path.{◌≡◌, refl, sym, ap, ◌∙◌}
-use Prim.Native.Nat.{ℕ, zero, suc, ◌+◌, ◌*◌, ◌≤◌, ◌<◌}
+use Rattle.std.specs.Prelude.{Bool, List, ◌∷◌, ◌⊎◌, ◌≡◌, ℕ, zero, suc, ◌+◌, ◌*◌, ◌≤◌, ◌<◌, eqb, ltb, length, get_or, set}
+use mathlib.Core.{Logic.inl, Logic.inr, Path.refl, Path.sym, Path.ap, Path.◌∙◌}
 use native.Mathlib.Omega.{arith}
 use borrow.Author.Tests.{le-ltb, le-leb, eqb-true, eqb-false, ltb-true, ltb-false}
-use lib.{Dec.eqb, Dec.ltb, ListN.length, ListN.get_or, ListN.set, ListN.length-set, Seq.length-sets}
-use Rattle.base.{specs.Answer.Answer, specs.Answer.value, specs.Answer.refusal, specs.Choice.bit, proofs.Bools.either_way}
+use lib.{ListN.length-set, Seq.length-sets}
+use Rattle.base.specs.{Answer.Answer, Answer.value, Answer.refusal, Choice.bit}
+use Rattle.base.proofs.Bools.{either_way}
 use Rattle.step.specs.declared.Step.{Step}
 use Rattle.step.specs.Kinds.{is}
-use Rattle.step.specs.declared.kind.Kind.TheVariants as kind
 use Rattle.numbers.specs.Fields.{nth, ten_at}
-use Rattle.runner.specs.declared.Stepper.{Stepper}
-use Rattle.runner.specs.declared.Reply.{Reply}
+use Rattle.numbers.specs.Bench.{stepper_at, boards_from, bench_in, board_numbers, with_board, bench_leaves}
 use Rattle.runner.specs.declared.Reply.TheVariants.{Done, Handed, Passed, Waiting}
+use Rattle.runner.specs.declared.{Stepper.Stepper, Reply.Reply}
 use Rattle.runner.specs.Run.{Outcome, stored_by, freqs_after, stepper_of}
 use Rattle.boards.specs.declared.Bench.{Bench}
 use Rattle.boards.specs.Bench.{bench_of}
-use Rattle.numbers.proofs.PartRows.{row-whole}
-use Rattle.numbers.specs.Bench.{stepper_at, boards_from, bench_in, board_numbers, with_board, bench_leaves}
-use Rattle.numbers.proofs.Boards.{call, of-board, next-board}
+use Rattle.numbers.proofs.{PartRows.row-whole, Boards.call, Boards.of-board, Boards.next-board}
 use Rattle.export.specs.Calls.{IsBench}
 use Rattle.export.proofs.Rows.{mark-back, mark-same, mark-least, outside, inside, sets_same}
+use Rattle.step.specs.declared.kind.Kind.TheVariants as kind
 
 -- the list of frequencies keeps its length
 stored-long : (step : Step) (freqs : List ℕ) → length (stored_by step freqs) ≡ length freqs

@@ -1,20 +1,18 @@
 -- A runner's numbers read back as the runner, and an exported call leaves the numbers of the runner that the definition leaves.
 -- So what holds of runners holds of any sequence of exported calls.
-use mathlib.Core.{Bool.Bool, Bool.true, Bool.false, List.List, List.[], List.◌∷◌, List.◌++◌, List.map}
-use mathlib.Core.Path.{◌≡◌, refl, sym, ap, ◌∙◌}
-use Prim.Native.Nat.{ℕ, zero, suc, ◌≤◌}
+use Rattle.std.specs.Prelude.{Bool, true, false, List, [], ◌∷◌, ◌++◌, map, ◌≡◌, ℕ, zero, suc, ◌≤◌, length, get_or, drop, replicate}
+use mathlib.Core.Path.{refl, sym, ap, ◌∙◌}
 use native.Mathlib.Omega.{arith}
-use lib.{ListN.length, ListN.get_or, ListN.drop, ListN.replicate, ListN.take-append-drop}
-use Rattle.base.{specs.Answer.Answer, specs.Answer.value, specs.Answer.refusal, proofs.Bools.either_way}
-use Rattle.step.specs.Sheet.{max_bytes}
-use Rattle.step.specs.Size.{bad_size}
+use lib.ListN.{take-append-drop}
+use Rattle.base.specs.Answer.{Answer, value, refusal}
+use Rattle.base.proofs.Bools.{either_way}
+use Rattle.step.specs.{Sheet.max_bytes, Size.bad_size}
 use Rattle.config.specs.declared.ClockConfig.{ClockConfig}
 use Rattle.settings.specs.{Settings.settings_of, Typed.Typed}
 use Rattle.refusals.specs.Refusals.{Accepted}
 use Rattle.sheet.specs.Writer.{sheet_bytes}
-use Rattle.runner.specs.declared.Runner.{Runner}
-use Rattle.runner.specs.declared.Reply.{Reply}
 use Rattle.runner.specs.declared.Reply.TheVariants.{Done, Handed, Passed, Waiting}
+use Rattle.runner.specs.declared.{Runner.Runner, Reply.Reply}
 use Rattle.runner.specs.Run.{Begun, HandsFormed, fresh, stepper_of, advance_of, started_with, start_of}
 use Rattle.runner.specs.Calls.{Call, call, after, after_calls, flags_of}
 use Rattle.runner.proofs.{Starts.start-refused, Starts.start-kept, Steps.turn_formed, OneSheet.one-sheet}

@@ -1,11 +1,9 @@
 -- Demand 3 holds of the exported calls by their contracts alone: a number below the refusals is a length, so the call is a call
 -- of `init`, of which demand 3 holds.
-use Rattle.std.specs.Prelude.{Option, Some, None}
-use mathlib.Core.{Path.◌≡◌, Path.refl, Path.ap, Logic.◌↔◌, List.List}
-use Prim.Native.Nat.{ℕ, ◌<◌}
+use Rattle.std.specs.Prelude.{Option, Some, None, ◌≡◌, ◌↔◌, List, ℕ, ◌<◌, Ok, option_map}
+use mathlib.Core.Path.{refl, ap}
 use native.Mathlib.Omega.{arith}
 use Rattle.base.specs.Answer.{Answer, value, refusal}
-use Rattle.std.specs.{Prelude.Ok, Option.option_map}
 use Rattle.config.specs.declared.ClockConfig.{ClockConfig}
 use Rattle.config.specs.Presets.{system_plan, system_plan_from}
 use Rattle.settings.specs.Settings.{settings_of}

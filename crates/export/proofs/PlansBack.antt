@@ -1,25 +1,23 @@
 -- A preset's plan is read back from its numbers, since they fit their types: those that the preset gives are small, and a PLL that is
 -- searched for, or valid, has dividers of the datasheet's ranges.
-use Rattle.std.specs.Prelude.{Option, Some, None}
-use mathlib.Core.{Bool.true, Path.◌≡◌, Path.refl, Path.ap, Path.subst}
-use Prim.Native.Nat.{ℕ, ◌≤◌}
+use Rattle.std.specs.Prelude.{Option, Some, None, true, ◌≡◌, ℕ, ◌≤◌, eqb}
+use mathlib.Core.Path.{refl, ap, subst}
 use native.Mathlib.Omega.{arith}
-use lib.{Dec.eqb}
-use Rattle.base.{specs.Answer.Answer, specs.Answer.value, specs.Answer.refusal, proofs.Bools.either_way}
+use Rattle.base.specs.Answer.{Answer, value, refusal}
+use Rattle.base.proofs.Bools.{either_way}
 use Rattle.chip.specs.declared.{Chip.Chip, Chip.TheVariants.Rp2040, Chip.TheVariants.Rp235x, voltage.CoreVoltage.CoreVoltage}
-use Rattle.chip.specs.declared.voltage.CoreVoltage.TheVariants as volts
 use Rattle.chip.specs.Chips.{facts_of}
 use Rattle.pll.specs.declared.PllConfig.{PllConfig}
 use Rattle.pll.specs.{Setting.valid_of, Search.search_of, Usb.usb_of, Law.RightAnswer}
 use Rattle.pll.proofs.{Right.search-right, Valid.valid, UsbRight.usb-found}
 use Rattle.config.specs.declared.{ClockConfig.ClockConfig, RoscConfig.RoscConfig, RoscRange.RoscRange, RtcClkConfig.RtcClkConfig}
 use Rattle.config.specs.Board.{board_of}
-use Rattle.config.specs.Presets.{plain, from_plls, feeding_both, with_found, ring_config, rosc_plan}
-use Rattle.config.specs.Presets.{default_plan, crystal_plan, system_voltage, system_plan, system_plan_from, manual_plan}
-use Rattle.numbers.specs.Fields.{u32}
-use Rattle.numbers.specs.Typed.{PllTyped, RingTyped, ClockTyped, ChipTyped, PlanTyped}
+use Rattle.config.specs.Presets.{plain, from_plls, feeding_both, with_found, ring_config, rosc_plan, default_plan, crystal_plan}
+use Rattle.config.specs.Presets.{system_voltage, system_plan, system_plan_from, manual_plan}
+use Rattle.numbers.specs.{Fields.u32, Typed.PllTyped, Typed.RingTyped, Typed.ClockTyped, Typed.ChipTyped, Typed.PlanTyped}
 use Rattle.numbers.proofs.Inverse.{plan-back}
 use Rattle.export.specs.Plan.{Back, PresetsBack}
+use Rattle.chip.specs.declared.voltage.CoreVoltage.TheVariants as volts
 
 -- what holds of a plan that is answered
 abbrev ForPlan : Chip → Answer ClockConfig → Type 0

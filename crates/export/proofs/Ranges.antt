@@ -1,8 +1,7 @@
 -- The ranges of exported answers hold, so a caller distinguishes the kinds of answers by size alone.
-use mathlib.Core.{Bool.Bool, Bool.true, Bool.false, Path.◌≡◌, Path.refl}
-use Prim.Native.Nat.{◌^◌, ◌≤◌}
+use Rattle.std.specs.Prelude.{Bool, true, false, ◌≡◌, ◌^◌, ◌≤◌, T}
+use mathlib.Core.Path.{refl}
 use native.Mathlib.Omega.{arith}
-use lib.Dec.{T}
 use Rattle.step.specs.declared.Step.{Step}
 use Rattle.step.specs.{Kinds.known, Steps.pack_of, Steps.WellFormed}
 use Rattle.step.proofs.{Laws.number-in, Laws.pack-lt, Numbers.known-from}

@@ -1,11 +1,9 @@
 -- Numbers that are set in a row: those outside stay, those inside are the new ones, and numbers that stand there already change
 -- nothing. A mark is a number that is 1 or 0.
-use mathlib.Core.{Bool.Bool, Bool.true, Bool.false, List.List, List.[], List.◌∷◌, Logic.◌⊎◌, Logic.inl, Logic.inr}
-use mathlib.Core.Path.{◌≡◌, refl, ap, ◌∙◌}
-use Prim.Native.Nat.{ℕ, zero, suc, ◌+◌, ◌≤◌, ◌<◌}
+use Rattle.std.specs.Prelude.{Bool, true, false, List, [], ◌∷◌, ◌⊎◌, ◌≡◌, ℕ, zero, suc, ◌+◌, ◌≤◌, ◌<◌, eqb, leb, length, set}
+use mathlib.Core.{Logic.inl, Logic.inr, Path.refl, Path.ap, Path.◌∙◌}
 use native.Mathlib.Omega.{arith}
-use lib.{Dec.eqb, Dec.leb, ListN.length, ListN.set, ListN.length-set, Seq.sets}
-use lib.Seq.{get_or-set_same, get_or-set_other, set-get_or}
+use lib.{ListN.length-set, Seq.sets, Seq.get_or-set_same, Seq.get_or-set_other, Seq.set-get_or}
 use Rattle.base.specs.Choice.{bit}
 use Rattle.numbers.specs.Fields.{nth}
 

@@ -1,25 +1,19 @@
 -- The numbers of slots read back as the slots, and slots are written as the same numbers. So what holds of slots holds of any
 -- sequence of exported sleeps and wakes.
-use Rattle.std.specs.Prelude.{Some}
-use mathlib.Core.{Bool.true}
-use mathlib.Core.{List.List, List.[], List.◌∷◌, Path.◌≡◌, Path.refl, Path.sym, Path.ap, Path.◌∙◌}
-use Prim.Native.Nat.{ℕ, zero, suc, ◌+◌, ◌≤◌}
+use Rattle.std.specs.Prelude.{Some, true, List, [], ◌∷◌, ◌≡◌, ℕ, zero, suc, ◌+◌, ◌≤◌, eqb, ltb, length, set, replicate}
+use mathlib.Core.Path.{refl, sym, ap, ◌∙◌}
 use native.Mathlib.Omega.{arith}
 use borrow.Author.Tests.{le-ltb, ltb-false}
-use lib.{Dec.eqb, Dec.ltb, ListN.length, ListN.set, ListN.replicate, Seq.sets}
+use lib.Seq.{sets}
 use Rattle.base.proofs.Bools.{either_way}
-use Rattle.numbers.specs.Fields.{nth}
-use Rattle.sleep.specs.declared.{Slot.Slot}
+use Rattle.numbers.specs.{Fields.nth, Slots.words_at, Slots.slots_in, Slots.slots_numbers, SleepCall.are_slots, SleepCall.asked_with}
+use Rattle.sleep.specs.declared.Slot.{Slot}
 use Rattle.sleep.specs.Sleep.{SleepOutcome, fresh_slots, slot_at, sleep_of, woken, wake_of}
 use Rattle.sleep.specs.History.{SleepEvent, sleeps, wakes, writes, happens, board_after}
 use Rattle.sleep.proofs.History.{history}
-use Rattle.numbers.specs.Slots.{words_at, slots_in, slots_numbers}
 use Rattle.numbers.proofs.{PartRows.row-whole, Asked.sets-all}
-use Rattle.numbers.specs.SleepCall.{are_slots, asked_with}
-use Rattle.export.specs.Calls.{slots_left, slots_after, Elevens, ExportedWakes}
-use Rattle.export.specs.State.{IsSlots}
-use Rattle.export.proofs.Rows.{mark-good}
-use Rattle.export.proofs.State.{Given, slot_of, four, four-back, again}
+use Rattle.export.specs.{Calls.slots_left, Calls.slots_after, Calls.Elevens, Calls.ExportedWakes, State.IsSlots}
+use Rattle.export.proofs.{Rows.mark-good, State.Given, State.slot_of, State.four, State.four-back, State.again}
 
 -- all zeros are slots with nothing saved
 pub zeros-fresh : slots_in (replicate 48 0) 0 ≡ fresh_slots

@@ -1,18 +1,16 @@
 -- A refusal leaves what was lent unchanged. For the runner and the bench this follows from runner/proofs/Untouched; for the other
 -- calls, from the fact that their values have numbers below the refusals.
-use Rattle.std.specs.Prelude.{Option, Some, None}
-use Rattle.std.specs.Option.{option_map}
-use mathlib.Core.{Bool.Bool, Bool.true, Bool.false, Logic.inl, Logic.inr}
-use mathlib.Core.{List.List, List.[], List.◌∷◌, List.flat_map, Path.◌≡◌, Path.refl, Path.sym, Path.ap, Path.◌∙◌}
-use Prim.Native.Nat.{ℕ, ◌+◌, ◌*◌, ◌≤◌}
+use Rattle.std.specs.Prelude.{Option, Some, None, option_map, Bool, true, false, List, [], ◌∷◌, ◌≡◌, ℕ, ◌+◌, ◌*◌, ◌≤◌, leb, ltb, length}
+use Rattle.std.specs.Prelude.{get_or}
+use mathlib.Core.{Logic.inl, Logic.inr, List.flat_map, Path.refl, Path.sym, Path.ap, Path.◌∙◌}
 use native.Mathlib.Omega.{arith}
 use borrow.Author.Tests.{leb-true, leb-false, ltb-true, ltb-false, le-ltb}
-use lib.{Dec.leb, Dec.ltb, ListN.length, ListN.get_or}
 use Rattle.base.specs.{Answer.Answer, Answer.value, Answer.refusal, Placed.past}
 use Rattle.step.specs.Size.{bad_size}
 use Rattle.step.proofs.Sizes.{size_fits}
 use Rattle.chip.specs.declared.{Chip.Chip, Chip.TheVariants.Rp2040, Chip.TheVariants.Rp235x}
-use Rattle.base.{specs.declared.refusal.Refusal.Refusal, proofs.Bools.either_way}
+use Rattle.base.specs.declared.refusal.Refusal.{Refusal}
+use Rattle.base.proofs.Bools.{either_way}
 use Rattle.config.specs.declared.ClockConfig.{ClockConfig}
 use Rattle.config.specs.Board.{board_of}
 use Rattle.sheet.specs.Writer.{sheet_bytes, refusal_in, init_answer, init_buffer}
@@ -22,34 +20,29 @@ use Rattle.pll.specs.Search.{keep, rising, falling}
 use Rattle.lister.specs.Lister.{in_order, meets, list_of, has_room, listed_of, listed_in}
 use Rattle.margin.specs.Margin.{margin_of}
 use Rattle.margin.specs.declared.Margin.{Margin}
-use Rattle.numbers.specs.Fields.{nth}
-use Rattle.runner.specs.declared.{Stepper.Stepper, Runner.Runner}
-use Rattle.runner.specs.declared.Reply.{Reply}
+use Rattle.numbers.specs.Answers.{refusals, itself, answer_number, left_by, limits_after, Writes}
+use Rattle.numbers.specs.Run.{runner_in, progress_number, go_number, run_number, run_leaves, started_numbers, Starts, StartCall}
+use Rattle.numbers.specs.Bench.{stepper_at, bench_in, with_board, bench_number, bench_leaves, fresh_numbers, StartAllCall}
+use Rattle.numbers.specs.{Fields.nth, Slots.steps_numbers, SleepCall.SlotsCall, Read.chip_number, Access.AccessCall}
 use Rattle.runner.specs.declared.Reply.TheVariants.{Done, Handed, Passed, Waiting}
-use Rattle.runner.specs.Run.{Outcome, Begun, HandsFormed, stepper_of, outcome}
-use Rattle.runner.specs.Run.{advance_of, started_with, start_of}
-use Rattle.runner.specs.Calls.{stepper_timed_out, timed_out, Untouched as Stays}
+use Rattle.runner.specs.declared.{Stepper.Stepper, Runner.Runner, Reply.Reply}
+use Rattle.runner.specs.Run.{Outcome, Begun, HandsFormed, stepper_of, outcome, advance_of, started_with, start_of}
 use Rattle.runner.proofs.{Starts.start-refused, Starts.start-kept, Steps.turn_formed, Untouched.stepper-keeps, Untouched.refusal-keeps}
 use Rattle.boards.specs.declared.Bench.{Bench}
 use Rattle.boards.specs.{Bench.eight_of, Bench.start_all_of, History.poll}
 use Rattle.boards.proofs.Benches.{all-refused, all-kept}
 use Rattle.sleep.specs.declared.steps.Step.{Step}
 use Rattle.sleep.specs.Sleep.{SleepOutcome}
-use Rattle.numbers.specs.Slots.{steps_numbers}
-use Rattle.numbers.specs.Answers.{refusals, itself, answer_number, left_by, limits_after, Writes}
-use Rattle.numbers.specs.Answers.{done as margin-done}
-use Rattle.numbers.specs.Run.{runner_in, progress_number, go_number, run_number, run_leaves, started_numbers, Starts, StartCall}
-use Rattle.numbers.specs.Bench.{stepper_at, bench_in, with_board, bench_number, bench_leaves, fresh_numbers, StartAllCall}
-use Rattle.numbers.specs.{SleepCall.SlotsCall, Read.chip_number, Access.AccessCall}
 use Rattle.registers.specs.declared.Access.{Access}
-use Rattle.registers.specs.declared.Access.TheVariants as access
 use Rattle.registers.specs.Access.{access_at, op_of}
 use Rattle.numbers.proofs.Boards.{call, of-board, over-leaves, bad-leaves}
-use Rattle.export.specs.Calls.{Held, held_of, call_leaves}
-use Rattle.export.specs.{Sheet.SheetCall, Plan.PlanCall}
 use Rattle.export.specs.Untouched.{Refused, SaveTimeout, timed_out_numbers, Untouched}
-use Rattle.export.proofs.{Ranges.word-from, Calls.read-written, Calls.ran, Calls.ran-number, Calls.formed}
-use Rattle.export.proofs.Benches.{board-again, left_is}
+use Rattle.export.specs.{Calls.Held, Calls.held_of, Calls.call_leaves, Sheet.SheetCall, Plan.PlanCall}
+use Rattle.export.proofs.Calls.{read-written, ran, ran-number, formed}
+use Rattle.export.proofs.{Ranges.word-from, Benches.board-again, Benches.left_is}
+use Rattle.runner.specs.Calls.{stepper_timed_out, timed_out, Untouched as Stays}
+use Rattle.numbers.specs.Answers.{done as margin-done}
+use Rattle.registers.specs.declared.Access.TheVariants as access
 
 -- a call that may time out, where f gives the numbers of what it leaves
 carried : {A : Type 0} (f : A → List ℕ) (same out : A) (x : Outcome A) {r : ℕ} {before after timed_out : List ℕ}

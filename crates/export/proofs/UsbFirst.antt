@@ -1,8 +1,6 @@
 -- Refusals 15 and then 25 precede every other refusal of the preset from a crystal. This follows from the exported call's
 -- contract alone: without a plan there is nothing else to refuse.
-use Rattle.std.specs.Prelude.{Some}
-use mathlib.Core.{Path.◌≡◌, List.List}
-use Prim.Native.Nat.{ℕ}
+use Rattle.std.specs.Prelude.{Some, ◌≡◌, List, ℕ}
 use Rattle.base.specs.Answer.{Answer, refusal}
 use Rattle.config.specs.declared.ClockConfig.{ClockConfig}
 use Rattle.config.proofs.Systems.{system-from-15, system-from-25}

@@ -1,29 +1,24 @@
 -- Sequences of exported calls: the numbers and bytes that the caller holds after each, and the answers. The theorems are in
 -- proofs/Calls (a runner), proofs/BenchCalls (a bench) and proofs/Sleeps (slots): after any calls the caller holds the numbers of
 -- the runner, bench or slots after the same calls. What their numbers mean is in specs/State.
-use Rattle.std.specs.Prelude.{Some}
-use mathlib.Core.{Bool.Bool, Bool.false, Path.◌≡◌, List.List, List.[], List.◌∷◌}
-use Rattle.std.specs.Prelude.{ℕ, zero, suc, ◌+◌, ◌*◌, ◌≤◌, ◌<◌, map}
-use Rattle.std.specs.List.{fold}
-use lib.{Dec.eqb, ListN.length, ListN.get_or, ListN.drop, ListN.replicate, Seq.sets}
+use Rattle.std.specs.Prelude.{Some, Bool, false, ◌≡◌, List, [], ◌∷◌, ℕ, zero, suc, ◌+◌, ◌*◌, ◌≤◌, ◌<◌, map, fold, eqb, length, get_or, drop}
+use Rattle.std.specs.Prelude.{replicate}
+use lib.Seq.{sets}
 use Rattle.base.specs.Choice.{pick, bit}
 use Rattle.config.specs.declared.ClockConfig.{ClockConfig}
 use Rattle.settings.specs.{Settings.settings_of, Frequencies.ten_of}
 use Rattle.sheet.specs.Writer.{sheet_bytes}
 use Rattle.step.specs.Size.{bad_size}
 use Rattle.runner.specs.declared.Runner.{Runner}
-use Rattle.runner.specs.Run.{start_of}
-use Rattle.runner.specs.Calls.{Call, call, flags_of}
-use Rattle.boards.specs.Bench.{start_all_of}
-use Rattle.boards.specs.History.{Own, start, poll, BenchEvent, own_of}
+use Rattle.runner.specs.{Run.start_of, Calls.Call, Calls.call, Calls.flags_of}
+use Rattle.boards.specs.{Bench.start_all_of, History.Own, History.start, History.poll, History.BenchEvent, History.own_of}
 use Rattle.sleep.specs.declared.{Slot.Slot, steps.Step.Step}
 use Rattle.sleep.specs.Sleep.{SleepOutcome, wake_steps, sleep_of, wake_of}
 use Rattle.sleep.specs.History.{SleepEvent, sleeps, wakes, writes, last_sleep}
-use Rattle.numbers.specs.Slots.{slots_numbers, steps_numbers}
-use Rattle.bring_up.specs.{Wait.HearsAtMost, ComesUp.most_calls}
 use Rattle.numbers.specs.Bench.{runner_at, bench_in, bench_number, bench_leaves, start_all_leaves}
 use Rattle.numbers.specs.Run.{runner_in, run_number, run_leaves, start_leaves}
-use Rattle.numbers.specs.SleepCall.{asked_with, left_asked, SlotsCall}
+use Rattle.numbers.specs.{Slots.slots_numbers, Slots.steps_numbers, SleepCall.asked_with, SleepCall.left_asked, SleepCall.SlotsCall}
+use Rattle.bring_up.specs.{Wait.HearsAtMost, ComesUp.most_calls}
 
 -- ---- a runner
 

@@ -1,9 +1,6 @@
 -- Demand 3 of the exported calls: two sheets are equal exactly when their plans agree in every setting (docs/FORMAT.md, Settings
 -- that count).
-use Rattle.std.specs.Prelude.{Option}
-use Rattle.std.specs.Option.{option_map}
-use mathlib.Core.{Path.◌≡◌, Logic.◌↔◌, List.List}
-use Rattle.std.specs.Prelude.{ℕ, ◌<◌}
+use Rattle.std.specs.Prelude.{Option, option_map, ◌≡◌, ◌↔◌, List, ℕ, ◌<◌}
 use Rattle.base.specs.Answer.{Answer}
 use Rattle.config.specs.declared.ClockConfig.{ClockConfig}
 use Rattle.config.specs.Presets.{system_plan, system_plan_from}

@@ -1,16 +1,12 @@
 -- The exported calls that write a sheet, of a preset's plan or of a plan given as numbers (docs/FORMAT.md, Sheet writer).
-use Rattle.std.specs.Prelude.{Option}
-use Rattle.std.specs.Option.{option_map, option_and_then}
-use mathlib.Core.{Path.◌≡◌, List.List}
-use Rattle.std.specs.Prelude.{ℕ}
+use Rattle.std.specs.Prelude.{Option, option_map, option_and_then, ◌≡◌, List, ℕ}
 use Rattle.base.specs.Answer.{Answer, value}
 use Rattle.chip.specs.declared.Chip.{Chip}
 use Rattle.config.specs.declared.ClockConfig.{ClockConfig}
 use Rattle.settings.specs.{Settings.settings_of, Typed.Typed}
 use Rattle.sheet.specs.Writer.{init_answer, init_buffer}
-use Rattle.numbers.specs.Plan.{plan_numbered}
-use Rattle.numbers.specs.Typed.{IfThere}
 use Rattle.numbers.specs.Answers.{answer_number, itself, left_by, of_value, given_number, left_given}
+use Rattle.numbers.specs.{Plan.plan_numbered, Typed.IfThere}
 
 -- the answer of the sheet writer, or the preset's refusal; malformed where the numbers are of no chip or of no plan
 abbrev pub sheet_number : Option (Answer ClockConfig) → ℕ → List ℕ → ℕ

@@ -1,18 +1,14 @@
 -- What the numbers that a caller holds mean: a runner, a bench or slots read back from their numbers as themselves, numbers that are
 -- read and written again are the same, and all zeros are the value before any call. A mark is 1 or 0.
-use mathlib.Core.{Bool.true, Path.◌≡◌, List.List, List.[], List.◌∷◌, List.◌++◌}
-use Rattle.std.specs.Prelude.{ℕ, ◌≤◌, flat_map, All}
-use lib.{ListN.length, ListN.get_or, ListN.replicate}
+use Rattle.std.specs.Prelude.{true, ◌≡◌, List, [], ◌∷◌, ◌++◌, ℕ, ◌≤◌, flat_map, All, length, get_or, replicate}
 use Rattle.step.specs.Sheet.{max_bytes}
 use Rattle.runner.specs.declared.{Runner.Runner, Stepper.Stepper}
 use Rattle.runner.specs.Run.{fresh}
 use Rattle.boards.specs.declared.Bench.{Bench}
 use Rattle.boards.specs.Bench.{fresh_bench}
-use Rattle.sleep.specs.declared.{Slot.Slot}
+use Rattle.sleep.specs.declared.Slot.{Slot}
 use Rattle.sleep.specs.Sleep.{fresh_slots}
-use Rattle.numbers.specs.Bench.{bench_in, board_numbers}
-use Rattle.numbers.specs.Slots.{slots_in, slots_numbers}
-use Rattle.numbers.specs.SleepCall.{are_slots}
+use Rattle.numbers.specs.{Bench.bench_in, Bench.board_numbers, Slots.slots_in, Slots.slots_numbers, SleepCall.are_slots}
 use Rattle.export.specs.Calls.{Held, runner_of, held_of, IsBench}
 
 -- ---- a bench

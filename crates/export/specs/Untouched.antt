@@ -1,9 +1,7 @@
 -- A refusal leaves what was lent unchanged, for every exported call that may write: where the answer is a refusal or malformed,
 -- each lent number and byte keeps its value. The one exception is the lock timeout of `dizbaral_run` and `dizbaral_bench_run`,
 -- the first refusal 22 of a run.
-use Rattle.std.specs.Prelude.{Option}
-use mathlib.Core.{Bool.Bool, Path.◌≡◌, Logic.◌⊎◌, List.List}
-use Rattle.std.specs.Prelude.{ℕ, ◌+◌, ◌^◌, ◌≤◌, ◌<◌, length, get_or, set}
+use Rattle.std.specs.Prelude.{Option, Bool, ◌≡◌, ◌⊎◌, List, ℕ, ◌+◌, ◌^◌, ◌≤◌, ◌<◌, length, get_or, set}
 use Rattle.base.specs.Answer.{Answer}
 use Rattle.chip.specs.declared.Chip.{Chip}
 use Rattle.config.specs.declared.ClockConfig.{ClockConfig}
@@ -12,9 +10,8 @@ use Rattle.sleep.specs.Sleep.{SleepOutcome}
 use Rattle.lister.specs.Lister.{listed_of, listed_in}
 use Rattle.margin.specs.Margin.{margin_of}
 use Rattle.numbers.specs.Answers.{refusals, itself, answer_number, done, limits_after}
-use Rattle.numbers.specs.Run.{run_number, run_leaves, StartCall}
 use Rattle.numbers.specs.Bench.{stepper_at, with_board, bench_number, bench_leaves, StartAllCall}
-use Rattle.numbers.specs.{SleepCall.SlotsCall, Read.RowCall, Access.AccessCall}
+use Rattle.numbers.specs.{Run.run_number, Run.run_leaves, Run.StartCall, SleepCall.SlotsCall, Read.RowCall, Access.AccessCall}
 use Rattle.export.specs.{Sheet.SheetCall, Plan.PlanCall}
 
 -- an answer that is a refusal or malformed; values are below this range, the words of steps above it

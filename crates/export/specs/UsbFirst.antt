@@ -1,8 +1,6 @@
 -- The order of the refusals of `dizbaral_system_sheet_from`: 15 first, then 25, then those of the sheet (docs/FORMAT.md,
 -- Refusals).
-use Rattle.std.specs.Prelude.{Some}
-use mathlib.Core.{Path.◌≡◌, List.List}
-use Rattle.std.specs.Prelude.{ℕ, ◌+◌}
+use Rattle.std.specs.Prelude.{Some, ◌≡◌, List, ℕ, ◌+◌}
 use Rattle.base.specs.Answer.{value, refusal}
 use Rattle.chip.specs.declared.Chip.{Chip}
 use Rattle.pll.specs.declared.PllConfig.{PllConfig}

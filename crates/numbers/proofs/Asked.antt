@@ -1,15 +1,13 @@
 -- A sleep or a wake on numbers, from its answer and what is written.
-use mathlib.Core.{Path.◌≡◌, Path.refl, Path.sym, Path.ap, Path.◌∙◌, Bool.Bool, Bool.true, Bool.false}
-use mathlib.Core.{List.List, List.◌++◌, List.append-nil}
-use Rattle.std.specs.Prelude.{ℕ, ◌+◌, Some}
+use Rattle.std.specs.Prelude.{◌≡◌, Bool, true, false, List, ◌++◌, ℕ, ◌+◌, Some, ltb, length, drop}
+use mathlib.Core.{Path.refl, Path.sym, Path.ap, Path.◌∙◌, List.append-nil}
 use native.Mathlib.Omega.{arith}
-use lib.{Dec.ltb, ListN.length, ListN.drop, Seq.drop-length, Seq.sets, Seq.sets-eq}
-use Rattle.base.{specs.Answer.value, specs.Answer.refusal, specs.Choice.pick, specs.Placed.Placed, proofs.Bools.either_way}
+use lib.Seq.{drop-length, sets, sets-eq}
+use Rattle.base.specs.{Answer.value, Answer.refusal, Choice.pick, Placed.Placed}
+use Rattle.base.proofs.Bools.{either_way}
 use Rattle.sleep.specs.declared.{Slot.Slot, steps.Step.Step}
 use Rattle.sleep.specs.Sleep.{SleepOutcome, outcome, sleep_of, wake_of, slot_at}
-use Rattle.numbers.specs.Answers.{refusals}
-use Rattle.numbers.specs.Slots.{slots_numbers, steps_numbers}
-use Rattle.numbers.specs.SleepCall.{SlotsCall}
+use Rattle.numbers.specs.{Answers.refusals, Slots.slots_numbers, Slots.steps_numbers, SleepCall.SlotsCall}
 
 -- values that replace all of a list
 pub sets-all : (vs l : List ℕ) → length vs ≡ length l → sets l 0 vs ≡ vs

@@ -1,9 +1,7 @@
 -- A loop that puts the numbers of each item of a list.
-use mathlib.Core.{Path.◌≡◌, Path.sym, List.List, List.append-nil}
-use Rattle.std.specs.Prelude.{ℕ, ◌+◌, ◌<◌, flat_map}
-use Rattle.std.proofs.lemmas.List.{take_more}
-use Rattle.std.proofs.lemmas.Grind.{flat_map-append}
-use lib.ListN.{length, get_or, take}
+use Rattle.std.specs.Prelude.{◌≡◌, List, ℕ, ◌+◌, ◌<◌, flat_map, length, get_or, take}
+use mathlib.Core.{Path.sym, List.append-nil}
+use Rattle.std.proofs.{lemmas.List.take_more, lemmas.Grind.flat_map-append}
 use Rattle.base.specs.Writing.{Written, puts}
 use Rattle.base.proofs.Writing.{put_none, put_then}
 

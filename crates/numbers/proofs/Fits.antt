@@ -1,12 +1,10 @@
 -- The test of each number and its limit, by their index, is the test of a row against its limits.
-use mathlib.Core.{Path.◌≡◌, Path.refl, Path.ap, Path.◌∙◌, Bool.Bool, Bool.◌&&◌, List.List, List.[], List.◌∷◌}
-use Prim.Native.Nat.{ℕ, suc, ◌+◌}
+use Rattle.std.specs.Prelude.{◌≡◌, Bool, ◌&&◌, List, [], ◌∷◌, ℕ, suc, ◌+◌, leb}
+use mathlib.Core.Path.{refl, ap, ◌∙◌}
 use native.Mathlib.Omega.{arith}
-use lib.{Dec.leb}
 use Rattle.std.specs.List.{list_all, enumerate_from}
 use Rattle.base.specs.Choice.{pick}
-use Rattle.numbers.specs.Fields.{nth}
-use Rattle.numbers.specs.Parts.{fit_from}
+use Rattle.numbers.specs.{Fields.nth, Parts.fit_from}
 
 abbrev pub within : Bool → List ℕ → ℕ → ℕ × ℕ → Bool
 within there n i p = leb (nth n (i + p.0)) (pick there p.1 0)

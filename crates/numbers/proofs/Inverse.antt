@@ -1,38 +1,30 @@
 -- The numbers of a plan read back as the plan, and a row that reads as a plan is the row of that plan's numbers.
-use Rattle.std.specs.Prelude.{Option, Some, None}
-use Rattle.std.specs.Option.{option_map, unwrap_or}
-use Rattle.config.specs.declared.XoscConfig.{XoscConfig}
-use mathlib.Core.{Bool.Bool, Bool.true, Bool.false, Bool.◌&&◌}
-use mathlib.Core.{List.List, List.[], List.◌∷◌, List.◌++◌, Path.◌≡◌, Path.refl, Path.sym, Path.ap, Path.◌∙◌}
-use Prim.Native.Nat.{ℕ, ◌≤◌}
+use Rattle.std.specs.Prelude.{Option, Some, None, option_map, unwrap_or, Bool, true, false, ◌&&◌, List, [], ◌∷◌, ◌++◌, ◌≡◌, ℕ, ◌≤◌, eqb}
+use Rattle.std.specs.Prelude.{leb, length}
+use Rattle.config.specs.declared.{XoscConfig.XoscConfig, ChipConfig.ChipConfig, ClockConfig.ClockConfig}
+use mathlib.Core.Path.{refl, sym, ap, ◌∙◌}
 use native.Mathlib.Omega.{arith}
 use borrow.Author.Tests.{eqb-true, leb-true, le-leb}
-use lib.{Dec.eqb, Dec.leb, ListN.length}
-use Rattle.base.{specs.Answer.Answer, specs.Answer.value, specs.Answer.refusal, specs.Choice.pick, proofs.Bools.either_way}
+use Rattle.base.specs.{Answer.Answer, Answer.value, Answer.refusal, Choice.pick}
+use Rattle.base.proofs.Bools.{either_way}
 use Rattle.std.proofs.lemmas.Bool.{and_parts}
 use Rattle.chip.specs.declared.{Chip.Chip, Chip.TheVariants.Rp2040, Chip.TheVariants.Rp235x}
 use Rattle.chip.specs.Voltage.{code_of, voltages, with_code, core_voltage_of}
 use Rattle.chip.proofs.Codes.{core-voltage-code, code-small}
 use Rattle.pll.specs.declared.PllConfig.{PllConfig}
-use Rattle.config.specs.declared.{ChipConfig.ChipConfig, ClockConfig.ClockConfig}
-use Rattle.config.specs.declared.ChipConfig.TheVariants.{Rp2040 as on2040, Rp235x as on235x}
-use Rattle.config.specs.Board.{board_of}
-use Rattle.config.specs.Codes.{ref_code}
+use Rattle.config.specs.{Board.board_of, Codes.ref_code}
 use Rattle.settings.proofs.Decoded.{board-small}
-use Rattle.numbers.specs.Fields.{nth, byte_at, u8, u16, u32}
-use Rattle.numbers.specs.Row.{ring_row, crystal_row, sys_pll_in, usb_pll_in, pll_row, oscillator_row, first_row, sys_row, peri_row}
-use Rattle.numbers.specs.Row.{time_row, aux_row}
-use Rattle.numbers.specs.Row.{clock_row, rtc_row, rtc_numbers, plan_row}
-use Rattle.numbers.specs.Parts.{fit_from, is_part}
-use Rattle.numbers.specs.Plan.{whole_oscillators, whole_clocks, whole_chip, whole_plan, strengths_at, ring_at, option_pll_at}
-use Rattle.numbers.specs.Plan.{crystal_at, settling_at, reference_at, peripheral_at, divided_at, rtc_at, chip_at, plan_at}
-use Rattle.numbers.specs.Plan.{flagged, part2040, part235x, plan_numbered}
-use Rattle.numbers.specs.Answers.{of_value}
-use Rattle.numbers.specs.Typed.{PllTyped, CrystalTyped, ChipTyped, PlanTyped}
-use Rattle.numbers.proofs.PartRows.{row_from, row-whole, cut, both, fits, gone, ref-code, sys-code, codes, code_read}
-use Rattle.numbers.proofs.PartRows.{ring_limits, ring-back, ring-row, pll_limits, pll-back, pll-row, time_limits}
-use Rattle.numbers.proofs.PartRows.{time-back, time-row, peri_limits, peri-back, peri-row, aux_limits, aux-back}
-use Rattle.numbers.proofs.PartRows.{aux-row, rtc_limits, rtc-back, rtc-row, there-fits}
+use Rattle.numbers.specs.Row.{part_row, crystal_on, sys_pll_in, usb_pll_in, oscillator_row, first_row, sys_row, clock_row, rtc_numbers, plan_row}
+use Rattle.numbers.proofs.PartRows.{ring_row, pll_row, time_row, peri_row, aux_row, rtc_row}
+use Rattle.numbers.specs.Plan.{whole_oscillators, whole_clocks, whole_chip, whole_plan, strengths_at, ring_at, option_pll_at, crystal_at}
+use Rattle.numbers.specs.Plan.{divided_at, rtc_at, chip_at, plan_at, flagged, part2040, part235x}
+use Rattle.numbers.specs.Plan.{plan_numbered}
+use Rattle.numbers.specs.{Fields.nth, Fields.byte_at, Fields.u8, Fields.u16, Fields.u32, Parts.fit_from, Parts.is_part, Answers.of_value}
+use Rattle.numbers.specs.{Typed.PllTyped, Typed.CrystalTyped, Typed.ChipTyped, Typed.PlanTyped}
+use Rattle.numbers.proofs.PartRows.{row_from, row-whole, cut, both, fits, gone, ref-code, sys-code, codes, code_read, ring_limits}
+use Rattle.numbers.proofs.PartRows.{ring-back, ring-row, pll_limits, pll-back, pll-row, time_limits, time-back, time-row, peri_limits}
+use Rattle.numbers.proofs.PartRows.{peri-back, peri-row, aux_limits, aux-back, aux-row, rtc_limits, rtc-back, rtc-row, there-fits}
+use Rattle.config.specs.declared.ChipConfig.TheVariants.{Rp2040 as on2040, Rp235x as on235x}
 
 -- the rows of a plan's parts, one after another
 abbrev joined : List ℕ → List ℕ → List ℕ → List ℕ → List ℕ → List ℕ → List ℕ → List ℕ → List ℕ → List ℕ → List ℕ
@@ -54,6 +46,9 @@ all_true (b ∷ []) e = (e, tt)
 all_true (b ∷ c ∷ bs) e = let h = and_parts b (conj (c ∷ bs)) e in (h.0, all_true (c ∷ bs) h.1)
 
 -- ---- the crystal with its PLLs
+
+abbrev crystal_row : Option XoscConfig → List ℕ
+crystal_row = part_row 2 crystal_on
 
 abbrev crystal_limits : List ℕ
 crystal_limits = 1 ∷ u32 ∷ u32 ∷ []
@@ -162,7 +157,7 @@ module _ (c : ChipConfig) (p : ClockConfig) (t : PlanTyped p) (z : List ℕ) whe
       (both (aux-back p.usb_clk t.usb).1 (aux-back p.adc_clk t.adc).1)))))
 
   plan-is : plan_at c row ≡ plan_with c p
-  unfolding plan_at ring_at strengths_at crystal_at option_pll_at settling_at reference_at peripheral_at divided_at
+  unfolding plan_at ring_at strengths_at crystal_at option_pll_at divided_at
   plan-is = λ i. record {
     chip = c;
     rosc = (ring-back p.rosc t.rosc).2 i;
@@ -246,7 +241,7 @@ module _ (n : List ℕ) (osc : whole_oscillators n ≡ true) (clk : whole_clocks
 
   plan-row : (c : ChipConfig) → (board_of c).volts.code ≡ nth n 25 → (board_of c).whole ≡ nth n 31 → (board_of c).fraction ≡ nth n 32
       → plan_row (plan_at c n) ≡ row_from 43 0 n ++ rtc_numbers c
-  unfolding plan_row oscillator_row clock_row plan_at is_part crystal_at option_pll_at settling_at reference_at peripheral_at divided_at
+  unfolding plan_row oscillator_row clock_row plan_at is_part crystal_at option_pll_at divided_at
   plan-row c code whole fraction =
       let o = oscillator-facts in
       let k = clock-facts in
@@ -255,7 +250,7 @@ module _ (n : List ℕ) (osc : whole_oscillators n ≡ true) (clk : whole_clocks
       let r = fits true n 28 (2 ∷ u8 ∷ []) k.1.1.0 in
       let s = fits true n 30 (4 ∷ []) k.1.1.1.0 in
       let time = time-row (row_from 2 26 n) k.1.0 in
-      let first : first_row (board_of c).volts.code (settling_at n) (reference_at n) ≡ row_from 5 25 n =
+      let first : first_row (board_of c).volts.code (plan_at c n).voltage_stabilization_delay_us (plan_at c n).ref_clk ≡ row_from 5 25 n =
       λ i. code i ∷ (time i ++ ((codes (nth n 28)).1 r.0 i ∷ cut r.1.0 i ∷ [])) in
       λ i. joined (ring-row n o.0 i) (x.0 i) (x.1 i) (x.2 i) (first i)
       (((codes (nth n 30)).2 s.0).0 i ∷ whole i ∷ fraction i ∷ []) (peri-row (row_from 2 33 n) k.1.1.1.1.0 i)

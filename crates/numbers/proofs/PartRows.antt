@@ -1,29 +1,25 @@
 -- Writing a plan as numbers and reading it from them are inverse to each other, part by part: a part's numbers read back as the
 -- part, and a part that is read has these numbers.
-use Rattle.std.specs.Prelude.{Option, Some, None}
-use mathlib.Core.{Bool.Bool, Bool.true, Bool.false, Bool.◌&&◌}
-use mathlib.Core.{List.List, List.[], List.◌∷◌, Path.◌≡◌, Path.refl, Path.sym, Path.ap, Path.◌∙◌}
-use Prim.Native.Nat.{ℕ, zero, suc, min, ◌+◌, ◌≤◌}
+use Rattle.std.specs.Prelude.{Option, Some, None, Bool, true, false, ◌&&◌, List, [], ◌∷◌, ◌≡◌, ℕ, zero, suc, min, ◌+◌, ◌≤◌, eqb, leb}
+use Rattle.std.specs.Prelude.{length, get_or, take, drop, replicate}
+use mathlib.Core.Path.{refl, sym, ap, ◌∙◌}
 use native.Mathlib.{Numerals.add-one, Omega.arith}
 use borrow.Author.Tests.{eqb-true, eq-eqb, ne_eqb, leb-true, le-leb}
-use lib.{Dec.eqb, Dec.leb, ListN.length, ListN.get_or, ListN.take, ListN.drop, ListN.replicate, Seq.take-length, Seq.drop-cons}
-use Rattle.base.{specs.Answer.value, specs.Choice.pick, proofs.Bools.either_way}
+use lib.Seq.{take-length, drop-cons}
+use Rattle.base.specs.{Answer.value, Choice.pick}
+use Rattle.base.proofs.Bools.{either_way}
 use Rattle.std.proofs.lemmas.Bool.{and_parts}
 use Rattle.chip.specs.Voltage.{with_code}
 use Rattle.pll.specs.declared.PllConfig.{PllConfig}
-use Rattle.config.specs.declared.RoscConfig.{RoscConfig}
-use Rattle.config.specs.declared.PeriClkSrc.{PeriClkSrc}
-use Rattle.config.specs.declared.AuxClkConfig.{AuxClkConfig}
-use Rattle.config.specs.declared.RtcClkConfig.{RtcClkConfig}
+use Rattle.config.specs.declared.{RoscConfig.RoscConfig, PeriClkSrc.PeriClkSrc, AuxClkConfig.AuxClkConfig, RtcClkConfig.RtcClkConfig}
 use Rattle.config.specs.declared.{RefClkSrc.RefClkSrc, SysClkSrc.SysClkSrc}
-use Rattle.config.specs.Codes.{range_code, ref_code, sys_code, peri_aux, aux_code}
-use Rattle.config.specs.Codes.{range_from, ref_from, sys_source_from, peri_from, aux_from}
+use Rattle.config.specs.Codes.{range_code, ref_code, sys_code, peri_aux, aux_code, range_from, ref_from, sys_source_from, peri_from}
+use Rattle.config.specs.Codes.{aux_from}
 use Rattle.settings.proofs.Decoded.{range-code, aux-code}
 use Rattle.numbers.specs.Fields.{nth, byte_at, u8, u16, u32}
-use Rattle.numbers.specs.Row.{ring_row, pll_row, time_row, peri_row, aux_row, rtc_row}
-use Rattle.numbers.specs.Parts.{fit_from, is_part}
+use Rattle.numbers.specs.Row.{part_row, ring_on, pll_on, time_on, peri_on, aux_on, rtc_on}
 use Rattle.numbers.specs.Plan.{flagged, strengths_at, ring_at, option_pll_at, divided_at}
-use Rattle.numbers.specs.Typed.{PllTyped, RingTyped, TimeTyped, AuxTyped, ClockTyped}
+use Rattle.numbers.specs.{Parts.fit_from, Parts.is_part, Typed.PllTyped, Typed.RingTyped, Typed.TimeTyped, Typed.AuxTyped, Typed.ClockTyped}
 
 -- ---- numbers in a row
 
@@ -143,6 +139,24 @@ code_read code_of_lem code (u ∷ vs) v e =
     (λ f. code_read code_of_lem code vs v (rw f at e))
 
 -- ---- the parts, each from index 0 on: its numbers fit, read back as the part, and are those of the part that is read
+
+abbrev pub ring_row : Option RoscConfig → List ℕ
+ring_row = part_row 11 ring_on
+
+abbrev pub pll_row : Option PllConfig → List ℕ
+pll_row = part_row 4 pll_on
+
+abbrev pub time_row : Option ℕ → List ℕ
+time_row = part_row 1 time_on
+
+abbrev pub peri_row : Option PeriClkSrc → List ℕ
+peri_row = part_row 1 peri_on
+
+abbrev pub aux_row : Option AuxClkConfig → List ℕ
+aux_row = part_row 3 aux_on
+
+abbrev pub rtc_row : Option RtcClkConfig → List ℕ
+rtc_row = part_row 4 rtc_on
 
 abbrev pub ring_limits : List ℕ
 ring_limits = 1 ∷ u32 ∷ 3 ∷ u8 ∷ u8 ∷ u8 ∷ u8 ∷ u8 ∷ u8 ∷ u8 ∷ u8 ∷ u16 ∷ []

@@ -9,7 +9,7 @@ use Rattle.step.specs.Access.{word_at}
 use Rattle.step.proofs.Accesses.{read-sound}
 use Rattle.runner.specs.declared.{State.State, Runner.Runner}
 use Rattle.runner.specs.Run.{Outcome, outside, turn_of, joined, in_runner, advance_of, stepper_of}
-use Rattle.numbers.specs.{Answers.answer_number, Run.with_freqs, Run.progress_number, Run.progress_with}
+use Rattle.numbers.specs.{Answers.answer_number, Run.with_freqs, Run.progress_number, Inside.progress_with}
 use Rattle.runner.proofs.{Calls.inside, Calls.call-outside, Calls.every-turn, Steps.turn_formed, Steps.store_fits}
 use Rattle.std.proofs.lemmas.Bool.Decides.{nat_tests}
 

@@ -1,6 +1,5 @@
 -- The register access of a step as numbers: the answer is the code of the access, and the call writes address, mask and value.
-use Rattle.std.specs.Prelude.{List, [], ◌∷◌, ℕ, Option}
-use Rattle.std.specs.Option.{option_map}
+use Rattle.std.specs.Prelude.{List, [], ◌∷◌, ℕ, Option, option_map}
 use Rattle.chip.specs.declared.Chip.{Chip}
 use Rattle.registers.specs.declared.Access.{Access}
 use Rattle.registers.specs.Access.{access_at, op_of, address_of, mask_of, value_of}

@@ -1,16 +1,14 @@
 -- An answer as one 64-bit number, as bindings/c/dizbaral.h lists the ranges.
-use Rattle.std.specs.Prelude.{Option, Some, None}
-use Rattle.std.specs.Option.{option_map_or, option_and_then, unwrap_or}
-use mathlib.Core.{Path.◌≡◌, List.List, List.[], List.◌∷◌}
-use Rattle.std.specs.Prelude.{ℕ, ◌+◌, ◌*◌, eqb, leb}
+use Rattle.std.specs.Prelude.{Option, Some, None, option_and_then, unwrap_or, ◌≡◌, List, [], ◌∷◌, ℕ, ◌+◌, ◌*◌, eqb, leb}
+use Rattle.std.specs.Option.{option_map_or}
 use Rattle.base.specs.{Choice.pick, Answer.Answer, Answer.value, Answer.refusal}
 use Rattle.pll.specs.declared.PllConfig.{PllConfig}
 use Rattle.margin.specs.declared.Margin.{Margin}
 use Rattle.chip.specs.declared.{Chip.Chip, Chip.TheVariants.Rp2040, Chip.TheVariants.Rp235x}
 use Rattle.chip.specs.Voltage.{code_of, bod_of, core_voltage_of}
 use Rattle.divider.specs.declared.GpoutDiv.{GpoutDiv}
-use Rattle.divider.specs.declared.GpoutDiv.TheVariants.{Rp2040 as on2040, Rp235x as on235x}
 use Rattle.divider.specs.Gpout.{gpout_in}
+use Rattle.divider.specs.declared.GpoutDiv.TheVariants.{Rp2040 as on2040, Rp235x as on235x}
 
 -- 2 ^ 48: a value has a number below it, refusal n has the number 2 ^ 48 + n
 abbrev pub refusals : ℕ

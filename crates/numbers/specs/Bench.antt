@@ -1,14 +1,12 @@
 -- The start and the call of a bench that is given as 113 numbers and its kept bytes (docs/FORMAT.md, Bench).
-use mathlib.Core.{Bool.Bool, Bool.◌||◌, Bool.◌&&◌, Bool.not, List.List, List.[], List.◌∷◌, List.◌++◌}
-use Rattle.std.specs.Prelude.{ℕ, zero, suc, ◌+◌, ◌*◌}
-use lib.{Dec.ltb, ListN.replicate, Seq.sets}
+use Rattle.std.specs.Prelude.{Bool, ◌||◌, ◌&&◌, not, List, [], ◌∷◌, ◌++◌, ℕ, zero, suc, ◌+◌, ◌*◌, ltb, replicate}
+use lib.Seq.{sets}
 use Rattle.base.specs.{Answer.Answer, Choice.pick, Choice.bit}
-use Rattle.numbers.specs.Fields.{nth, ten_at}
+use Rattle.numbers.specs.Run.{state_in, is_runner, progress_number, Starts}
+use Rattle.numbers.specs.{Fields.nth, Fields.ten_at, Answers.answer_number, Answers.left_by, Answers.malformed}
 use Rattle.runner.specs.declared.Stepper.{Stepper}
 use Rattle.boards.specs.declared.Bench.{Bench}
 use Rattle.boards.specs.Bench.{board_at, bench_of, start_all_of}
-use Rattle.numbers.specs.Answers.{answer_number, left_by, malformed}
-use Rattle.numbers.specs.Run.{state_in, is_runner, progress_number, Starts}
 
 -- board n as a runner's 15 numbers: position, lock polls, total, stopped mark, the kept length, which is the last of the 113, and
 -- the ten frequencies

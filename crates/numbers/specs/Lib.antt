@@ -11,3 +11,4 @@ pub mod SleepCall
 pub mod Access
 pub mod Manual
 pub mod Fields
+pub mod Inside

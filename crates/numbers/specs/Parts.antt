@@ -1,6 +1,5 @@
 -- Tests on a row of numbers: the numbers from an index on are within their limits, and those of an absent part are all 0.
-use mathlib.Core.{Bool.Bool, Bool.true, Bool.◌&&◌, List.List, List.[], List.◌∷◌}
-use Rattle.std.specs.Prelude.{ℕ, suc, eqb, leb}
+use Rattle.std.specs.Prelude.{Bool, true, ◌&&◌, List, [], ◌∷◌, ℕ, suc, eqb, leb}
 use Rattle.base.specs.Choice.{pick}
 use Rattle.numbers.specs.Fields.{nth}
 

@@ -1,26 +1,18 @@
 -- Reads a plan from a row of numbers (docs/CASES.md, A plan in numbers): 48 for the RP2040 and 43, without the RTC's five, for
 -- the RP235x. The parts are in order, and an optional part begins with a flag.
-use mathlib.Core.{Bool.Bool, Bool.true, Bool.◌&&◌, List.List, List.[], List.◌∷◌}
-use Rattle.std.specs.Prelude.{ℕ, ◌+◌, Option, Some, None}
-use lib.{Dec.eqb, Dec.leb, ListN.length}
-use Rattle.std.specs.Option.{option_map}
+use Rattle.std.specs.Prelude.{Bool, true, ◌&&◌, List, [], ◌∷◌, ℕ, ◌+◌, Option, Some, None, eqb, leb, length, option_map}
 use Rattle.base.specs.Choice.{pick}
-use Rattle.chip.specs.declared.{Chip.Chip, Chip.TheVariants.Rp2040, Chip.TheVariants.Rp235x}
-use Rattle.chip.specs.declared.voltage.{CoreVoltage.CoreVoltage, CoreVoltage235.CoreVoltage235}
+use Rattle.chip.specs.declared.Chip.TheVariants.{Rp2040, Rp235x}
+use Rattle.chip.specs.declared.{Chip.Chip, voltage.CoreVoltage.CoreVoltage, voltage.CoreVoltage235.CoreVoltage235}
 use Rattle.chip.specs.Voltage.{core_voltage_of}
 use Rattle.pll.specs.declared.PllConfig.{PllConfig}
 use Rattle.config.specs.declared.RoscConfig.{RoscConfig}
-use Rattle.config.specs.declared.XoscConfig.{XoscConfig}
-use Rattle.config.specs.declared.PeriClkSrc.{PeriClkSrc}
-use Rattle.config.specs.declared.AuxClkConfig.{AuxClkConfig}
-use Rattle.config.specs.declared.RtcClkConfig.{RtcClkConfig}
-use Rattle.config.specs.declared.{RefClkConfig.RefClkConfig, DriveStrength.DriveStrength, ChipConfig.ChipConfig}
-use Rattle.config.specs.declared.ChipConfig.TheVariants.{Rp2040 as on2040, Rp235x as on235x}
-use Rattle.config.specs.declared.ClockConfig.{ClockConfig}
+use Rattle.config.specs.declared.{XoscConfig.XoscConfig, AuxClkConfig.AuxClkConfig, RtcClkConfig.RtcClkConfig}
+use Rattle.config.specs.declared.{DriveStrength.DriveStrength, ChipConfig.ChipConfig, ClockConfig.ClockConfig}
 use Rattle.config.specs.Codes.{range_from, ref_from, sys_source_from, peri_from, aux_from}
 use Rattle.numbers.specs.Fields.{nth, byte_at, half_at, pll_at, u8, u16, u32}
-use Rattle.numbers.specs.Parts.{fit_from, is_part}
-use Rattle.numbers.specs.Answers.{of_value}
+use Rattle.numbers.specs.{Parts.fit_from, Parts.is_part, Answers.of_value}
+use Rattle.config.specs.declared.ChipConfig.TheVariants.{Rp2040 as on2040, Rp235x as on235x}
 
 -- the greatest values: 1 for a flag, the last code for a source or a range; a PLL needs a crystal
 unfoldable pub whole_oscillators : List ℕ → Bool
@@ -88,17 +80,6 @@ crystal_at n =
       delay_multiplier = nth n 14;
     })
 
--- the settling time: flag, µs
-unfoldable pub settling_at : List ℕ → Option ℕ
-settling_at n = flagged n 26 (nth n 27)
-
--- the reference clock: source, divider
-unfoldable pub reference_at : List ℕ → RefClkConfig
-reference_at n = record { src = ref_from (nth n 28); div = byte_at n 29 }
-
-unfoldable pub peripheral_at : List ℕ → Option PeriClkSrc
-peripheral_at n = flagged n 33 (peri_from (nth n 34))
-
 -- the USB or ADC clock from index i on: flag, source, divider, phase
 unfoldable pub divided_at : List ℕ → ℕ → Option AuxClkConfig
 divided_at n i =
@@ -129,12 +110,12 @@ plan_at c n =
       chip = c;
       rosc = ring_at n;
       xosc = crystal_at n;
-      ref_clk = reference_at n;
+      ref_clk = record { src = ref_from (nth n 28); div = byte_at n 29 };
       sys_clk_src = sys_source_from (nth n 30);
-      peri_clk_src = peripheral_at n;
+      peri_clk_src = flagged n 33 (peri_from (nth n 34));
       usb_clk = divided_at n 35;
       adc_clk = divided_at n 39;
-      voltage_stabilization_delay_us = settling_at n;
+      voltage_stabilization_delay_us = flagged n 26 (nth n 27);
     }
 
 unfoldable pub plan_numbered : Chip → List ℕ → Option ClockConfig

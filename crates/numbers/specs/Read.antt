@@ -5,8 +5,7 @@ use Rattle.base.specs.Answer.{Answer}
 use Rattle.chip.specs.declared.{Chip.Chip, Chip.TheVariants.Rp2040, Chip.TheVariants.Rp235x}
 use Rattle.config.specs.declared.ClockConfig.{ClockConfig}
 use Rattle.config.specs.Board.{board_of}
-use Rattle.numbers.specs.Row.{plan_row}
-use Rattle.numbers.specs.Answers.{Writes}
+use Rattle.numbers.specs.{Row.plan_row, Answers.Writes}
 
 -- the number of a chip, as the calls take it: 0 is the RP2040, 1 the RP235x
 abbrev pub chip_number : Chip → ℕ

@@ -1,12 +1,9 @@
 -- The start and the call of a runner that is given as 15 numbers and its kept bytes (docs/FORMAT.md, Runner).
-use mathlib.Core.{Bool.Bool, Path.◌≡◌, List.List, List.◌∷◌, List.◌++◌}
-use Rattle.std.specs.Prelude.{ℕ}
-use lib.{Dec.eqb, Dec.leb, ListN.get_or, ListN.set, ListN.take, ListN.drop, ListN.replicate}
+use Rattle.std.specs.Prelude.{Bool, ◌≡◌, List, ◌∷◌, ◌++◌, ℕ, eqb, leb, get_or, set, take, drop, replicate}
 use Rattle.base.specs.{Choice.pick, Choice.bit, Answer.Answer}
 use Rattle.step.specs.Steps.{pack_of}
-use Rattle.runner.specs.declared.{State.State, Runner.Runner}
-use Rattle.runner.specs.declared.Reply.{Reply}
 use Rattle.runner.specs.declared.Reply.TheVariants.{Done, Handed, Passed, Waiting}
+use Rattle.runner.specs.declared.{State.State, Runner.Runner, Reply.Reply}
 use Rattle.runner.specs.Run.{advance_of, start_of}
 use Rattle.numbers.specs.Answers.{answer_number, left_by, malformed}
 
@@ -35,13 +32,6 @@ progress_number Done = 0
 progress_number Passed = 1
 progress_number Waiting = 2
 progress_number (Handed step) = pack_of step
-
--- the same with the word given, as the code reads it from the sheet
-abbrev pub progress_with : ℕ → Reply → ℕ
-progress_with word Done = 0
-progress_with word Passed = 1
-progress_with word Waiting = 2
-progress_with word (Handed step) = word
 
 -- the numbers with the state replaced, and with the frequencies replaced
 unfoldable pub with_state : State → List ℕ → List ℕ

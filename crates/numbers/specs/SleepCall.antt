@@ -1,8 +1,6 @@
 -- Sleep and wake (docs/SLEEP.md) over four slots, eleven words and the steps, all given as numbers (specs/Slots).
-use Rattle.std.specs.Prelude.{Option, Some, None}
-use mathlib.Core.{Path.◌≡◌, Bool.Bool, Bool.◌&&◌, Bool.◌||◌, List.List}
-use Rattle.std.specs.Prelude.{ℕ}
-use lib.{Dec.leb, Dec.ltb, ListN.get_or, Seq.sets}
+use Rattle.std.specs.Prelude.{Option, Some, None, ◌≡◌, Bool, ◌&&◌, ◌||◌, List, ℕ, leb, ltb, get_or}
+use lib.Seq.{sets}
 use Rattle.base.specs.{Choice.pick, Placed.past}
 use Rattle.sleep.specs.declared.{Slot.Slot, steps.Step.Step}
 use Rattle.sleep.specs.Sleep.{SleepOutcome}

@@ -1,9 +1,8 @@
 -- A plan whose numbers fit their types, as those of every plan that a program holds do.
-use Rattle.config.specs.declared.RoscConfig.{RoscConfig}
-use Rattle.config.specs.declared.XoscConfig.{XoscConfig}
 use Rattle.std.specs.Prelude.{ℕ, ◌≤◌, Option, Some, None}
+use Rattle.config.specs.declared.{RoscConfig.RoscConfig, XoscConfig.XoscConfig, AuxClkConfig.AuxClkConfig, RtcClkConfig.RtcClkConfig}
+use Rattle.config.specs.declared.{ChipConfig.ChipConfig, ClockConfig.ClockConfig}
 use Rattle.pll.specs.declared.PllConfig.{PllConfig}
-use Rattle.config.specs.declared.{AuxClkConfig.AuxClkConfig, RtcClkConfig.RtcClkConfig, ChipConfig.ChipConfig, ClockConfig.ClockConfig}
 use Rattle.numbers.specs.Fields.{u8, u16, u32}
 
 -- what holds of a part that is there

@@ -1,8 +1,8 @@
 // The parts of a plan, each from its index in the row n. An optional part is present where its flag is 1.
 ghost use Rattle.std.specs.Prelude.{◌≡◌};
-ghost use Rattle.numbers.specs.Plan.{strengths_at, ring_at, option_pll_at, crystal_at, settling_at};
-ghost use Rattle.numbers.specs.Plan.{reference_at, peripheral_at, divided_at, rtc_at};
-ghost use Rattle.numbers.specs.Plan.{chip_at};
+ghost use Rattle.config.specs.Codes.{ref_from, peri_from};
+ghost use Rattle.numbers.specs.Fields.{nth, byte_at};
+ghost use Rattle.numbers.specs.Plan.{flagged, strengths_at, ring_at, option_pll_at, crystal_at, divided_at, rtc_at, chip_at};
 
 use crate::fields::{byte_at, half_at, number_at, pll_at};
 use chip::Chip;
@@ -65,17 +65,16 @@ pub(crate) fn crystal(n: &[u32]) -> Option<XoscConfig>
 }
 
 // The settling time in µs.
-#[tactic(auto, using(std::proofs::lemmas::Bool::Decides::nat_tests), unfolding(crate::specs::Plan::settling_at))]
+#[tactic(auto, using(std::proofs::lemmas::Bool::Decides::nat_tests))]
 pub(crate) fn settling(n: &[u32]) -> Option<u32>
-    ensures { result ≡ settling_at n.now }
+    ensures { result ≡ flagged n.now 26 (nth n.now 27) }
 {
     (number_at(n, 26) == 1).then(|| number_at(n, 27))
 }
 
 // The reference clock.
-#[tactic(auto, using(std::proofs::lemmas::Bool::Decides::nat_tests), unfolding(crate::specs::Plan::reference_at))]
 pub(crate) fn reference(n: &[u32]) -> RefClkConfig
-    ensures { result ≡ reference_at n.now }
+    ensures { (result.src ≡ ref_from (nth n.now 28)) × (result.div ≡ byte_at n.now 29) }
 {
     RefClkConfig {
         src: RefClkSrc::from(u64::from(number_at(n, 28))),
@@ -84,9 +83,9 @@ pub(crate) fn reference(n: &[u32]) -> RefClkConfig
 }
 
 // The source of the peripheral clock.
-#[tactic(auto, using(std::proofs::lemmas::Bool::Decides::nat_tests), unfolding(crate::specs::Plan::peripheral_at))]
+#[tactic(auto, using(std::proofs::lemmas::Bool::Decides::nat_tests))]
 pub(crate) fn peripheral(n: &[u32]) -> Option<PeriClkSrc>
-    ensures { result ≡ peripheral_at n.now }
+    ensures { result ≡ flagged n.now 33 (peri_from (nth n.now 34)) }
 {
     (number_at(n, 33) == 1).then(|| PeriClkSrc::from(u64::from(number_at(n, 34))))
 }

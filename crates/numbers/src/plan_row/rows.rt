@@ -1,7 +1,6 @@
 // The numbers of each part of a plan, with a flag before an optional part; those of an absent part are 0.
 ghost use Rattle.std.specs.Prelude.{◌≡◌};
-ghost use Rattle.numbers.specs.Row.{ring_row, crystal_row, sys_pll_in, usb_pll_in, pll_row, first_row, sys_row, peri_row};
-ghost use Rattle.numbers.specs.Row.{aux_row, rtc_row};
+ghost use Rattle.numbers.specs.Row.{part_row, ring_on, crystal_on, sys_pll_in, usb_pll_in, pll_on, first_row, sys_row, peri_on, aux_on, rtc_on};
 
 use config::{
     AuxClkConfig, PeriClkSrc, RefClkConfig, RoscConfig, RtcClkConfig, SysClkSrc, XoscConfig,
@@ -10,7 +9,7 @@ use pll::PllConfig;
 
 // Flag, Hz, range code, eight strengths, divider.
 pub(crate) fn ring(ring: Option<RoscConfig>) -> [u32; 12]
-    ensures { result ≡ ring_row ring }
+    ensures { result ≡ part_row 11 ring_on ring }
 {
     match ring {
         Some(on) => {
@@ -36,7 +35,7 @@ pub(crate) fn ring(ring: Option<RoscConfig>) -> [u32; 12]
 
 // Flag, Hz, delay multiplier.
 pub(crate) fn crystal(crystal: Option<XoscConfig>) -> [u32; 3]
-    ensures { result ≡ crystal_row crystal }
+    ensures { result ≡ part_row 2 crystal_on crystal }
 {
     match crystal {
         Some(on) => [1, on.hz, on.delay_multiplier],
@@ -60,7 +59,7 @@ pub fn usb_pll(crystal: Option<XoscConfig>) -> Option<PllConfig>
 
 // Flag, reference, feedback and post dividers.
 pub(crate) fn pll(pll: Option<PllConfig>) -> [u32; 5]
-    ensures { result ≡ pll_row pll }
+    ensures { result ≡ part_row 4 pll_on pll }
 {
     match pll {
         Some(on) => {
@@ -100,7 +99,7 @@ pub(crate) fn sys(src: SysClkSrc, whole: u32, fraction: u16) -> [u32; 3]
 
 // Flag and source of the peripheral clock.
 pub(crate) fn peri(peri: Option<PeriClkSrc>) -> [u32; 2]
-    ensures { result ≡ peri_row peri }
+    ensures { result ≡ part_row 1 peri_on peri }
 {
     match peri {
         Some(src) => [1, u32::from(u8::from(src))],
@@ -110,7 +109,7 @@ pub(crate) fn peri(peri: Option<PeriClkSrc>) -> [u32; 2]
 
 // Flag, source, divider and phase of the USB or ADC clock.
 pub(crate) fn aux(aux: Option<AuxClkConfig>) -> [u32; 4]
-    ensures { result ≡ aux_row aux }
+    ensures { result ≡ part_row 3 aux_on aux }
 {
     match aux {
         Some(on) => {
@@ -127,7 +126,7 @@ pub(crate) fn aux(aux: Option<AuxClkConfig>) -> [u32; 4]
 
 // Flag, source, whole part, fraction and phase of the RTC clock.
 pub(crate) fn rtc(rtc: Option<RtcClkConfig>) -> [u32; 5]
-    ensures { result ≡ rtc_row rtc }
+    ensures { result ≡ part_row 4 rtc_on rtc }
 {
     match rtc {
         Some(on) => {

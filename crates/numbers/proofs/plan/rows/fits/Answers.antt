@@ -1,11 +1,10 @@
 -- `plan::rows::fits` meets its contract: `all` goes over the limits with their indices.
-use mathlib.Core.Path.{◌≡◌, ap, ◌∙◌}
-use Prim.Native.Nat.{ℕ, ◌+◌}
+use Rattle.std.specs.Prelude.{◌≡◌, ℕ, ◌+◌}
+use mathlib.Core.Path.{ap, ◌∙◌}
 use native.Mathlib.Omega.{arith}
 use borrow.Author.{Rules.rules, Tests.tests}
 use Rattle.std.proofs.lemmas.Iterator.{YieldsList-from_slice}
-use Rattle.std.proofs.lemmas.Iterator.Consumers.{YieldsList-from_enumerate}
-use Rattle.std.proofs.lemmas.Iterator.Search.{all_from_yields_List}
+use Rattle.std.proofs.{lemmas.Iterator.Consumers.YieldsList-from_enumerate, lemmas.Iterator.Search.all_from_yields_List}
 use Rattle.numbers.specs.Parts.{fit_from}
 use Rattle.numbers.proofs.Fits.{within, each_within}
 use Rattle.numbers.proofs.plan.rows.fits.Goals as goal
