@@ -1,23 +1,19 @@
 -- The report of a plan, by the answer of `init`: a length or a refusal.
-use Rattle.std.specs.Prelude.{Result, Ok, Err}
+use Rattle.std.specs.Prelude.{Result, Ok, Err, List, ◌≡◌, ℕ, ◌*◌, ◌/◌, ◌≤◌, length, take}
 use Rattle.base.specs.Refusals.{number_of}
 use Rattle.base.specs.declared.refusal.Refusal.{Refusal}
-use mathlib.Core.{List.List, Path.◌≡◌, Path.ap, Path.◌∙◌}
-use Prim.Native.Nat.{ℕ, ◌*◌, ◌/◌, ◌≤◌}
+use mathlib.Core.Path.{ap, ◌∙◌}
 use native.Mathlib.Omega.{arith}
-use lib.ListN.{length, take}
 use Rattle.step.proofs.Sheets.{length-encoded}
 use Rattle.chip.specs.declared.Chip.TheVariants.{Rp2040}
 use Rattle.config.specs.declared.ClockConfig.{ClockConfig}
 use Rattle.config.specs.Board.{board_of}
 use Rattle.settings.specs.Settings.{settings_of}
-use Rattle.sheet.specs.Steps.{steps_of, most_steps}
-use Rattle.sheet.specs.Writer.{sheet_bytes, InitCall}
+use Rattle.sheet.specs.{Steps.steps_of, Steps.most_steps, Writer.sheet_bytes, Writer.InitCall}
 use Rattle.sheet.proofs.{Sheets.chip-few, Kept.kept, Kept.own-refusal}
 use Rattle.text.specs.Reply.{refused_line}
-use Rattle.report.specs.{Lines.lines_of, Lines.report_names}
 use Rattle.report.specs.Report.{reading, printed_numbers, plan_report}
-use Rattle.report.specs.Ran.{ran_of, report_numbers}
+use Rattle.report.specs.{Lines.lines_of, Lines.report_names, Ran.ran_of, Ran.report_numbers}
 use Rattle.report.proofs.Runs.{run-numbers}
 
 -- the greatest number of steps of the plan's chip is enough for its sheet

@@ -1,31 +1,27 @@
 -- A run, call by call; after the run of the sheet of an accepted plan the numbers are those of the report.
-use mathlib.Core.{Bool.true, List.List, List.[], List.◌∷◌, List.◌++◌, List.map}
-use mathlib.Core.Path.{◌≡◌, refl, sym, ap, ◌∙◌}
-use Prim.Native.Nat.{ℕ, zero, suc, ◌-◌, ◌/◌, ◌≤◌, ◌<◌}
+use Rattle.std.specs.Prelude.{true, List, [], ◌∷◌, ◌++◌, map, ◌≡◌, ℕ, zero, suc, ◌-◌, ◌/◌, ◌≤◌, ◌<◌, length, take, replicate, Result}
+use mathlib.Core.Path.{refl, sym, ap, ◌∙◌}
 use native.Mathlib.{Numerals.add-one, Omega.arith}
-use lib.{ListN.length, ListN.take, ListN.replicate, ListN.length-map, Seq.take-append_seam}
-use Rattle.base.specs.Answer.{Answer}
+use lib.{ListN.length-map, Seq.take-append_seam}
+use Rattle.base.specs.Answer.{Answer, answer_of}
 use Rattle.step.specs.declared.Step.{Step}
 use Rattle.step.specs.Kinds.{is}
-use Rattle.step.specs.declared.kind.Kind.TheVariants as kind
 use Rattle.step.proofs.{Numbers.is-true, Sheets.length-encoded}
 use Rattle.config.specs.declared.ClockConfig.{ClockConfig}
 use Rattle.settings.specs.declared.Settings.{Settings}
 use Rattle.settings.specs.{Settings.settings_of, Frequencies.ten_of, Typed.Typed}
 use Rattle.refusals.specs.Refusals.{Accepted}
-use Rattle.sheet.specs.Steps.{release_mask, clocks_part, steps_of}
-use Rattle.sheet.specs.Writer.{sheet_bytes}
-use Rattle.std.specs.Prelude.{Result}
+use Rattle.sheet.specs.{Steps.release_mask, Steps.clocks_part, Steps.steps_of, Writer.sheet_bytes}
 use Rattle.base.specs.declared.refusal.Refusal.{Refusal}
-use Rattle.runner.specs.declared.Runner.{Runner}
-use Rattle.runner.specs.declared.Reply.{Reply}
-use Rattle.base.{specs.Answer.answer_of, proofs.Bools.either_way}
+use Rattle.runner.specs.declared.{Runner.Runner, Reply.Reply}
+use Rattle.base.proofs.Bools.{either_way}
 use Rattle.runner.specs.Run.{Outcome, outcome, fresh, is_wait, advance_of, Begun, started_with, start_of}
 use Rattle.runner.specs.Calls.{answers, ready_answer}
 use Rattle.bring_up.specs.Up.{plan_steps}
 use Rattle.bring_up.proofs.Run.{sheet-starts, sheet-answers, sheet-run}
 use Rattle.report.specs.Report.{printed_numbers}
 use Rattle.report.specs.Ran.{released_in, released_by, last_released, runs, ran_of, report_numbers}
+use Rattle.step.specs.declared.kind.Kind.TheVariants as kind
 
 -- one call, then the rest
 pub runs-next : (sheet : List ℕ) (left : ℕ) (r : Runner) (mask : ℕ) (reply : Result Reply Refusal) (next : Runner)

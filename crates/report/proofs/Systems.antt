@@ -1,24 +1,21 @@
 -- The `system_freq` plan of every target is accepted at reading 11.
-use mathlib.Core.{Bool.Bool, Bool.true, Bool.false, Bool.not, Path.◌≡◌, Path.refl, Path.ap, Path.◌∙◌}
-use Prim.Native.Nat.{ℕ}
+use Rattle.std.specs.Prelude.{Bool, true, false, not, ◌≡◌, ℕ, eqb, ltb, Some}
+use mathlib.Core.Path.{refl, ap, ◌∙◌}
 use native.Mathlib.Omega.{arith}
-use lib.Dec.{eqb, ltb}
-use Rattle.base.{specs.Choice.pick, specs.Answer.value, proofs.Bools.either_way}
-use Rattle.chip.specs.declared.voltage.CoreVoltage.{CoreVoltage, TheVariants.V1_10, TheVariants.V1_15}
-use Rattle.config.specs.declared.{RoscRange.TheVariants.Medium}
-use Rattle.std.specs.Prelude.{Some}
-use Rattle.config.specs.declared.ClockConfig.{ClockConfig}
+use Rattle.base.specs.{Choice.pick, Answer.value}
+use Rattle.base.proofs.Bools.{either_way}
+use Rattle.chip.specs.declared.voltage.CoreVoltage.TheVariants.{V1_10, V1_15}
+use Rattle.chip.specs.declared.{voltage.CoreVoltage.CoreVoltage, Chip.TheVariants.Rp2040}
+use Rattle.config.specs.declared.{RoscRange.TheVariants.Medium, ClockConfig.ClockConfig}
 use Rattle.divider.specs.{Clock.divided_hz, Delay.startup_sum, Delay.cycles_per_us, Delay.settling_cycles}
 use Rattle.pll.specs.declared.PllConfig.{PllConfig}
 use Rattle.pll.specs.{Setting.valid_of, Search.setting}
 use Rattle.pll.proofs.{Inputs.found-valid, Inputs.search-finds, UsbPreset.usb-preset}
-use Rattle.chip.specs.declared.Chip.TheVariants.{Rp2040}
 use Rattle.config.specs.Board.{board_of}
 use Rattle.config.specs.Presets.{ring_config, feeding, from_plls, crystal_plan, system_voltage, system_plan_from, system_plan}
 use Rattle.settings.specs.declared.Settings.{Settings}
-use Rattle.settings.specs.Settings.{settling_step, settings_of}
 use Rattle.settings.specs.Frequencies.{pll_hz, sources_of, ref_hz, sys_hz, sys_in}
-use Rattle.settings.specs.Typed.{Typed}
+use Rattle.settings.specs.{Settings.settling_step, Settings.settings_of, Typed.Typed}
 use Rattle.settings.proofs.Plls.{pll-silent}
 use Rattle.refusals.specs.Rules.{strengths_over, ring_divider_over, settling_over, startup_over, sys_pll_invalid, usb_pll_invalid}
 use Rattle.refusals.specs.Rules.{divider_bad, reference_bad, whole_bad, peri_bad, aux_bad, rtc_bad}

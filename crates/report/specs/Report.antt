@@ -3,15 +3,13 @@ use Rattle.std.specs.Prelude.{Option, Some, None, List, [], ◌∷◌, ◌++◌,
 use lib.Count.{ones}
 use Rattle.base.specs.declared.refusal.Refusal.{Refusal}
 use Rattle.base.specs.{Answer.Answer, Answer.value, Answer.refusal, Refusals.number_of}
-use Rattle.text.specs.Words.{line_number_of}
+use Rattle.text.specs.{Words.line_number_of, Reply.refused_line}
 use Rattle.chip.specs.declared.Chip.TheVariants.{Rp2040}
 use Rattle.config.specs.declared.ClockConfig.{ClockConfig}
 use Rattle.config.specs.Presets.{system_plan}
 use Rattle.settings.specs.declared.Settings.{Settings}
 use Rattle.settings.specs.{Settings.settings_of, Frequencies.ten_of}
-use Rattle.sheet.specs.Steps.{release_mask}
-use Rattle.sheet.specs.Writer.{refusal_in}
-use Rattle.text.specs.Reply.{refused_line}
+use Rattle.sheet.specs.{Steps.release_mask, Writer.refusal_in}
 use Rattle.report.specs.Lines.{lines_of, report_names}
 
 -- the voltage reading that the program uses

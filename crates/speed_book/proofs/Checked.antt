@@ -1,11 +1,10 @@
 -- The test over the whole book holds by evaluation.
-use mathlib.Core.{Path.sym, Path.subst, List.List, List.flat_map}
-use lib.Dec.{T}
+use Rattle.std.specs.Prelude.{List, T}
+use mathlib.Core.{Path.sym, Path.subst, List.flat_map}
 use Rattle.pll.specs.Search.{falling, keep}
 use Rattle.pll.specs.declared.PllConfig.{PllConfig}
 use Rattle.speed_book.specs.Book.{hertz, insert, by_output, book}
-use Rattle.speed_book.proofs.Merge.{under, merge, merge_each, merged, book-merged}
-use Rattle.speed_book.proofs.Rising.{sound}
+use Rattle.speed_book.proofs.{Merge.under, Merge.merge, Merge.merge_each, Merge.merged, Merge.book-merged, Rising.sound}
 
 checked-merged : T (sound 1988 merged)
 unfolding merged merge_each merge under by_output insert hertz keep flat_map falling

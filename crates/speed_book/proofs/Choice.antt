@@ -1,7 +1,6 @@
 -- The answer of the lookup is that of the search: the nearest output is the greatest below the target or the least
 -- from it on, and the nearer of the two is taken.
-use mathlib.Core.Path.{◌≡◌}
-use Prim.Native.Nat.{ℕ, ◌+◌, ◌-◌, ◌≤◌, ◌<◌}
+use Rattle.std.specs.Prelude.{◌≡◌, ℕ, ◌+◌, ◌-◌, ◌≤◌, ◌<◌}
 use native.Mathlib.{Omega.arith, Decide.dec_le}
 use Rattle.base.specs.Answer.{value}
 use Rattle.pll.specs.{Search.apart, Search.search_of, Walk.key}

@@ -1,9 +1,8 @@
 -- The digits of a table entry give back the output and the dividers.
-use mathlib.Core.Path.{◌≡◌}
-use Prim.Native.Nat.{ℕ, ◌/◌, ◌%◌, ◌<◌}
-use native.Mathlib.{Omega.arith}
-use lib.ListN.{get_or, get_or-map}
-use Rattle.pll.specs.{Search.setting}
+use Rattle.std.specs.Prelude.{◌≡◌, ℕ, ◌/◌, ◌%◌, ◌<◌, get_or}
+use native.Mathlib.Omega.{arith}
+use lib.ListN.{get_or-map}
+use Rattle.pll.specs.Search.{setting}
 use Rattle.speed_book.specs.Book.{hertz, table_number, book, table, output_in, setting_in}
 use Rattle.speed_book.proofs.Entries.{entry_of, entry-permitted}
 

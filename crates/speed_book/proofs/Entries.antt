@@ -1,20 +1,15 @@
 -- The entries of the book are the candidates of the search, in order and complete; the nearest entry is the answer of
 -- the search.
-use mathlib.Core.{Path.◌≡◌, Path.ap, Path.subst, Logic.inl, Logic.inr, Logic.⊎_elim, List.List, List.[], List.◌∷◌}
-use mathlib.Core.Bool.{Bool, true, false}
-use Prim.Native.Nat.{ℕ, ◌≤◌, ◌<◌}
+use Rattle.std.specs.Prelude.{◌≡◌, List, [], ◌∷◌, Bool, true, false, ℕ, ◌≤◌, ◌<◌, leb, length, get_or}
+use mathlib.Core.{Path.ap, Path.subst, Logic.inl, Logic.inr, Logic.⊎_elim}
 use native.Mathlib.{Omega.arith, Nat.eq-or-lt_of_le}
-use lib.{Dec.leb, ListN.length, ListN.get_or}
 use Rattle.base.specs.{Choice.pick, Answer.value}
-use Rattle.pll.specs.{Search.setting, Search.candidates, Search.apart, Search.distance, Search.search_of, Law.Candidate}
-use Rattle.pll.specs.Walk.{key}
+use Rattle.pll.specs.{Search.setting, Search.candidates, Search.apart, Search.distance, Search.search_of, Law.Candidate, Walk.key}
 use Rattle.pll.specs.declared.PllConfig.{PllConfig}
-use Rattle.pll.proofs.Candidates.{vco-is, lists-candidates}
-use Rattle.pll.proofs.Near.{near-search}
+use Rattle.pll.proofs.{Candidates.vco-is, Candidates.lists-candidates, Near.near-search}
 use Rattle.speed_book.specs.Book.{crystal, hertz, insert, by_output, book}
-use Rattle.speed_book.proofs.Members.{In, in-lists, place_in}
 use Rattle.speed_book.proofs.Rising.{Ahead, Permitted, sound-length, sound-permitted, sound-ahead}
-use Rattle.speed_book.proofs.Checked.{checked}
+use Rattle.speed_book.proofs.{Members.In, Members.in-lists, Members.place_in, Checked.checked}
 
 -- the setting at an index of the book
 abbrev pub entry_of : ℕ → PllConfig

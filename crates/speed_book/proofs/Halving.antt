@@ -1,9 +1,8 @@
 -- One halving: the cases of `halved` at a positive number of halvings. And a bisection gives what halvings give, as many as
 -- the indices between its two ends need.
-use mathlib.Core.{Path.◌≡◌, Path.refl, Path.◌∙◌, List.List}
-use Prim.Native.Nat.{ℕ, zero, suc, ◌+◌, ◌-◌, ◌^◌, ◌≤◌, ◌<◌}
+use Rattle.std.specs.Prelude.{◌≡◌, List, ℕ, zero, suc, ◌+◌, ◌-◌, ◌^◌, ◌≤◌, ◌<◌, get_or}
+use mathlib.Core.Path.{refl, ◌∙◌}
 use native.Mathlib.{Omega.arith, Nat.pow-suc}
-use lib.ListN.{get_or}
 use borrow.Author.Tests.{lt-ltb, le-ltb}
 use Rattle.speed_book.specs.Lookup.{middle, halved}
 

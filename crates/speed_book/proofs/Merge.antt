@@ -1,9 +1,7 @@
 -- Sorting a list in two parts and merging them sorts the list, which makes the evaluation of the book fast.
-use mathlib.Core.{Path.◌≡◌, Path.refl, Path.ap, Path.◌∙◌, List.List, List.[], List.◌∷◌, List.◌++◌, List.map, List.flat_map}
-use mathlib.Core.Bool.{Bool, true, false}
-use Prim.Native.Nat.{ℕ, ◌≤◌, ◌<◌}
+use Rattle.std.specs.Prelude.{◌≡◌, List, [], ◌∷◌, ◌++◌, map, Bool, true, false, ℕ, ◌≤◌, ◌<◌, leb}
+use mathlib.Core.{Path.refl, Path.ap, Path.◌∙◌, List.flat_map}
 use native.Mathlib.Omega.{arith}
-use lib.Dec.{leb}
 use borrow.Author.Tests.{leb-true, leb-false, le-leb, lt-leb}
 use Rattle.base.specs.Choice.{pick}
 use Rattle.pll.specs.Search.{falling, setting, settings, keep, permitted, candidates}

@@ -1,8 +1,7 @@
 -- The halving ends in the book at the first index whose output is not below a frequency.
-use mathlib.Core.Path.{◌≡◌, refl}
-use Prim.Native.Nat.{ℕ, zero, suc, ◌+◌, ◌-◌, ◌*◌, ◌≤◌, ◌<◌}
+use Rattle.std.specs.Prelude.{◌≡◌, ℕ, zero, suc, ◌+◌, ◌-◌, ◌*◌, ◌≤◌, ◌<◌, get_or}
+use mathlib.Core.Path.{refl}
 use native.Mathlib.{Omega.arith, Decide.dec_le}
-use lib.ListN.{get_or}
 use Rattle.speed_book.specs.{Book.hertz, Book.table, Lookup.middle, Lookup.halved, Lookup.first_from}
 use Rattle.speed_book.proofs.Halving.{halved_none, halved-empty, halved-up, halved-down}
 use Rattle.speed_book.proofs.{Entries.entry_of, Entries.entry-order, Digits.table_at, Digits.output-digits}

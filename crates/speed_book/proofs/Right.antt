@@ -1,19 +1,16 @@
 -- The table is right by `RightBook` (specs/Law).
-use mathlib.Core.{Path.◌≡◌, Path.refl, Path.sym, Path.subst, Path.◌∙◌, Logic.◌⊎◌, Logic.inl, Logic.inr, Logic.⊎_elim}
-use mathlib.Core.Bool.{Bool, true, false}
-use Prim.Native.Nat.{ℕ, ◌≤◌, ◌<◌}
+use Rattle.std.specs.Prelude.{◌≡◌, ◌⊎◌, Bool, true, false, ℕ, ◌≤◌, ◌<◌, T, length, get_or}
+use mathlib.Core.{Path.refl, Path.sym, Path.subst, Path.◌∙◌, Logic.inl, Logic.inr, Logic.⊎_elim}
 use native.Mathlib.{Omega.arith, Decide.dec_le, Nat.eq-or-lt_of_le}
 use borrow.Author.Tests.{le-leb}
-use lib.{Dec.T, ListN.length, ListN.get_or, ListN.length-map}
+use lib.ListN.{length-map}
 use Rattle.base.specs.Answer.{value}
-use Rattle.pll.specs.{Setting.vco_of, Setting.posts_of, Setting.valid_of, Setting.output_of, Law.Candidate, Law.Before}
-use Rattle.pll.specs.Walk.{key}
+use Rattle.pll.specs.{Setting.vco_of, Setting.posts_of, Setting.valid_of, Setting.output_of, Law.Candidate, Law.Before, Walk.key}
 use Rattle.pll.specs.declared.PllConfig.{PllConfig}
 use Rattle.pll.proofs.Sizes.{posts-most, posts-some}
 use Rattle.speed_book.specs.Book.{crystal, hertz, table_number, book, table, output_at, setting_at}
 use Rattle.speed_book.specs.Law.{RightBook}
-use Rattle.speed_book.proofs.Entries.{entry_of, book-length, entry-permitted, entry-candidate, entry-ahead}
-use Rattle.speed_book.proofs.Entries.{entry-order, entry-complete}
+use Rattle.speed_book.proofs.Entries.{entry_of, book-length, entry-permitted, entry-candidate, entry-ahead, entry-order, entry-complete}
 use Rattle.speed_book.proofs.Digits.{table_at, output-digits, setting-digits}
 
 -- the setting with the greater key precedes

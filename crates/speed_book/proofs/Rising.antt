@@ -1,8 +1,7 @@
 -- A test over a list of settings, entry by entry, and the law that derives the rule for each entry and each pair from it.
-use mathlib.Core.{Path.◌≡◌, List.List, List.[], List.◌∷◌, Bool.Bool, Bool.true, Bool.false}
-use Prim.Native.Nat.{ℕ, zero, suc, ◌+◌, ◌*◌, ◌≤◌, ◌<◌}
+use Rattle.std.specs.Prelude.{◌≡◌, List, [], ◌∷◌, Bool, true, false, ℕ, zero, suc, ◌+◌, ◌*◌, ◌≤◌, ◌<◌, T, leb, ltb, eqb, length, get_or}
 use native.Mathlib.Omega.{arith}
-use lib.{Dec.T, Dec.leb, Dec.ltb, Dec.eqb, Dec.leb→le, Dec.eqb→eq, ListN.length, ListN.get_or}
+use lib.Dec.{leb→le, eqb→eq}
 use Rattle.pll.specs.{Setting.valid_of, Search.setting, Walk.key}
 use Rattle.pll.specs.declared.PllConfig.{PllConfig}
 use Rattle.speed_book.specs.Book.{crystal, hertz}

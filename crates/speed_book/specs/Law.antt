@@ -1,6 +1,5 @@
 -- The right table, stated declaratively (docs/PLL.md, The 12 MHz book); `proofs/Right.antt` proves it of `table`.
-use mathlib.Core.{Path.◌≡◌, Logic.◌⊎◌, List.List, Bool.true}
-use Rattle.std.specs.Prelude.{ℕ, ◌<◌, length}
+use Rattle.std.specs.Prelude.{◌≡◌, ◌⊎◌, List, true, ℕ, ◌<◌, length}
 use Rattle.base.specs.Answer.{value}
 use Rattle.pll.specs.{Setting.valid_of, Setting.output_of, Law.Candidate, Law.Before}
 use Rattle.pll.specs.declared.PllConfig.{PllConfig}

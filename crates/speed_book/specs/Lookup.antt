@@ -1,8 +1,6 @@
 -- A target is looked up in a table by a bisection. In the book the result is that of the search (`lookup-searches`,
 -- proofs/Lookups).
-use mathlib.Core.{List.List, Bool.Bool, Bool.◌&&◌, Bool.◌||◌}
-use Rattle.std.specs.Prelude.{ℕ, zero, suc, ◌+◌, ◌-◌, ◌*◌, ◌/◌, ◌%◌}
-use lib.{Dec.ltb, Dec.eqb, ListN.get_or}
+use Rattle.std.specs.Prelude.{List, Bool, ◌&&◌, ◌||◌, ℕ, zero, suc, ◌+◌, ◌-◌, ◌*◌, ◌/◌, ◌%◌, ltb, eqb, get_or}
 use Rattle.base.specs.{Answer.Answer, Answer.value, Choice.pick}
 use Rattle.pll.specs.declared.PllConfig.{PllConfig}
 use Rattle.speed_book.specs.Book.{output_in, setting_in}

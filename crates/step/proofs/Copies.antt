@@ -1,9 +1,7 @@
 -- Each iteration of the copy adds the bytes of one word; `copied` is the buffer in the end, with room for all words and without.
-use mathlib.Core.{Bool.true, Bool.false, Path.◌≡◌, Path.refl, Path.sym, Path.ap, Path.◌∙◌}
-use mathlib.Core.List.{List, [], ◌∷◌, ◌++◌, map, map-append, append-nil, append_assoc}
-use Prim.Native.Nat.{ℕ, ◌+◌, ◌*◌, ◌≤◌, ◌<◌}
-use lib.ListN.{length, take, drop, get_or, length-map}
-use lib.Seq.{length-take-le, take_at, drop_at, drop-drop, take-suc}
+use Rattle.std.specs.Prelude.{true, false, ◌≡◌, List, [], ◌∷◌, ◌++◌, map, ℕ, ◌+◌, ◌*◌, ◌≤◌, ◌<◌, length, take, drop, get_or}
+use mathlib.Core.{Path.refl, Path.sym, Path.ap, Path.◌∙◌, List.map-append, List.append-nil, List.append_assoc}
+use lib.{ListN.length-map, Seq.length-take-le, Seq.take_at, Seq.drop_at, Seq.drop-drop, Seq.take-suc}
 use borrow.Rule.Slice.PartMut.{put_mid}
 use borrow.Author.Tests.{le-leb, lt-leb}
 use native.Mathlib.{Numerals.add-one, Omega.arith}

@@ -1,17 +1,15 @@
 -- A kind and its number determine each other, and `is` is equality of kinds.
-use mathlib.Core.{Bool.Bool, Bool.true, Bool.false, Bool.◌&&◌, Bool.not, Path.◌≡◌, Path.refl, Path.sym, Path.ap, Path.◌∙◌}
-use Prim.Native.Nat.{ℕ, zero, suc, ◌≤◌, ◌<◌}
+use Rattle.std.specs.Prelude.{Bool, true, false, ◌&&◌, not, ◌≡◌, ℕ, zero, suc, ◌≤◌, ◌<◌, eqb, ltb, cond}
+use mathlib.Core.Path.{refl, sym, ap, ◌∙◌}
 use native.Mathlib.Omega.{arith}
-use lib.{Dec.eqb, ListN.get_or-eq_default}
+use lib.ListN.{get_or-eq_default}
 use borrow.Author.Tests.{eqb-true, eqb-false, eq-eqb, ltb-true, ltb-false}
-use lib.Dec.{ltb}
-use Rattle.std.specs.Prelude.{cond}
 use Rattle.std.proofs.lemmas.Bool.{and_parts}
 use Rattle.base.proofs.Bools.{either_way}
 use Rattle.step.specs.declared.kind.Kind.{Kind}
+use Rattle.step.specs.Kinds.{kind_number, kinds, kind_of, known, is}
 use Rattle.step.specs.declared.kind.Kind.TheVariants as kind
 use Rattle.step.specs.contracts.kind.KindPartialEq.TheImpl as derived
-use Rattle.step.specs.Kinds.{kind_number, kinds, kind_of, known, is}
 
 -- The test holds for each number below n.
 abbrev every : (ℕ → Bool) → ℕ → Bool

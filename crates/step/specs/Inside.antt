@@ -1,8 +1,6 @@
 -- Inside: definitions that only the contracts of the crate's private functions use.
-use mathlib.Core.{Path.◌≡◌}
-use Rattle.std.specs.Prelude.{◌+◌, ◌≤◌}
-use Rattle.step.specs.declared.kind.Kind.{Kind}
-use Rattle.step.specs.declared.packing.Widths.{Widths}
+use Rattle.std.specs.Prelude.{◌≡◌, ◌+◌, ◌≤◌}
+use Rattle.step.specs.declared.{kind.Kind.Kind, packing.Widths.Widths}
 use Rattle.step.specs.Layout.{width}
 
 -- The widths of the five fields of kind k; they leave 6 bits for the kind.

@@ -1,9 +1,7 @@
 -- The preset of the runner trial is accepted, so `init` writes its sheet and answers its length.
-use Rattle.std.specs.Prelude.{Result, Ok, Err}
+use Rattle.std.specs.Prelude.{Result, Ok, Err, List, ◌≡◌, length}
 use Rattle.base.specs.declared.refusal.Refusal.{Refusal}
-use mathlib.Core.{List.List, Path.◌≡◌}
 use Rattle.std.proofs.Common.{ℕ, ◌≤◌, arith}
-use lib.ListN.{length}
 use Rattle.step.specs.Sheet.{max_bytes}
 use Rattle.chip.specs.declared.Chip.TheVariants.{Rp2040}
 use Rattle.config.specs.declared.ClockConfig.{ClockConfig}

@@ -1,8 +1,8 @@
 -- The runner trial: the runner after its start and after one more draw.
-use mathlib.Core.{Bool.Bool, Bool.false, List.List, Path.◌≡◌, Path.sym, Path.ap, Path.ap₂, Path.◌∙◌}
+use Rattle.std.specs.Prelude.{Bool, false, List, ◌≡◌, Result}
+use mathlib.Core.Path.{sym, ap, ap₂, ◌∙◌}
 use Rattle.std.proofs.Common.{ℕ, suc, ◌+◌, length}
-use native.Mathlib.{Numerals.add-one}
-use Rattle.std.specs.Prelude.{Result}
+use native.Mathlib.Numerals.{add-one}
 use Rattle.base.specs.declared.refusal.Refusal.{Refusal}
 use Rattle.base.specs.Answer.{answer_of}
 use Rattle.runner.specs.declared.{Runner.Runner, Reply.Reply}
@@ -10,8 +10,7 @@ use Rattle.runner.specs.Run.{Outcome, outcome, advance_of, Begun, started_with, 
 use Rattle.step.specs.Size.{bad_size}
 use Rattle.runner.proofs.Starts.{start-kept}
 use Rattle.bring_up.specs.Wait.{runner_after}
-use Rattle.trial.specs.Lcg.{drawn, top_bit}
-use Rattle.trial.specs.Load.{flags}
+use Rattle.trial.specs.{Lcg.drawn, Lcg.top_bit, Load.flags}
 
 module _ (seed i : ℕ) where
   pub runner-next : (sheet : List ℕ) {y : ℕ} {r : Runner} {ready : Bool} (reply : Result Reply Refusal) (next : Runner)

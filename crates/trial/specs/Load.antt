@@ -1,10 +1,7 @@
 -- The whole output of the program `load` for its input (docs/PROGRAMS.md, Program load).
-use mathlib.Core.{Bool.Bool, List.List, List.[], List.◌∷◌, List.◌++◌}
-use Rattle.std.specs.Prelude.{ℕ, suc, ◌+◌}
-use lib.{Dec.ltb, ListN.length, ListN.drop}
+use Rattle.std.specs.Prelude.{Bool, List, [], ◌∷◌, ◌++◌, ℕ, suc, ◌+◌, ltb, length, drop}
 use Rattle.base.specs.{Answer.Answer, Answer.value, Answer.refusal, Choice.pick}
-use Rattle.text.specs.{Decimal.number_of, Words.up_to}
-use Rattle.text.specs.Reply.{refused_line, row_text}
+use Rattle.text.specs.{Decimal.number_of, Words.up_to, Reply.refused_line, Reply.row_text}
 use Rattle.chip.specs.declared.Chip.TheVariants.{Rp2040}
 use Rattle.config.specs.Presets.{crystal_plan}
 use Rattle.sheet.specs.Writer.{sheet_bytes}

@@ -1,12 +1,11 @@
 -- The test holds exactly for equal rows of numbers, no bit is set exactly where all rows are equal, and each bit says whether its
 -- rows differ.
-use mathlib.Core.{Path.◌≡◌, Path.refl, Bool.Bool, Bool.true, Bool.◌&&◌, Bool.not}
-use mathlib.Core.List.{List, [], ◌∷◌}
-use Prim.Native.Nat.{ℕ, zero, suc, ◌+◌, ◌*◌, ◌/◌, ◌%◌, ◌^◌, ◌<◌}
+use Rattle.std.specs.Prelude.{◌≡◌, Bool, true, ◌&&◌, not, List, [], ◌∷◌, ℕ, zero, suc, ◌+◌, ◌*◌, ◌/◌, ◌%◌, ◌^◌, ◌<◌, eqb, length, get_or}
+use mathlib.Core.Path.{refl}
 use native.Mathlib.{Nat.div-div-eq-div-mul, Nat.pow-suc, Omega.arith}
 use borrow.Author.Tests.{eqb-true, eq-eqb, ne_eqb}
-use lib.{Dec.eqb, ListN.length, ListN.get_or}
-use Rattle.base.{specs.Choice.pick, proofs.Bools.either_way}
+use Rattle.base.specs.Choice.{pick}
+use Rattle.base.proofs.Bools.{either_way}
 use Rattle.std.proofs.lemmas.Bool.{and_parts}
 use Rattle.wording.specs.Differences.{agree_from, agree, mask_of, has_bit}
 

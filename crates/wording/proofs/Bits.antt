@@ -1,9 +1,8 @@
 -- The mask of the parts that differ is put together from the last part to the first.
-use mathlib.Core.{Path.◌≡◌, Path.refl, Path.sym, Path.ap, Path.◌∙◌, Bool.Bool, Bool.false}
-use mathlib.Core.List.{List, [], ◌∷◌, ◌++◌}
-use Prim.Native.Nat.{ℕ, ◌/◌, ◌^◌, ◌≤◌, ◌<◌}
+use Rattle.std.specs.Prelude.{◌≡◌, Bool, false, List, [], ◌∷◌, ◌++◌, ℕ, ◌/◌, ◌^◌, ◌≤◌, ◌<◌, length}
+use mathlib.Core.Path.{refl, sym, ap, ◌∙◌}
 use native.Mathlib.{Nat.div-eq_of_lt, Omega.arith}
-use lib.{ListN.length, Pow.pow_mono}
+use lib.Pow.{pow_mono}
 use Rattle.wording.specs.Differences.{agreeing, bits_of, mask_of, has_bit}
 
 pub mask-bits : (xs ys : List (List ℕ)) → mask_of xs ys ≡ bits_of (agreeing xs ys)

@@ -1,7 +1,6 @@
 -- The two outcomes of the test of an order: it is refused, or the settings that differ decide.
-use mathlib.Core.Path.{◌≡◌, refl}
-use Prim.Native.Nat.{ℕ}
-use Rattle.std.specs.Prelude.{Ok, Err}
+use Rattle.std.specs.Prelude.{◌≡◌, ℕ, Ok, Err}
+use mathlib.Core.Path.{refl}
 use Rattle.base.specs.declared.refusal.Refusal.{Refusal}
 use Rattle.base.specs.Refusals.{number_of}
 use Rattle.config.specs.declared.ClockConfig.{ClockConfig}
@@ -9,8 +8,7 @@ use Rattle.settings.specs.declared.Frequencies.{Frequencies}
 use Rattle.settings.specs.Settings.{settings_of}
 use Rattle.refusals.specs.Refusals.{examined_of}
 use Rattle.refusals.proofs.Examined.{examined-refused, examined-accepted}
-use Rattle.wording.specs.Differences.{differences_of}
-use Rattle.wording.specs.Verdict.{order_refused, by_bits, compared}
+use Rattle.wording.specs.{Differences.differences_of, Verdict.order_refused, Verdict.by_bits, Verdict.compared}
 
 module _ (reading : ℕ) (p q : ClockConfig) where
   pub refused_order : (reason : Refusal) → Err reason ≡ examined_of (settings_of q reading) reading

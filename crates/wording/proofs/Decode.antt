@@ -1,26 +1,20 @@
 -- The settings of a plan can be decoded from the numbers of their parts, so plans with equal parts have equal settings.
-use Rattle.std.specs.Prelude.{Option, Some, None}
-use mathlib.Core.{Path.◌≡◌, Path.refl, List.List, List.[], List.◌∷◌}
-use Prim.Native.Nat.{ℕ}
-use lib.{Dec.eqb, ListN.get_or}
+use Rattle.std.specs.Prelude.{Option, Some, None, ◌≡◌, List, [], ◌∷◌, ℕ, eqb, get_or}
+use mathlib.Core.Path.{refl}
 use Rattle.base.specs.Choice.{pick}
 use Rattle.chip.specs.declared.{Chip.Chip, Chip.TheVariants.Rp2040, Chip.TheVariants.Rp235x}
-use Rattle.config.specs.declared.SysClkSrc.{SysClkSrc}
+use Rattle.config.specs.declared.{SysClkSrc.SysClkSrc, ClockConfig.ClockConfig, RefClkConfig.RefClkConfig, RoscConfig.RoscConfig}
+use Rattle.config.specs.declared.{PeriClkSrc.PeriClkSrc, AuxClkConfig.AuxClkConfig, RtcClkConfig.RtcClkConfig}
+use Rattle.pll.specs.declared.PllConfig.{PllConfig}
+use Rattle.config.specs.Board.{board_of}
+use Rattle.config.specs.Codes.{sys_code, range_from, ref_from, sys_source_from, peri_from, aux_from, chip_from}
+use Rattle.settings.specs.declared.{Crystal.Crystal, Settings.Settings}
+use Rattle.settings.specs.Settings.{settings_of}
+use Rattle.settings.proofs.Decoded.{range-code, ref-code, peri-code, aux-code, chip-back}
+use Rattle.wording.specs.Parts.{chip_code, ring_numbers, crystal_numbers, sys_pll_of, usb_pll_of, pll_numbers, cycles_numbers, peri_numbers}
+use Rattle.wording.specs.Parts.{aux_numbers, rtc_numbers, parts_of}
 use Rattle.config.specs.declared.SysClkSrc.TheVariants.{Ref as sys_ref, PllSys as sys_pll_sys, PllUsb as sys_pll_usb}
 use Rattle.config.specs.declared.SysClkSrc.TheVariants.{Rosc as sys_rosc, Xosc as sys_xosc}
-use Rattle.config.specs.declared.{ClockConfig.ClockConfig, RefClkConfig.RefClkConfig, RoscConfig.RoscConfig}
-use Rattle.pll.specs.declared.PllConfig.{PllConfig}
-use Rattle.config.specs.declared.PeriClkSrc.{PeriClkSrc}
-use Rattle.config.specs.declared.AuxClkConfig.{AuxClkConfig}
-use Rattle.config.specs.declared.RtcClkConfig.{RtcClkConfig}
-use Rattle.config.specs.Board.{board_of}
-use Rattle.settings.specs.declared.Crystal.{Crystal}
-use Rattle.settings.specs.declared.Settings.{Settings}
-use Rattle.settings.specs.Settings.{settings_of}
-use Rattle.config.specs.Codes.{sys_code, range_from, ref_from, sys_source_from, peri_from, aux_from, chip_from}
-use Rattle.settings.proofs.Decoded.{range-code, ref-code, peri-code, aux-code, chip-back}
-use Rattle.wording.specs.Parts.{chip_code, ring_numbers, crystal_numbers, sys_pll_of, usb_pll_of, pll_numbers, cycles_numbers}
-use Rattle.wording.specs.Parts.{peri_numbers, aux_numbers, rtc_numbers, parts_of}
 
 abbrev pub chip_at : ℕ → Chip
 chip_at n = pick (eqb n 0) Rp2040 Rp235x

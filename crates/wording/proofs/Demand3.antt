@@ -1,20 +1,15 @@
 -- Demand 3 holds for `make`, from its contract alone: a call that answered a length is a call of `init`, for which it holds.
-use Rattle.std.specs.Prelude.{Option, Some, None}
-use mathlib.Core.{Path.◌≡◌, Path.refl, Path.sym, Path.ap, Path.◌∙◌, Logic.◌↔◌, List.List}
-use Prim.Native.Nat.{ℕ}
+use Rattle.std.specs.Prelude.{Option, Some, None, ◌≡◌, ◌↔◌, List, ℕ, Ok, Result}
+use mathlib.Core.Path.{refl, sym, ap, ◌∙◌}
 use native.Mathlib.Omega.{arith}
-use Rattle.base.specs.Answer.{Answer, value, refusal}
-use Rattle.std.specs.Prelude.{Ok}
+use Rattle.base.specs.Answer.{Answer, value, refusal, answer_in}
 use Rattle.config.specs.declared.ClockConfig.{ClockConfig}
 use Rattle.settings.specs.Settings.{settings_of}
 use Rattle.sheet.specs.{Writer.init_answer, Writer.InitCall, Demand3.SameUpTo}
 use Rattle.sheet.proofs.Demand3.{demand-3}
-use Rattle.std.specs.Prelude.{Result}
 use Rattle.base.specs.declared.refusal.Refusal.{Refusal}
-use Rattle.base.specs.Answer.{answer_in}
-use Rattle.wording.specs.Made.{MadeCall, order_made, reading_made}
+use Rattle.wording.specs.{Made.MadeCall, Made.order_made, Made.reading_made, Demand3.MakeSheets}
 use Rattle.export.specs.Demand3.{settings_in}
-use Rattle.wording.specs.Demand3.{MakeSheets}
 
 record Wrote (order : Option (Answer ClockConfig)) (reading : ℕ) (before : List ℕ) (n : ℕ) (after : List ℕ) : Type 0 where
   pub config : ClockConfig

@@ -1,20 +1,24 @@
 -- The derived tests of the parts of settings are those of their numbers.
-use Rattle.std.specs.Prelude.{Option, Some, None, ℕ, ◌≡◌}
-use Rattle.std.specs.Option.{option_eq, option_map, option_map_or}
+use Rattle.std.specs.Prelude.{Option, Some, None, ℕ, ◌≡◌, option_map, Bool, ◌&&◌, List, [], ◌∷◌, eqb}
+use Rattle.std.specs.Option.{option_eq, option_map_or}
 use Rattle.std.proofs.Math.Bool.{and_assoc}
-use mathlib.Core.{Path.sym, Path.refl, Path.ap, Path.◌∙◌, Bool.Bool, Bool.◌&&◌, List.List, List.[], List.◌∷◌}
-use lib.Dec.{eqb}
+use mathlib.Core.Path.{sym, refl, ap, ◌∙◌}
 use borrow.Author.Tests.{eqb-true, eqb-false}
-use denote.Enum.Declared.{Declared}
-use denote.Enum.Bare.{Bare, sameb, true_same, false_same}
+use denote.Enum.{Declared.Declared, Bare.Bare, Bare.sameb, Bare.true_same, Bare.false_same}
 use Rattle.base.proofs.Bools.{either_way}
 use Rattle.chip.specs.declared.Chip.{Chip}
-use Rattle.chip.specs.contracts.Chip as chip
 use Rattle.pll.specs.declared.PllConfig.{PllConfig}
+use Rattle.config.specs.declared.{RoscConfig.RoscConfig, SysClkSrc.SysClkSrc, PeriClkSrc.PeriClkSrc, AuxClkConfig.AuxClkConfig}
+use Rattle.config.specs.declared.{AuxClkSrc.AuxClkSrc, RtcClkConfig.RtcClkConfig, RoscRange.RoscRange, RefClkSrc.RefClkSrc}
+use Rattle.settings.specs.declared.Crystal.{Crystal}
+use Rattle.config.specs.Codes.{range_code, range_from, ref_code, ref_from, sys_code, sys_source_from, peri_aux, peri_from, aux_code}
+use Rattle.config.specs.Codes.{aux_from}
+use Rattle.settings.proofs.Decoded.{range-code, ref-code, peri-code, aux-code}
+use Rattle.wording.specs.{Parts.chip_code, Parts.ring_numbers, Parts.crystal_numbers, Parts.pll_numbers, Parts.cycles_numbers}
+use Rattle.wording.specs.{Parts.peri_numbers, Parts.aux_numbers, Parts.rtc_numbers, Differences.agree}
+use Rattle.wording.proofs.Decode.{chip_at, code-back, sys-back}
+use Rattle.chip.specs.contracts.Chip as chip
 use Rattle.pll.specs.contracts.PllConfigPartialEq.TheImpl as pll
-use Rattle.config.specs.declared.{RoscConfig.RoscConfig, SysClkSrc.SysClkSrc, PeriClkSrc.PeriClkSrc}
-use Rattle.config.specs.declared.{AuxClkConfig.AuxClkConfig, AuxClkSrc.AuxClkSrc, RtcClkConfig.RtcClkConfig, RoscRange.RoscRange}
-use Rattle.config.specs.declared.{RefClkSrc.RefClkSrc}
 use Rattle.config.specs.contracts.RoscRange as range
 use Rattle.config.specs.contracts.RefClkSrc as ref_src
 use Rattle.config.specs.contracts.SysClkSrc as sys_src
@@ -23,14 +27,6 @@ use Rattle.config.specs.contracts.AuxClkSrc as aux_src
 use Rattle.config.specs.contracts.RoscConfigPartialEq.TheImpl as ring
 use Rattle.config.specs.contracts.AuxClkConfigPartialEq.TheImpl as aux
 use Rattle.config.specs.contracts.RtcClkConfigPartialEq.TheImpl as rtc
-use Rattle.settings.specs.declared.Crystal.{Crystal}
-use Rattle.config.specs.Codes.{range_code, range_from, ref_code, ref_from, sys_code, sys_source_from, peri_aux, peri_from, aux_code}
-use Rattle.config.specs.Codes.{aux_from}
-use Rattle.settings.proofs.Decoded.{range-code, ref-code, peri-code, aux-code}
-use Rattle.wording.specs.Parts.{chip_code, ring_numbers, crystal_numbers, pll_numbers, cycles_numbers, peri_numbers, aux_numbers}
-use Rattle.wording.specs.Parts.{rtc_numbers}
-use Rattle.wording.specs.Differences.{agree}
-use Rattle.wording.proofs.Decode.{chip_at, code-back, sys-back}
 
 -- Values of an enum with no fields are the same exactly where their codes are, if the codes are read back.
 same-code : (D : Declared) → Bare D.parts → (code : D.D → ℕ) (from : ℕ → D.D) → ((x : D.D) → from (code x) ≡ x)

@@ -1,19 +1,17 @@
 -- Each register that a step of either chip uses has a name, and the cycles of each pause fit 32 bits. The proof goes kind by
 -- kind, and for a PLL's register over both PLLs of both chips.
-use mathlib.Core.{Path.◌≡◌, Path.refl, Bool.Bool, Bool.true}
-use Prim.Native.Nat.{ℕ, ◌+◌, ◌^◌, ◌<◌}
+use Rattle.std.specs.Prelude.{◌≡◌, Bool, true, ℕ, ◌+◌, ◌^◌, ◌<◌, eqb, leb, length}
+use mathlib.Core.Path.{refl}
 use native.Mathlib.{Nat.mod-lt, Omega.arith}
-use lib.{Dec.eqb, Dec.leb, ListN.length, Pow.pow_pos}
+use lib.Pow.{pow_pos}
 use Rattle.base.specs.{Answer.Answer, Answer.value, Answer.refusal, Choice.pick, Choice.in_range}
 use Rattle.base.proofs.Bools.{either_way}
 use Rattle.chip.specs.declared.{Chip.Chip, Chip.TheVariants.Rp2040, Chip.TheVariants.Rp235x}
-use Rattle.step.specs.declared.Step.{Step}
-use Rattle.registers.specs.{declared.Access.Access, Access.row_of, Access.has, Access.access_of}
-use Rattle.step.specs.declared.kind.Kind.{Kind}
-use Rattle.step.specs.declared.kind.Kind.TheVariants as kind
-use Rattle.registers.specs.Access.{op_of, address_of, value_of}
-use Rattle.registers.specs.Map.{PLL}
+use Rattle.step.specs.declared.{Step.Step, kind.Kind.Kind}
+use Rattle.registers.specs.declared.Access.{Access}
+use Rattle.registers.specs.{Access.row_of, Access.has, Access.access_of, Access.op_of, Access.address_of, Access.value_of, Map.PLL}
 use Rattle.wording.specs.StepNames.{name_rows, name_of}
+use Rattle.step.specs.declared.kind.Kind.TheVariants as kind
 
 -- 1 to 3 use a register: it has a name
 abbrev pub named : Chip → ℕ → ℕ → Bool

@@ -1,17 +1,16 @@
 -- A form is put byte by byte, and each step's form has a place for each of the kind's fields.
-use mathlib.Core.{Path.◌≡◌, Path.refl, Path.ap, Bool.Bool, Bool.true, Bool.false}
-use mathlib.Core.List.{List, [], ◌∷◌, ◌++◌}
-use Prim.Native.{Nat.ℕ, Nat.suc, Nat.◌+◌, Nat.◌≤◌, Nat.◌<◌}
+use Rattle.std.specs.Prelude.{◌≡◌, Bool, true, false, List, [], ◌∷◌, ◌++◌, ℕ, suc, ◌+◌, ◌≤◌, ◌<◌, ltb, length, drop, get_or}
+use mathlib.Core.Path.{refl, ap}
 use native.Mathlib.{Nat.suc-add, Nat.zero-add, Numerals.add-one}
-use lib.{Dec.ltb, ListN.length, ListN.drop, ListN.get_or, ListN.drop_of_length-le, Seq.drop-cons}
-use Rattle.base.specs.{Choice.bit}
+use lib.{ListN.drop_of_length-le, Seq.drop-cons}
+use Rattle.base.specs.Choice.{bit}
 use Rattle.base.proofs.Writing.{put_more, put_none}
 use Rattle.step.specs.declared.kind.Kind.{Kind}
-use Rattle.step.specs.declared.kind.Kind.TheVariants as kind
 use Rattle.step.specs.{Layout.layout, Steps.step_of}
 use Rattle.text.specs.{Ascii.ascii, Decimal.decimal_of, Hex.hex_of}
-use Rattle.wording.specs.{Rows.row_text, Form.clock_rows, Form.clock_name}
-use Rattle.wording.specs.{Form.mask_text, Form.is_field, Form.piece_of, Form.formed_from, Form.formed, Steps.step_form, Steps.step_text}
+use Rattle.wording.specs.Form.{clock_rows, clock_name, mask_text, is_field, piece_of, formed_from, formed}
+use Rattle.wording.specs.{Rows.row_text, Steps.step_form, Steps.step_text}
+use Rattle.step.specs.declared.kind.Kind.TheVariants as kind
 
 -- a form with the numbers after the first one
 from-none : (form : List ℕ) (i : ℕ) → formed_from form [] (suc i) ≡ formed_from form [] i

@@ -1,13 +1,9 @@
 -- A register's name is the one in the code's table at its address, and has at most 25 bytes.
-use Rattle.std.specs.Prelude.{Option, Some, None, cond}
-use Rattle.std.specs.List.{find}
-use Rattle.std.specs.Option.{option_eq}
-use mathlib.Core.{Path.◌≡◌, Path.refl, Path.sym, Path.ap, Path.◌∙◌, Bool.true}
-use mathlib.Core.List.{List, [], ◌∷◌, map}
-use Prim.Native.Nat.{ℕ, ◌≤◌}
+use Rattle.std.specs.Prelude.{Option, Some, None, cond, ◌≡◌, true, List, [], ◌∷◌, map, ℕ, ◌≤◌, eqb, leb, length}
+use Rattle.std.specs.{List.find, Option.option_eq}
+use mathlib.Core.Path.{refl, sym, ap, ◌∙◌}
 use native.Mathlib.Omega.{arith}
 use borrow.Author.Tests.{leb-true}
-use lib.{Dec.eqb, Dec.leb, ListN.length}
 use Rattle.base.proofs.Bools.{either_way}
 use Rattle.std.proofs.lemmas.Bool.{and_parts}
 use Rattle.chip.specs.declared.{Chip.Chip, Chip.TheVariants.Rp2040, Chip.TheVariants.Rp235x}

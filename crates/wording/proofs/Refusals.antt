@@ -1,9 +1,8 @@
 -- The text of a refusal has at most 121 bytes.
+use Rattle.std.specs.Prelude.{ℕ, ◌≤◌, leb, length}
 use mathlib.Core.Path.{refl}
-use Prim.Native.Nat.{ℕ, ◌≤◌}
-use lib.{Dec.leb, ListN.length}
 use Rattle.base.specs.Choice.{pick}
-use Rattle.wording.specs.{Refusals.refusal_rows, Refusals.refusal_text}
+use Rattle.wording.specs.Refusals.{refusal_rows, refusal_text}
 use Rattle.wording.proofs.Tables.{row-most}
 
 pub refusal-most : (number : ℕ) → length (refusal_text number) ≤ 121

@@ -1,9 +1,8 @@
 -- The buffer of 4096 bytes holds an answer of at most that length whole.
-use mathlib.Core.{Path.◌≡◌, Path.refl, Path.ap, Path.◌∙◌, List.List}
-use Prim.Native.Nat.{ℕ, ◌≤◌}
-use native.Mathlib.{Omega.arith}
-use lib.{ListN.length, ListN.take, ListN.drop, ListN.replicate, ListN.length-replicate, ListN.length-take}
-use lib.Seq.{sets, length-sets, take_at}
+use Rattle.std.specs.Prelude.{◌≡◌, List, ℕ, ◌≤◌, length, take, drop, replicate}
+use mathlib.Core.Path.{refl, ap, ◌∙◌}
+use native.Mathlib.Omega.{arith}
+use lib.{ListN.length-replicate, ListN.length-take, Seq.sets, Seq.length-sets, Seq.take_at}
 use Rattle.base.specs.Placed.{past, Placed}
 use Rattle.text.proofs.Outputs.{whole}
 use Rattle.wording.specs.Case.{held}

@@ -1,13 +1,10 @@
 -- A sheet is listed line by line: the record holds between two lines, and at the end the whole listing is put.
-use Rattle.std.specs.Prelude.{Option}
-use mathlib.Core.{Path.◌≡◌, Path.sym, Path.ap, Path.◌∙◌, Bool.true, Bool.false}
-use mathlib.Core.List.{List, [], ◌++◌}
-use Prim.Native.Nat.{ℕ, suc, ◌+◌, ◌-◌, ◌*◌, ◌≤◌, ◌<◌, min}
+use Rattle.std.specs.Prelude.{Option, ◌≡◌, true, false, List, [], ◌++◌, ℕ, suc, ◌+◌, ◌-◌, ◌*◌, ◌≤◌, ◌<◌, min, length, take, drop}
+use mathlib.Core.Path.{sym, ap, ◌∙◌}
 use native.Mathlib.{Decide.dec_le, Omega.arith}
 use borrow.Author.Tests.{le-leb}
-use Rattle.std.proofs.lemmas.Bool.{lt-leb}
-use Rattle.std.proofs.lemmas.List.{take_min}
-use lib.ListN.{length, take, drop, length-take, length-drop, drop_of_length-le}
+use Rattle.std.proofs.{lemmas.Bool.lt-leb, lemmas.List.take_min}
+use lib.ListN.{length-take, length-drop, drop_of_length-le}
 use lib.Seq.{take_all, drop-drop, drop-append_seam, take-append_seam}
 use Rattle.base.specs.{Choice.pick, Writing.Written, Writing.puts}
 use Rattle.base.proofs.Writing.{put_more, put_none}

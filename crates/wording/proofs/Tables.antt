@@ -1,10 +1,8 @@
 -- The rows of a table have a greatest length.
-use mathlib.Core.{Path.◌≡◌, Bool.Bool, Bool.true, Bool.◌&&◌}
-use mathlib.Core.List.{List, [], ◌∷◌}
-use Prim.Native.{Nat.ℕ, Nat.zero, Nat.suc, Nat.◌≤◌, String.String}
+use Rattle.std.specs.Prelude.{◌≡◌, Bool, true, ◌&&◌, List, [], ◌∷◌, ℕ, zero, suc, ◌≤◌, leb, length}
+use Prim.Native.String.{String}
 use native.Mathlib.Omega.{arith}
 use borrow.Author.Tests.{leb-true}
-use lib.{Dec.leb, ListN.length}
 use Rattle.std.proofs.lemmas.Bool.{and_parts}
 use Rattle.text.specs.Ascii.{ascii}
 use Rattle.wording.specs.Rows.{row_text}

@@ -1,8 +1,7 @@
 -- The texts of k + 1 settings are those of k settings and one more, and so are the lines of the clocks.
-use mathlib.Core.{Path.◌≡◌, Path.refl, Path.ap, Path.◌∙◌, List.List, List.[], List.◌∷◌, List.◌++◌}
-use Prim.Native.Nat.{ℕ, ◌+◌}
+use Rattle.std.specs.Prelude.{◌≡◌, List, [], ◌∷◌, ◌++◌, ℕ, ◌+◌, drop, get_or}
+use mathlib.Core.Path.{refl, ap, ◌∙◌}
 use native.Mathlib.{Nat.add-zero, Numerals.add-one}
-use lib.ListN.{drop, get_or}
 use Rattle.std.proofs.lemmas.List.{get_or-drop, drop-drop}
 use Rattle.base.proofs.Writing.{writing}
 use Rattle.config.specs.declared.ClockConfig.{ClockConfig}

@@ -1,33 +1,28 @@
 -- A sheet is read back to a plan that gives it, and no setting differs exactly where the two plans have the same settings and
 -- so the same sheet. So the verdict is `as ordered` for the ordered plan's bytes only.
-use mathlib.Core.{Path.◌≡◌, Path.refl, Path.sym, Path.ap, Path.◌∙◌, Path.subst}
-use mathlib.Core.{Bool.Bool, Bool.true, Bool.false, Bool.not, List.List, List.[]}
-use Rattle.std.specs.Prelude.{Option, Some, None}
+use Rattle.std.specs.Prelude.{◌≡◌, Bool, true, false, not, List, [], Option, Some, None, ℕ, eqb, take, drop, get_or}
+use mathlib.Core.Path.{refl, sym, ap, ◌∙◌, subst}
 use Rattle.base.specs.declared.refusal.Refusal.{Refusal}
-use Prim.Native.Nat.{ℕ}
 use native.Mathlib.Omega.{arith}
 use borrow.Author.Tests.{eqb-true}
-use lib.{Dec.eqb, ListN.take, ListN.drop, ListN.get_or, Seq.take_at}
-use Rattle.base.{specs.Answer.Answer, specs.Answer.value, specs.Answer.refusal, specs.Choice.pick, proofs.Bools.either_way}
+use lib.Seq.{take_at}
+use Rattle.base.specs.{Answer.Answer, Answer.value, Answer.refusal, Choice.pick}
+use Rattle.base.proofs.Bools.{either_way}
 use Rattle.text.specs.Ascii.{ascii}
 use Rattle.config.specs.declared.ClockConfig.{ClockConfig}
 use Rattle.settings.specs.declared.Settings.{Settings}
-use Rattle.settings.specs.{Settings.settings_of, Typed.Typed}
+use Rattle.settings.specs.{Settings.settings_of, Typed.Typed, LeastPlan.plan_of}
 use Rattle.step.specs.Sheet.{encoded}
-use Rattle.sheet.specs.Steps.{steps_of}
+use Rattle.sheet.specs.{Steps.steps_of, Writer.sheet_bytes, Writer.refusal_in}
 use Rattle.refusals.specs.Refusals.{Accepted}
-use Rattle.sheet.specs.Writer.{sheet_bytes, refusal_in}
 use Rattle.sheet.proofs.Demand3.{answered}
-use Rattle.settings.specs.LeastPlan.{plan_of}
 use Rattle.readback.specs.Read.{read_of}
 use Rattle.readback.proofs.{Right.written_read, Right.read-gives, Canonical.settings-kept}
-use Rattle.wording.specs.{Parts.parts_of, Differences.agree, Differences.has_bit, Differences.differences_of}
-use Rattle.wording.proofs.Differing.{none-differs, part-differs}
-use Rattle.wording.specs.Words.{refused_lines}
-use Rattle.wording.specs.Differs.{differs_text}
+use Rattle.wording.specs.Differences.{agree, has_bit, differences_of}
 use Rattle.wording.specs.Verdict.{Verdict, sheet_refused, order_refused, as_ordered, differs, by_bits, unless_refused, compared, delivered}
 use Rattle.wording.specs.Verdict.{verdict_of, verdict_text, check_text}
-use Rattle.wording.specs.Told.{AsOrdered, Named, NamesThose}
+use Rattle.wording.specs.{Parts.parts_of, Words.refused_lines, Differs.differs_text, Told.AsOrdered, Told.Named, Told.NamesThose}
+use Rattle.wording.proofs.Differing.{none-differs, part-differs}
 
 -- no other verdict has that text, because its first byte differs
 only-as-ordered : (reading : ℕ) (v : Verdict) → verdict_text reading v ≡ ascii "as ordered\n" → v ≡ as_ordered

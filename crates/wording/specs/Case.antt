@@ -1,15 +1,11 @@
 -- A case of docs/CASES.md gives its answer and a newline; where the answer is a refusal, its meaning is on a line of its own.
-use mathlib.Core.{Bool.◌||◌, List.List, List.[], List.◌++◌}
-use Rattle.std.specs.Prelude.{ℕ, min}
-use lib.{ListN.take, ListN.replicate, Seq.sets}
+use Rattle.std.specs.Prelude.{◌||◌, List, [], ◌++◌, ℕ, min, take, replicate}
+use lib.Seq.{sets}
 use Rattle.base.specs.{Answer.Answer, Answer.value, Answer.refusal, Choice.pick, Placed.past}
 use Rattle.text.specs.{Ascii.ascii, Ascii.same, Words.up_to, Decimal.number_of}
-use Rattle.cases.specs.Line.{rest_of, word_after}
-use Rattle.cases.specs.Cases.{is_case, answer_to}
-use Rattle.wording.specs.Refusals.{refusal_text}
-use Rattle.wording.specs.Orders.{is_order}
+use Rattle.cases.specs.{Line.rest_of, Line.word_after, Cases.is_case, Cases.answer_to}
+use Rattle.wording.specs.{Refusals.refusal_text, Orders.is_order, Texts.usage_text}
 use Rattle.wording.specs.declared.commands.texts.Usage.{Usage}
-use Rattle.wording.specs.Texts.{usage_text}
 
 unfoldable pub unknown_text : List ℕ → List ℕ
 unknown_text word = ascii "no such command: " ++ (word ++ ascii "\nsee dizbaral help\n")

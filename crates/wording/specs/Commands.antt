@@ -1,18 +1,14 @@
 -- The text interface: the answer to a line (docs/PROGRAMS.md, Program dizbaral).
-use Rattle.std.specs.Prelude.{Option, Some, None, List, [], ◌∷◌, ℕ, ◌-◌, find}
-use lib.{Dec.eqb, ListN.length, ListN.take}
+use Rattle.std.specs.Prelude.{Option, Some, None, List, [], ◌∷◌, ℕ, ◌-◌, find, eqb, length, take}
 use Rattle.base.specs.{Answer.Answer, Choice.pick}
 use Rattle.text.specs.{Ascii.ascii, Ascii.same, Words.up_to}
 use Rattle.config.specs.declared.ClockConfig.{ClockConfig}
 use Rattle.numbers.specs.Fields.{nth, byte_at}
 use Rattle.cases.specs.declared.words.Words.{Words}
 use Rattle.cases.specs.{Line.rest_of, Line.rest_after, Words.unread, Words.given}
-use Rattle.wording.specs.declared.commands.{Command.Command, texts.Usage.Usage}
-use Rattle.wording.specs.Words.{explain_text}
-use Rattle.wording.specs.StepLines.{steps_text}
-use Rattle.wording.specs.Orders.{order_of}
-use Rattle.wording.specs.Verdict.{check_text}
-use Rattle.wording.specs.{Texts.help_text, Texts.usage_text, Case.case_of}
+use Rattle.wording.specs.declared.{commands.Command.Command, commands.texts.Usage.Usage}
+use Rattle.wording.specs.Texts.{help_text, usage_text}
+use Rattle.wording.specs.{Words.explain_text, StepLines.steps_text, Orders.order_of, Verdict.check_text, Case.case_of}
 
 abbrev pub command_name : Command → List ℕ
 command_name Command.Help = ascii "help"

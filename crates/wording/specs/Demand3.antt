@@ -1,13 +1,9 @@
 -- Demand 3 of `make`: two sheets are equal exactly when their plans agree in every setting.
-use Rattle.std.specs.Prelude.{Option, Some}
-use mathlib.Core.{Path.◌≡◌, Logic.◌↔◌, List.List}
-use Rattle.std.specs.Prelude.{ℕ}
-use Rattle.base.specs.Answer.{value}
+use Rattle.std.specs.Prelude.{Option, Some, ◌≡◌, ◌↔◌, List, ℕ, Result}
+use Rattle.base.specs.Answer.{value, answer_in}
 use Rattle.settings.specs.declared.Settings.{Settings}
 use Rattle.sheet.specs.Demand3.{SameUpTo}
-use Rattle.std.specs.Prelude.{Result}
 use Rattle.base.specs.declared.refusal.Refusal.{Refusal}
-use Rattle.base.specs.Answer.{answer_in}
 use Rattle.export.specs.Demand3.{settings_in}
 use Rattle.wording.specs.Made.{order_made, reading_made, MakeCall}
 

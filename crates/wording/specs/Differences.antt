@@ -1,13 +1,12 @@
 -- The settings in which two plans differ, as a mask with a bit for each part of the settings that count; the first part has the
 -- lowest bit.
-use Rattle.std.specs.Prelude.{Result}
+use Rattle.std.specs.Prelude.{Result, ◌≡◌, ◌↔◌, Bool, true, false, ◌&&◌, List, [], ◌∷◌, ◌++◌, ℕ, zero, suc, ◌+◌, ◌*◌, ◌/◌, ◌%◌, ◌^◌, eqb}
 use Rattle.base.specs.declared.refusal.Refusal.{Refusal}
-use mathlib.Core.{Path.◌≡◌, Logic.◌↔◌, Bool.Bool, Bool.true, Bool.false, Bool.◌&&◌, List.List, List.[], List.◌∷◌, List.◌++◌}
-use Prim.Native.{Nat.ℕ, Nat.zero, Nat.suc, Nat.◌+◌, Nat.◌*◌, Nat.◌/◌, Nat.◌%◌, Nat.◌^◌, String.String}
-use Rattle.std.specs.Prelude.{eqb}
+use Prim.Native.String.{String}
 use Rattle.base.specs.{Choice.pick, Answer.value, Answer.answer_of}
 use Rattle.config.specs.declared.ClockConfig.{ClockConfig}
-use Rattle.settings.specs.{declared.Settings.Settings, Settings.settings_of}
+use Rattle.settings.specs.declared.Settings.{Settings}
+use Rattle.settings.specs.Settings.{settings_of}
 use Rattle.sheet.specs.{Writer.InitCall, Demand3.SameUpTo}
 use Rattle.wording.specs.{Rows.row_text, Parts.parts_of}
 

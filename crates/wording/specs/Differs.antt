@@ -1,14 +1,12 @@
 -- The report of a difference: each setting in which the two plans differ, as delivered and as ordered, and each clock that runs
 -- at another frequency.
-use Rattle.std.specs.Prelude.{List, [], ◌∷◌, ◌++◌, ℕ, zero, suc}
-use lib.{Dec.eqb, ListN.get_or}
+use Rattle.std.specs.Prelude.{List, [], ◌∷◌, ◌++◌, ℕ, zero, suc, eqb, get_or}
 use Rattle.base.specs.Choice.{pick}
 use Rattle.text.specs.Ascii.{ascii}
 use Rattle.config.specs.declared.ClockConfig.{ClockConfig}
 use Rattle.settings.specs.declared.Frequencies.{Frequencies}
 use Rattle.settings.specs.{Settings.settings_of, Frequencies.frequencies_of}
-use Rattle.wording.specs.{Rows.row_text, Form.formed, Differences.part_names, Differences.has_bit}
-use Rattle.wording.specs.Words.{setting_line}
+use Rattle.wording.specs.{Rows.row_text, Form.formed, Differences.part_names, Differences.has_bit, Words.setting_line}
 
 -- the name of setting k and its two lines, where its bit is set
 unfoldable pub part_text : ℕ → ℕ → ℕ → ClockConfig → ClockConfig → List ℕ

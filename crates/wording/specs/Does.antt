@@ -1,6 +1,5 @@
 -- What a step does to which register, in words: one form for each way to use a register (registers/specs/Access).
-use Rattle.std.specs.Prelude.{List, [], ◌∷◌, ◌++◌, eqb}
-use Prim.Native.{Nat.ℕ, Nat.◌/◌, Nat.◌%◌}
+use Rattle.std.specs.Prelude.{List, [], ◌∷◌, ◌++◌, eqb, ℕ, ◌/◌, ◌%◌}
 use Rattle.base.specs.Choice.{pick}
 use Rattle.chip.specs.declared.Chip.{Chip}
 use Rattle.text.specs.{Ascii.ascii, Decimal.decimal_of, Hex.hex_of}

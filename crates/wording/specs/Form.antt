@@ -1,8 +1,7 @@
 -- A text with numbers in it: `#` stands for the next number in decimal, `$` for the next as a mask in hex, `@` for the next as
 -- the name of a clock.
-use mathlib.Core.{Bool.Bool, Bool.◌||◌, List.List, List.[], List.◌∷◌, List.◌++◌}
-use Prim.Native.{Nat.ℕ, Nat.◌+◌, Nat.◌/◌, Nat.◌%◌, Nat.min, String.String}
-use lib.{Dec.eqb, ListN.get_or}
+use Rattle.std.specs.Prelude.{Bool, ◌||◌, List, [], ◌∷◌, ◌++◌, ℕ, ◌+◌, ◌/◌, ◌%◌, min, eqb, get_or}
+use Prim.Native.String.{String}
 use Rattle.base.specs.Choice.{pick, bit}
 use Rattle.text.specs.{Decimal.decimal_of, Hex.hex_digit, Hex.hex_of}
 use Rattle.wording.specs.Rows.{row_text}

@@ -1,19 +1,14 @@
 -- A line of words for each setting of docs/FORMAT.md, Settings that count, and for the blocks that the last release leaves out.
-use Rattle.std.specs.Prelude.{Option, Some, None}
-use Rattle.config.specs.declared.RoscConfig.{RoscConfig}
-use Rattle.config.specs.declared.PeriClkSrc.{PeriClkSrc}
-use Rattle.config.specs.declared.AuxClkConfig.{AuxClkConfig}
-use mathlib.Core.{Bool.Bool, Bool.true, Bool.false, Bool.◌&&◌, Bool.not, List.List, List.[], List.◌∷◌, List.◌++◌}
-use Prim.Native.{Nat.ℕ, Nat.◌+◌, Nat.◌*◌, String.String}
-use Rattle.std.specs.Prelude.{eqb}
+use Rattle.std.specs.Prelude.{Option, Some, None, Bool, true, false, ◌&&◌, not, List, [], ◌∷◌, ◌++◌, ℕ, ◌+◌, ◌*◌, eqb}
+use Rattle.config.specs.declared.{RoscConfig.RoscConfig, PeriClkSrc.PeriClkSrc, AuxClkConfig.AuxClkConfig, RtcClkConfig.RtcClkConfig}
+use Rattle.config.specs.declared.{RefClkConfig.RefClkConfig, SysClkSrc.SysClkSrc}
+use Prim.Native.String.{String}
 use Rattle.base.specs.Choice.{pick}
 use Rattle.text.specs.Ascii.{ascii}
 use Rattle.chip.specs.declared.{Chip.Chip, Chip.TheVariants.Rp2040, Chip.TheVariants.Rp235x}
 use Rattle.pll.specs.declared.PllConfig.{PllConfig}
-use Rattle.config.specs.declared.{RtcClkConfig.RtcClkConfig, RefClkConfig.RefClkConfig, SysClkSrc.SysClkSrc}
-use Rattle.settings.specs.declared.{Crystal.Crystal}
-use Rattle.wording.specs.Form.{formed}
-use Rattle.wording.specs.Names.{named_form, range_name, ref_name, sys_name, peri_name, aux_name}
+use Rattle.settings.specs.declared.Crystal.{Crystal}
+use Rattle.wording.specs.{Form.formed, Names.named_form, Names.range_name, Names.ref_name, Names.sys_name, Names.peri_name, Names.aux_name}
 
 unfoldable pub chip_line : Chip → List ℕ
 chip_line Rp2040 = ascii "chip rp2040\n"

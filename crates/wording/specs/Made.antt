@@ -1,16 +1,13 @@
 -- `make` writes the sheet of an order at a reading; its words are READING ORDER.
-use Rattle.std.specs.Prelude.{Option, Some, None, Result}
+use Rattle.std.specs.Prelude.{Option, Some, None, Result, ◌≡◌, List, ℕ, ltb}
 use Rattle.base.specs.declared.refusal.Refusal.{Refusal}
-use mathlib.Core.{Path.◌≡◌, List.List}
-use Rattle.std.specs.Prelude.{ℕ, ltb}
-use Rattle.base.specs.{Answer.Answer, Answer.value, Answer.refusal, Choice.pick}
+use Rattle.base.specs.{Answer.Answer, Answer.value, Answer.refusal, Answer.answer_in, Choice.pick}
 use Rattle.text.specs.{Words.up_to, Decimal.number_of}
 use Rattle.cases.specs.Line.{rest_of}
 use Rattle.config.specs.declared.ClockConfig.{ClockConfig}
 use Rattle.settings.specs.{Settings.settings_of, Typed.Typed}
 use Rattle.sheet.specs.Writer.{init_answer, init_buffer}
 use Rattle.wording.specs.Orders.{order_of}
-use Rattle.base.specs.Answer.{answer_in}
 
 -- the answer of `init` for the plan that is ordered, or the order's refusal; none where there is no order
 abbrev pub made_answer : Option (Answer ClockConfig) → ℕ → List ℕ → Option (Answer ℕ)

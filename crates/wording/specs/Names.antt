@@ -1,8 +1,7 @@
 -- The names of ranges and sources.
 use Rattle.std.specs.Prelude.{List, [], ◌∷◌, ◌++◌, ℕ}
 use Rattle.text.specs.Ascii.{ascii}
-use Rattle.config.specs.declared.{RoscRange.RoscRange, RefClkSrc.RefClkSrc, SysClkSrc.SysClkSrc, PeriClkSrc.PeriClkSrc}
-use Rattle.config.specs.declared.AuxClkSrc.{AuxClkSrc}
+use Rattle.config.specs.declared.{RoscRange.RoscRange, RefClkSrc.RefClkSrc, SysClkSrc.SysClkSrc, PeriClkSrc.PeriClkSrc, AuxClkSrc.AuxClkSrc}
 use Rattle.wording.specs.Form.{formed}
 
 abbrev pub range_name : RoscRange → List ℕ

@@ -1,17 +1,14 @@
 -- An order is the words that ask for a plan (docs/PROGRAMS.md, check). Each order has a row: its name, the letters of the words
 -- that it takes (cases/specs/Words), and the plan that it asks for.
-use Rattle.std.specs.Prelude.{Option, Some, None, is_some, find}
-use Rattle.std.specs.Option.{option_and_then, option_map}
-use mathlib.Core.{Bool.Bool, List.List, List.[], List.◌∷◌}
-use Prim.Native.{Nat.ℕ, String.String}
-use lib.{Dec.eqb, Dec.ltb, ListN.length, ListN.take}
+use Rattle.std.specs.Prelude.{Option, Some, None, is_some, find, option_and_then, option_map, Bool, List, [], ◌∷◌, ℕ, eqb, ltb, length}
+use Rattle.std.specs.Prelude.{take}
+use Prim.Native.String.{String}
 use Rattle.base.specs.{Answer.Answer, Answer.value, Choice.pick}
 use Rattle.text.specs.Ascii.{ascii, same}
 use Rattle.chip.specs.declared.{Chip.Chip, Chip.TheVariants.Rp2040, Chip.TheVariants.Rp235x}
 use Rattle.config.specs.declared.ClockConfig.{ClockConfig}
 use Rattle.config.specs.Presets.{default_plan, crystal_plan, rosc_plan, system_plan, system_plan_from}
-use Rattle.numbers.specs.Fields.{nth, byte_at, pll_at}
-use Rattle.numbers.specs.{Plan.plan_numbered, Manual.manual_by_code}
+use Rattle.numbers.specs.{Fields.nth, Fields.byte_at, Fields.pll_at, Plan.plan_numbered, Manual.manual_by_code}
 use Rattle.readback.specs.Read.{read_of}
 use Rattle.cases.specs.{Line.word_after, Line.rest_after, Words.unread, Words.sheet_at, Words.given}
 use Rattle.wording.specs.declared.orders.names.Preset.{Preset}

@@ -1,13 +1,10 @@
 -- The settings that count, part by part, each as its numbers (docs/FORMAT.md, Settings that count). An absent part has none;
 -- those of a part that is there are in numbers/specs/Row.
-use Rattle.std.specs.Prelude.{Option}
-use Rattle.std.specs.Option.{option_map_or, option_and_then}
-use Rattle.std.specs.Prelude.{List, [], ◌∷◌, ℕ}
+use Rattle.std.specs.Prelude.{Option, option_and_then, List, [], ◌∷◌, ℕ}
+use Rattle.std.specs.Option.{option_map_or}
 use Rattle.chip.specs.declared.{Chip.Chip, Chip.TheVariants.Rp2040, Chip.TheVariants.Rp235x}
-use Rattle.config.specs.declared.{RoscConfig.RoscConfig}
+use Rattle.config.specs.declared.{RoscConfig.RoscConfig, PeriClkSrc.PeriClkSrc, AuxClkConfig.AuxClkConfig, RtcClkConfig.RtcClkConfig}
 use Rattle.pll.specs.declared.PllConfig.{PllConfig}
-use Rattle.config.specs.declared.{PeriClkSrc.PeriClkSrc, AuxClkConfig.AuxClkConfig}
-use Rattle.config.specs.declared.{RtcClkConfig.RtcClkConfig}
 use Rattle.settings.specs.declared.{Crystal.Crystal, Settings.Settings}
 use Rattle.numbers.specs.Row.{ring_on, pll_on, time_on, ref_numbers, sys_row, peri_on, aux_on, rtc_on}
 

@@ -1,18 +1,17 @@
 -- The names of the registers that steps touch, as the RP2040 and RP2350 datasheets have them: the block's name before the
 -- register's. An address that is in no row has no name.
-use Rattle.std.specs.Prelude.{List, [], ◌∷◌, ◌++◌, ◌≡◌, map, eqb, Bool, Option, Some, None}
+use Rattle.std.specs.Prelude.{List, [], ◌∷◌, ◌++◌, ◌≡◌, map, eqb, Bool, Option, Some, None, ℕ}
 use Rattle.std.specs.Option.{option_eq}
 use denote.Ref.{Bor}
-use Prim.Native.{Nat.ℕ, String.String}
+use Prim.Native.String.{String}
 use Rattle.base.specs.Choice.{pick}
 use Rattle.chip.specs.declared.{Chip.Chip, Chip.TheVariants.Rp2040, Chip.TheVariants.Rp235x}
 use Rattle.text.specs.Ascii.{ascii}
-use Rattle.registers.specs.Map.{RESET, RESET_DONE, CLK_REF_CTRL, CLK_REF_DIV, CLK_REF_SELECTED, CLK_SYS_CTRL}
-use Rattle.registers.specs.Map.{CLK_SYS_DIV, CLK_SYS_SELECTED, CLK_SYS_RESUS_CTRL, CLK_PERI_CTRL, CLK_USB_CTRL, CLK_USB_DIV}
-use Rattle.registers.specs.Map.{CLK_ADC_CTRL, CLK_ADC_DIV, CLK_RTC_CTRL, CLK_RTC_DIV}
-use Rattle.registers.specs.Map.{XOSC_CTRL, XOSC_STATUS, XOSC_STARTUP, ROSC_CTRL, ROSC_FREQA, ROSC_FREQB, ROSC_DIV}
-use Rattle.registers.specs.Map.{PLL_CS, PLL_PWR, PLL_FBDIV_INT, PLL_PRIM, VREG, BOD, WATCHDOG_TICK, POWMAN_VREG, POWMAN_BOD}
-use Rattle.registers.specs.Map.{TIMER0_CTRL, TIMER0_CYCLES, WATCHDOG_CTRL, WATCHDOG_CYCLES}
+use Rattle.registers.specs.Map.{RESET, RESET_DONE, CLK_REF_CTRL, CLK_REF_DIV, CLK_REF_SELECTED, CLK_SYS_CTRL, CLK_SYS_DIV, CLK_SYS_SELECTED}
+use Rattle.registers.specs.Map.{CLK_SYS_RESUS_CTRL, CLK_PERI_CTRL, CLK_USB_CTRL, CLK_USB_DIV, CLK_ADC_CTRL, CLK_ADC_DIV, CLK_RTC_CTRL}
+use Rattle.registers.specs.Map.{CLK_RTC_DIV, XOSC_CTRL, XOSC_STATUS, XOSC_STARTUP, ROSC_CTRL, ROSC_FREQA, ROSC_FREQB, ROSC_DIV, PLL_CS}
+use Rattle.registers.specs.Map.{PLL_PWR, PLL_FBDIV_INT, PLL_PRIM, VREG, BOD, WATCHDOG_TICK, POWMAN_VREG, POWMAN_BOD, TIMER0_CTRL}
+use Rattle.registers.specs.Map.{TIMER0_CYCLES, WATCHDOG_CTRL, WATCHDOG_CYCLES}
 
 -- an address and the name of its register
 pub record Row : Type 0 where

@@ -1,11 +1,9 @@
 -- A step in words: its kind's number and name and its fields by name, as docs/FORMAT.md, Kinds of steps, lists them.
-use Rattle.std.specs.Prelude.{List, [], ◌∷◌}
-use Prim.Native.Nat.{ℕ}
+use Rattle.std.specs.Prelude.{List, [], ◌∷◌, ℕ}
 use Rattle.text.specs.Ascii.{ascii}
-use Rattle.step.specs.declared.Step.{Step}
-use Rattle.step.specs.declared.kind.Kind.{Kind}
-use Rattle.step.specs.declared.kind.Kind.TheVariants as kind
+use Rattle.step.specs.declared.{Step.Step, kind.Kind.Kind}
 use Rattle.wording.specs.Form.{formed}
+use Rattle.step.specs.declared.kind.Kind.TheVariants as kind
 
 -- the form of a kind's text, with its fields in their order; a number that is no kind is no step
 abbrev pub step_form : Kind → List ℕ

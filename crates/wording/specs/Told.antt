@@ -1,16 +1,13 @@
 -- A verdict is `as ordered` exactly where the bytes are the ordered plan's sheet, and otherwise names each setting that differs.
-use Rattle.std.specs.Prelude.{Result}
+use Rattle.std.specs.Prelude.{Result, ◌≡◌, not, ◌↔◌, List, [], ℕ, ◌<◌, take, get_or}
 use Rattle.base.specs.declared.refusal.Refusal.{Refusal}
-use mathlib.Core.{Path.◌≡◌, Bool.not, Logic.◌↔◌, List.List, List.[]}
-use Rattle.std.specs.Prelude.{ℕ, ◌<◌, take, get_or}
 use Rattle.base.specs.Answer.{value, answer_of}
 use Rattle.text.specs.Ascii.{ascii}
 use Rattle.config.specs.declared.ClockConfig.{ClockConfig}
 use Rattle.settings.specs.Settings.{settings_of}
 use Rattle.sheet.specs.Writer.{InitCall}
 use Rattle.readback.specs.Read.{read_of}
-use Rattle.wording.specs.{Parts.parts_of, Differences.agree, Differences.has_bit}
-use Rattle.wording.specs.Verdict.{differs, verdict_of, check_text}
+use Rattle.wording.specs.{Parts.parts_of, Differences.agree, Differences.has_bit, Verdict.differs, Verdict.verdict_of, Verdict.check_text}
 
 -- A call of `init` with the ordered plan at this reading, with any buffer, that answered a length: `as ordered` is said
 -- exactly where the bytes that it wrote are the sheet.

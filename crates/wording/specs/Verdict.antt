@@ -7,9 +7,7 @@ use Rattle.config.specs.declared.ClockConfig.{ClockConfig}
 use Rattle.settings.specs.Settings.{settings_of}
 use Rattle.sheet.specs.Writer.{refusal_in}
 use Rattle.readback.specs.Read.{read_of}
-use Rattle.wording.specs.Differences.{differences_of}
-use Rattle.wording.specs.Words.{refused_lines}
-use Rattle.wording.specs.Differs.{differs_text}
+use Rattle.wording.specs.{Differences.differences_of, Words.refused_lines, Differs.differs_text}
 
 -- the sheet is refused, the order is refused, the two agree, or they differ, with a bit for each setting that differs
 pub data Verdict : Type 0 where

@@ -2,17 +2,16 @@
 -- plan's numbers.
 use Rattle.std.specs.Prelude.{List, [], ◌∷◌, ◌++◌, ℕ, zero, suc, get_or, is_none}
 use Rattle.base.specs.Answer.{Answer, value, refusal}
-use Rattle.text.specs.{Ascii.ascii, Decimal.decimal_of}
+use Rattle.text.specs.{Ascii.ascii, Decimal.decimal_of, Reply.spaced}
 use Rattle.chip.specs.Chips.{facts_of}
 use Rattle.config.specs.declared.ClockConfig.{ClockConfig}
 use Rattle.settings.specs.declared.{Settings.Settings, Frequencies.Frequencies}
 use Rattle.settings.specs.{Settings.settings_of, Frequencies.frequencies_of}
-use Rattle.text.specs.Reply.{spaced}
 use Rattle.numbers.specs.Row.{sys_pll_in, usb_pll_in, plan_row}
 use Rattle.readback.specs.Read.{read_of}
 use Rattle.wording.specs.Refusals.{refusal_text}
-use Rattle.wording.specs.Lines.{chip_line, ring_line, crystal_line, pll_line, voltage_line, settling_line, ref_line, sys_line}
-use Rattle.wording.specs.Lines.{peri_line, aux_line, rtc_line, is_rp2040, left_out_line}
+use Rattle.wording.specs.Lines.{chip_line, ring_line, crystal_line, pll_line, voltage_line, settling_line, ref_line, sys_line, peri_line}
+use Rattle.wording.specs.Lines.{aux_line, rtc_line, is_rp2040, left_out_line}
 
 -- the settings in the order of docs/FORMAT.md, Settings that count
 abbrev pub lines_of : ClockConfig → Settings → Frequencies → List (List ℕ)

@@ -1,6 +1,5 @@
 -- The calls that are left, from the current runner and mask, end as all calls do.
-use mathlib.Core.Path.{◌≡◌}
-use Prim.Native.Nat.{◌-◌}
+use Rattle.std.specs.Prelude.{◌≡◌, ◌-◌}
 use Rattle.report.specs.Ran.{runs, ran_of}
 use Rattle.report.proofs.run.Given as goal
 

@@ -1,6 +1,5 @@
 -- With the lines of the clocks that are left the whole text is put.
-use mathlib.Core.Path.{◌≡◌}
-use lib.ListN.{drop}
+use Rattle.std.specs.Prelude.{◌≡◌, drop}
 use Rattle.base.specs.Writing.{written, puts}
 use Rattle.report.proofs.Clocks.{clock_lines}
 use Rattle.report.proofs.write_clocks.Given as goal

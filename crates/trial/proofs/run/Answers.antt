@@ -2,10 +2,8 @@
 -- (`draw-next`) and one more step of the runner (`runner-next`).
 use Rattle.std.proofs.Common.{◌≡◌, refl, ap, ◌∙◌, arith}
 use Rattle.bring_up.specs.Wait.{runner_after}
-use Rattle.trial.specs.Lcg.{drawn}
-use Rattle.trial.specs.Load.{flags}
-use Rattle.trial.proofs.Targets.{draw-next}
-use Rattle.trial.proofs.{Trials.begins, Trials.runner-next}
+use Rattle.trial.specs.{Lcg.drawn, Load.flags}
+use Rattle.trial.proofs.{Targets.draw-next, Trials.begins, Trials.runner-next}
 use Rattle.trial.proofs.run.Goals as goal
 
 pub loop-init : goal.loop-init

@@ -1,8 +1,7 @@
 -- After i calls the runner and the last draw are those of the definitions.
 use Rattle.std.proofs.Common.{◌≡◌}
 use Rattle.bring_up.specs.Wait.{runner_after}
-use Rattle.trial.specs.Lcg.{drawn}
-use Rattle.trial.specs.Load.{flags}
+use Rattle.trial.specs.{Lcg.drawn, Load.flags}
 use Rattle.trial.proofs.run.Given as goal
 
 abbrev pub invariant-loop : goal.invariant-loop

@@ -1,10 +1,9 @@
 -- `step::packing::place` meets its contract: the field and rest share no bit, so `place-bits` turns the `|` into a sum, which is
 -- below 2^above by `field_lt`.
-use mathlib.Core.Path.{◌≡◌}
-use Prim.Native.Nat.{ℕ, ◌+◌, ◌-◌, ◌*◌, ◌%◌, ◌^◌, ◌<◌}
+use Rattle.std.specs.Prelude.{◌≡◌, ℕ, ◌+◌, ◌-◌, ◌*◌, ◌%◌, ◌^◌, ◌<◌}
 use native.Mathlib.Nat.{mod-lt}
 use lib.{Bits.bit_or, Pow.pow_pos}
-use Rattle.step.proofs.{Words.place-bits, Words.field_lt}
+use Rattle.step.proofs.Words.{place-bits, field_lt}
 use Rattle.step.proofs.packing.place.Goals as goal
 
 pub returns : goal.returns

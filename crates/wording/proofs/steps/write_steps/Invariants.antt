@@ -1,6 +1,5 @@
 -- The lines before a position are put, and the chunks that are left are the sheet from there on.
-use Rattle.std.specs.Iterator.Adapters.{enumerate_source, enumerate_count}
-use Rattle.std.specs.Slice.Iter.{chunks_rest, chunks_size}
+use Rattle.std.specs.{Iterator.Adapters.enumerate_source, Iterator.Adapters.enumerate_count, Slice.Iter.chunks_rest, Slice.Iter.chunks_size}
 use Rattle.base.specs.Writing.{written}
 use Rattle.wording.proofs.StepLines.{Listed}
 use Rattle.wording.proofs.steps.write_steps.Given as goal

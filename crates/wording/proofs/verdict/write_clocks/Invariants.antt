@@ -1,7 +1,5 @@
 -- The lines of as many clocks are written as there were turns, and the iterators stand at the next clock.
-use mathlib.Core.Path.{◌≡◌}
-use Prim.Native.Nat.{◌≤◌}
-use lib.ListN.{drop}
+use Rattle.std.specs.Prelude.{◌≡◌, ◌≤◌, drop}
 use Rattle.base.specs.Writing.{Puts}
 use Rattle.wording.specs.Differs.{clock_texts}
 use Rattle.wording.proofs.verdict.write_clocks.Given as goal

@@ -1,6 +1,5 @@
 -- With what is left of the form and of the numbers the whole text is put.
-use mathlib.Core.Path.{◌≡◌}
-use lib.ListN.{drop}
+use Rattle.std.specs.Prelude.{◌≡◌, drop}
 use Rattle.std.specs.Slice.Iter.{iter_rest}
 use Rattle.base.specs.Writing.{written, puts}
 use Rattle.wording.specs.Form.{formed}
