@@ -21,7 +21,8 @@ use Rattle.export.proofs.{Rows.mark-back, Rows.mark-same, Calls.written_read, Ca
 boards-back : (b : Bench) → EightBoards b → bench_held (held_bench b) ≡ b
 boards-back b is =
     let one : (n : ℕ) → n ≤ 7 → stepper_at (board_numbers (board_at b n)) 0 ≡ board_at b n =
-    λ n few. rw (mark-back (board_at b n).state.stopped, ten-whole (board_at b n).freqs (is.ten n no_board (omega (arith, is.eight)))) refl in
+    λ n few. let ten = is.ten n no_board (omega (arith, is.eight)) in
+    rw (mark-back (board_at b n).state.stopped, ten-whole (board_at b n).freqs ten) refl in
     let whole = items-whole no_board 8 b.boards is.eight in
     let held : List Stepper → Bench = λ l. record { boards = l; kept = b.kept; len = b.len } in
     ap (λ l. bench_held (held_bench (held l))) (sym whole)

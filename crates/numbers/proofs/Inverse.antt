@@ -14,7 +14,8 @@ use Rattle.chip.proofs.Codes.{core-voltage-code, code-small}
 use Rattle.pll.specs.declared.PllConfig.{PllConfig}
 use Rattle.config.specs.{Board.board_of, Codes.ref_code}
 use Rattle.settings.proofs.Decoded.{board-small}
-use Rattle.numbers.specs.Row.{part_row, crystal_on, sys_pll_in, usb_pll_in, oscillator_row, first_row, sys_row, clock_row, rtc_numbers, plan_row}
+use Rattle.numbers.specs.Row.{part_row, crystal_on, sys_pll_in, usb_pll_in, oscillator_row, first_row, sys_row, clock_row}
+use Rattle.numbers.specs.Row.{rtc_numbers, plan_row}
 use Rattle.numbers.proofs.PartRows.{ring_row, pll_row, time_row, peri_row, aux_row, rtc_row}
 use Rattle.numbers.specs.Plan.{whole_oscillators, whole_clocks, whole_chip, whole_plan, strengths_at, ring_at, option_pll_at, crystal_at}
 use Rattle.numbers.specs.Plan.{divided_at, rtc_at, chip_at, plan_at, flagged, part2040, part235x}

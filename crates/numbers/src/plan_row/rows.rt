@@ -1,6 +1,7 @@
 // The numbers of each part of a plan, with a flag before an optional part; those of an absent part are 0.
 ghost use Rattle.std.specs.Prelude.{◌≡◌};
-ghost use Rattle.numbers.specs.Row.{part_row, ring_on, crystal_on, sys_pll_in, usb_pll_in, pll_on, first_row, sys_row, peri_on, aux_on, rtc_on};
+ghost use Rattle.numbers.specs.Row.{part_row, ring_on, crystal_on, sys_pll_in, usb_pll_in, pll_on, first_row, sys_row};
+ghost use Rattle.numbers.specs.Row.{peri_on, aux_on, rtc_on};
 
 use config::{
     AuxClkConfig, PeriClkSrc, RefClkConfig, RoscConfig, RtcClkConfig, SysClkSrc, XoscConfig,
