@@ -1,6 +1,6 @@
 -- A word is taken as its letter says, the letters are taken one after another, and the hex of no bytes is no text.
 use Rattle.std.specs.Prelude.{Option, Some, None, Result, Ok, Err, MatchOption}
-use Rattle.std.specs.Option.{option_map}
+use Rattle.std.specs.Option.{option_map, option_and_then}
 use Rattle.std.specs.Bool.{then_some}
 use Rattle.std.specs.Result.{result_ok}
 use Rattle.base.specs.Answer.{answer_of}
@@ -17,7 +17,7 @@ use Rattle.text.specs.{Hex.is_hex_word, Hex.is_readable, Hex.pair_values, Hex.he
 use Rattle.text.proofs.HexWords.{no_word}
 use Rattle.cases.specs.declared.words.Words.{Words}
 use Rattle.cases.specs.Line.{word_after, rest_after}
-use Rattle.cases.specs.Words.{with_number, number_step, then, step, given}
+use Rattle.cases.specs.Words.{with_number, number_step, step, given}
 use Rattle.cases.specs.Said.{hex_behind}
 
 -- a word of hex that is read: it is readable, the count is that of its bytes, and these are at the buffer's start
@@ -62,12 +62,13 @@ module _ (rest letters : List ℕ) (i : ℕ) (s : Words) (in_letters : i < lengt
     letter-full full = rw (drop-cons letters i 0 in_letters, more, le-ltb s.count 128 full)
 
     letter-more : s.count < 128 → given rest (drop i letters) s
-        ≡ then (step (get_or letters i 0) (word_after rest) s) (given (rest_after rest) (drop (suc i) letters))
+        ≡ option_and_then (given (rest_after rest) (drop (suc i) letters)) (step (get_or letters i 0) (word_after rest) s)
     unfolding given
     letter-more room = rw (drop-cons letters i 0 in_letters, more, lt-ltb s.count 128 room)
 
     pub letter-taken : {o : Option Words} {word after : List ℕ} → s.count < 128 → word ≡ word_after rest → after ≡ rest_after rest
-        → o ≡ step (get_or letters i 0) word s → given rest (drop i letters) s ≡ then o (given after (drop (suc i) letters))
+        → o ≡ step (get_or letters i 0) word s
+        → given rest (drop i letters) s ≡ option_and_then (given after (drop (suc i) letters)) o
     letter-taken room w r t = rw (r, rw w at t) (letter-more room)
 
 pub letters-end : (rest letters : List ℕ) (i : ℕ) (s : Words) → length letters ≤ i

@@ -14,14 +14,14 @@ use Rattle.readback.specs.Read.{read_of}
 use Rattle.numbers.specs.Fields.{nth, byte_at, pll_at}
 use Rattle.numbers.specs.Answers.{answer_number, itself, malformed, chip_numbered, on_chip, voltage_number}
 use Rattle.cases.specs.declared.words.Words.{Words}
-use Rattle.cases.specs.{Line.rest_of, Words.unread, Words.sheet_at, Words.given}
+use Rattle.cases.specs.{Line.rest_of, Words.spelled, Words.unread, Words.sheet_at, Words.given}
 use Rattle.cases.specs.declared.table.Case.{Case}
 use Rattle.cases.specs.declared.table.Case.TheVariants as case
 use Rattle.cases.specs.Say.{one_text, found_text, margin_text, level_text, plan_text, planned_text}
 use Rattle.cases.specs.Calls.{chip_at, gpout_text, list_text, manual_text, sheet_text, start_text, run_text, change_text}
 use Rattle.cases.specs.Calls.{bench_start_text, bench_run_text}
 
--- the row of a case: its name, the letters of its words (specs/Words), and the answer from what is read
+-- the row of a case: its name, the letters of its words (specs/Words, `spelled`), and the answer from what is read
 pub record Row : Type 0 where
   pub name : List ℕ
   pub letters : List ℕ
@@ -29,7 +29,7 @@ pub record Row : Type 0 where
 
 -- the row of a case that also takes words of hex or a count, from all that is read
 abbrev pub call_row : String → String → (Words → List ℕ) → Row
-call_row name letters text = record { name = ascii name; letters = ascii letters; text = text }
+call_row name letters text = record { name = ascii name; letters = spelled 0 (ascii letters); text = text }
 
 -- the row of a case that takes only numbers, from the row n of these
 abbrev pub plain_row : String → String → (List ℕ → List ℕ) → Row
@@ -57,7 +57,7 @@ rows case.Voltage =
 -- SYSTEM TARGET
 rows case.Pio = plain_row "pio" "ww" (λ n. one_text (answer_number itself (pio_of (nth n 0) (nth n 1))))
 -- CHIP SOURCE WHOLE FRACTION F0 to F9
-rows case.Gpout = plain_row "gpout" "fbwhwwwwwwwwww" gpout_text
+rows case.Gpout = plain_row "gpout" "fbwh10w" gpout_text
 -- POLLS
 rows case.Wait = plain_row "wait" "w" (λ n. one_text (longest_wait (nth n 0)))
 rows case.List = plain_row "list" "wwr" list_text
@@ -68,21 +68,15 @@ rows case.Default = plain_row "default" "f" (λ n. plan_text (default_plan (chip
 rows case.System = plain_row "system" "fw" (λ n. planned_text (system_plan (chip_at n) (nth n 1)))
 rows case.SystemFrom = plain_row "system_from" "fww" (λ n. planned_text (system_plan_from (chip_at n) (nth n 1) (nth n 2)))
 rows case.Manual = plain_row "manual" "wbhbbb" manual_text
-rows case.Sheet = call_row "sheet" "brfwwwwwwwwwwwwwwwwwwwwwwwwwwwwwwwwwwwwwwwwwwwooooo" (λ s. sheet_text s.row s.count)
+rows case.Sheet = call_row "sheet" "brf43w5o" (λ s. sheet_text s.row s.count)
 -- SHEET READING
 rows case.Read = call_row "read" "xb" (λ s. planned_text (read_of (sheet_of s) (byte_at s.row 1)))
-rows case.Start = call_row "start" "xkwwwwwwwwwwwwwww" (λ s. start_text s.row s.kept (sheet_of s))
-rows case.Run = call_row "run" "xkfwwwwwwwwwwwwwww" (λ s. run_text s.row s.kept (sheet_of s))
-rows case.BenchStart =
-    call_row "bench_start"
-    "xkbwwwwwwwwwwwwwwwwwwwwwwwwwwwwwwwwwwwwwwwwwwwwwwwwwwwwwwwwwwwwwwwwwwwwwwwwwwwwwwwwwwwwwwwwwwwwwwwwwwwwwwwwwwwwwwwww"
-    (λ s. bench_start_text s.row s.kept (sheet_of s))
-rows case.BenchRun =
-    call_row "bench_run"
-    "xkbfwwwwwwwwwwwwwwwwwwwwwwwwwwwwwwwwwwwwwwwwwwwwwwwwwwwwwwwwwwwwwwwwwwwwwwwwwwwwwwwwwwwwwwwwwwwwwwwwwwwwwwwwwwwwwwwww"
-    (λ s. bench_run_text s.row s.kept (sheet_of s))
-rows case.Sleep = call_row "sleep" "bwwwwwwwwwwwwwwwwwwwwwwwwwwwwwwwwwwwwwwwwwwwwwwwwwwwwwwwwwww" (λ s. change_text false s.row)
-rows case.Wake = call_row "wake" "bwwwwwwwwwwwwwwwwwwwwwwwwwwwwwwwwwwwwwwwwwwwwwwwwwwwwwwwwwww" (λ s. change_text true s.row)
+rows case.Start = call_row "start" "xk15w" (λ s. start_text s.row s.kept (sheet_of s))
+rows case.Run = call_row "run" "xkf15w" (λ s. run_text s.row s.kept (sheet_of s))
+rows case.BenchStart = call_row "bench_start" "xkb113w" (λ s. bench_start_text s.row s.kept (sheet_of s))
+rows case.BenchRun = call_row "bench_run" "xkbf113w" (λ s. bench_run_text s.row s.kept (sheet_of s))
+rows case.Sleep = call_row "sleep" "b59w" (λ s. change_text false s.row)
+rows case.Wake = call_row "wake" "b59w" (λ s. change_text true s.row)
 
 abbrev pub name_of : Case → List ℕ
 name_of c = (rows c).name

@@ -1,11 +1,11 @@
 -- The words of a case: its name is followed by one word for each letter of its row, with one space between (docs/CASES.md,
 -- Words).
-use Rattle.std.specs.Prelude.{Option, Some, None}
+use Rattle.std.specs.Prelude.{Option, Some, None, option_and_then}
 use mathlib.Core.{List.List, List.[], List.◌∷◌}
-use Rattle.std.specs.Prelude.{ℕ, suc, ◌-◌}
+use Rattle.std.specs.Prelude.{ℕ, suc, ◌+◌, ◌*◌, ◌-◌, max, ◌++◌}
 use lib.{Dec.eqb, Dec.leb, Dec.ltb, ListN.length, ListN.set, ListN.take, ListN.drop, ListN.replicate, Seq.sets}
 use Rattle.base.specs.{Answer.Answer, Answer.value, Answer.refusal, Choice.pick}
-use Rattle.text.specs.{Decimal.number_of, Hex.is_readable, Hex.pair_values}
+use Rattle.text.specs.{Decimal.is_digit, Decimal.number_of, Hex.is_readable, Hex.pair_values}
 use Rattle.numbers.specs.Fields.{nth}
 use Rattle.cases.specs.declared.words.Words.{Words}
 use Rattle.cases.specs.Line.{word_after, rest_after}
@@ -13,6 +13,12 @@ use Rattle.cases.specs.Line.{word_after, rest_after}
 -- the words read so far: a number for each word, in a row of 128, and the bytes of each word of hex in its buffer
 abbrev pub state_of : ℕ → List ℕ → List ℕ → List ℕ → Words
 state_of count row kept sheet = record { count = count; row = row; kept = kept; sheet = sheet }
+
+-- letters as a row has them: a count before a letter repeats it
+abbrev pub spelled : ℕ → List ℕ → List ℕ
+spelled count [] = []
+spelled count (c ∷ cs) =
+    pick (is_digit c) [] (replicate (max count 1) c) ++ spelled (pick (is_digit c) (count * 10 + (c - 48)) 0) cs
 
 -- the greatest number of a letter: f is a flag, b has 8 bits, h 16 bits, r is a buffer's length, any other has 32 bits
 abbrev pub limit_of : ℕ → ℕ
@@ -27,23 +33,16 @@ abbrev pub number_step : ℕ → Answer ℕ → Words → Option Words
 number_step top (value n) s = pick (leb n top) (Some (with_number s n)) None
 number_step top (refusal m) s = None
 
--- a word of hex: the count of its bytes goes to the row, the bytes go to the start of a buffer; x is the sheet, k the kept bytes
-abbrev pub sheet_step : List ℕ → Words → Option Words
-sheet_step w s =
-    pick (is_readable w (length s.sheet))
-    (Some (with_number (record s { sheet = sets s.sheet 0 (pair_values w) }) (length (pair_values w)))) None
+-- a word of hex: its bytes go to the start of a buffer, and their count goes to the row
+abbrev pub hex_step : List ℕ → List ℕ → (List ℕ → Words) → Option Words
+hex_step w buffer with =
+    pick (is_readable w (length buffer)) (Some (with_number (with (sets buffer 0 (pair_values w))) (length (pair_values w)))) None
 
-abbrev pub kept_step : List ℕ → Words → Option Words
-kept_step w s =
-    pick (is_readable w (length s.kept))
-    (Some (with_number (record s { kept = sets s.kept 0 (pair_values w) }) (length (pair_values w)))) None
-
+-- x is the sheet, k the kept bytes
 unfoldable pub step : ℕ → List ℕ → Words → Option Words
-step l w s = pick (eqb l 120) (sheet_step w s) (pick (eqb l 107) (kept_step w s) (number_step (limit_of l) (number_of w) s))
-
-abbrev pub then : Option Words → (Words → Option Words) → Option Words
-then (Some s) f = f s
-then None f = None
+step l w s =
+    pick (eqb l 120) (hex_step w s.sheet (λ bytes. record s { sheet = bytes }))
+    (pick (eqb l 107) (hex_step w s.kept (λ bytes. record s { kept = bytes })) (number_step (limit_of l) (number_of w) s))
 
 -- reads one word for each letter from the rest of a line; none where a word is not what its letter asks for or the line has more
 -- words; from a letter o on words may be absent
@@ -51,7 +50,7 @@ unfoldable pub given : List ℕ → List ℕ → Words → Option Words
 given rest [] s = pick (eqb (length rest) 0) (Some s) None
 given rest (l ∷ ls) s =
     pick (eqb (length rest) 0) (pick (eqb l 111) (Some s) None)
-    (pick (ltb s.count 128) (then (step l (word_after rest) s) (given (rest_after rest) ls)) None)
+    (pick (ltb s.count 128) (option_and_then (given (rest_after rest) ls) (step l (word_after rest) s)) None)
 
 -- the state before any word is read
 abbrev pub unread : Words
