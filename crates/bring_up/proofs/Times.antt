@@ -6,7 +6,6 @@ use Prim.Native.Nat.{ℕ, ◌/◌, ◌≤◌}
 use native.Mathlib.Omega.{arith}
 use lib.{Dec.eqb, Dec.ltb}
 use Rattle.base.specs.Choice.{pick}
-use Rattle.std.proofs.lemmas.Bool.{or_parts}
 use Rattle.chip.specs.declared.{Chip.Chip, Chip.TheVariants.Rp2040, Chip.TheVariants.Rp235x}
 use Rattle.chip.specs.Chips.{facts_of}
 use Rattle.config.specs.declared.{ChipConfig.ChipConfig, AuxClkConfig.AuxClkConfig, RtcClkConfig.RtcClkConfig, PeriClkSrc.PeriClkSrc}
@@ -16,10 +15,10 @@ use Rattle.settings.specs.declared.{Settings.Settings, Sources.Sources, Frequenc
 use Rattle.settings.specs.{Settings.settings_of, Settings.ring_hz, Typed.Typed, Typed.RtcTyped}
 use Rattle.settings.specs.Frequencies.{sys_hz, peri_hz, aux_hz, rtc_hz, sources_in, ref_in, sys_in, frequencies_of}
 use Rattle.settings.proofs.Decoded.{AuxSmall}
-use Rattle.refusals.specs.Rules.{whole_bad, rtc_bad}
+use Rattle.refusals.specs.Rules.{rtc_bad}
 use Rattle.refusals.specs.Refusals.{refusal_of}
-use Rattle.refusals.proofs.Accepted.{accepted-by, divider-good, whole-good}
-use Rattle.sheet.proofs.Facts.{none_more, aux-fits, aux-divider}
+use Rattle.refusals.proofs.Accepted.{accepted-by, divider-good, whole-good, rtc-good}
+use Rattle.sheet.proofs.Facts.{aux-fits, aux-divider}
 use Rattle.registers.specs.Map.{RESET, CLK_REF_CTRL, CLK_REF_DIV, CLK_SYS_CTRL, CLK_SYS_DIV, CLK_PERI_CTRL, CLK_USB_CTRL, CLK_USB_DIV}
 use Rattle.registers.specs.Map.{CLK_ADC_CTRL, CLK_ADC_DIV, CLK_RTC_CTRL, CLK_RTC_DIV, XOSC_CTRL, ROSC_CTRL, PLL_CS, PLL_PWR, PLL_FBDIV_INT}
 use Rattle.registers.specs.Map.{PLL_PRIM}
@@ -151,15 +150,6 @@ rtc-of : (k : ChipConfig) → RtcOf (board_of k).chip (board_of k).rtc
 rtc-of (ChipConfig.Rp2040 k) = tt
 rtc-of (ChipConfig.Rp235x k) = tt
 
-rtc-whole : (source hz : ℕ) (r : RtcClkConfig) → rtc_bad source hz (Some r) ≡ false
-    → (1 ≤ r.div_int) × (r.div_int ≤ 16777215)
-unfolding rtc_bad
-rtc-whole source hz r e =
-    let still : Bool = eqb source 0 in
-    let h3 = none_more (still || whole_bad 16777215 r.div_int || ltb 3 r.phase) 65535 hz e in
-    let h2 = none_more (still || whole_bad 16777215 r.div_int) 3 r.phase h3.0 in
-    whole-good 16777215 r.div_int (or_parts still (whole_bad 16777215 r.div_int) h2.0).1
-
 rtc-runs : (c : Chip) (source hz : ℕ) (o : Option RtcClkConfig) (f : Sources) (file before after : ℕ → ℕ)
     → RtcOf c o → RtcTyped o → rtc_bad source hz o ≡ false
     → let set = carried_out c (rtc_part c hz o) file in
@@ -167,7 +157,7 @@ rtc-runs : (c : Chip) (source hz : ℕ) (o : Option RtcClkConfig) (f : Sources) 
     → Runs (has_rtc o) (rtc_at f after) (rtc_hz f o) CLK_RTC_CTRL before after
 rtc-runs Rp2040 source hz (Some r) f file before after one typed good e0 e1 e2 =
     let set = rtc-sets hz r file in
-    let w = rtc-whole source hz r good in
+    let w = rtc-good source hz r good in
     rtc-true f r.src r.phase r.div_int r.div_frac (after CLK_RTC_CTRL) (after CLK_RTC_DIV) w.0 w.1 typed
     (e0 ∙ set.0) (e1 ∙ set.1)
 rtc-runs Rp235x source hz (Some r) f file before after one typed good e0 e1 e2 = absurd one

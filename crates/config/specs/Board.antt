@@ -1,9 +1,10 @@
--- The chip-specific part of a plan in common fields. Only this definition distinguishes the two forms of a plan's chip.
-use Rattle.std.specs.Prelude.{None, ◌<◌}
+-- The chip-specific part of a plan in common fields, and back.
+use Rattle.std.specs.Prelude.{None, ◌+◌, ◌%◌, ◌<◌}
 use Rattle.chip.specs.declared.{Chip.TheVariants.Rp2040, Chip.TheVariants.Rp235x}
 use Rattle.chip.specs.Chips.{facts_of}
 use Rattle.chip.specs.Voltage.{volts_of}
 use Rattle.config.specs.declared.{ChipConfig.ChipConfig, Board.Board}
+use Rattle.config.specs.Codes.{chip_from}
 
 -- The RP235x has no RTC.
 abbrev pub board_of : ChipConfig → Board
@@ -23,6 +24,11 @@ board_of (ChipConfig.Rp235x c) =
       fraction = c.div_frac;
       rtc = None;
     }
+
+-- The chip-specific part with this board. The parts of the divider are truncated to the chip's bits, 24 and 8 or 16 and 16.
+abbrev pub config_of : Board → ChipConfig
+config_of b =
+    chip_from b.chip b.volts.code (b.whole % ((facts_of b.chip).top_whole + 1)) (b.fraction % (facts_of b.chip).scale) b.rtc
 
 -- The fraction of the system divider is below the chip's scale.
 abbrev pub FractionFits : Board → Type 0

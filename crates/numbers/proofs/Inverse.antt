@@ -13,16 +13,16 @@ use Rattle.chip.specs.Voltage.{code_of, voltages, with_code, core_voltage_of}
 use Rattle.chip.proofs.Codes.{core-voltage-code, code-small}
 use Rattle.pll.specs.declared.PllConfig.{PllConfig}
 use Rattle.config.specs.{Board.board_of, Codes.ref_code}
-use Rattle.settings.proofs.Decoded.{board-small}
-use Rattle.numbers.specs.Row.{part_row, crystal_on, sys_pll_in, usb_pll_in, oscillator_row, first_row, sys_row, clock_row}
-use Rattle.numbers.specs.Row.{rtc_numbers, plan_row}
+use Rattle.config.proofs.OnChip.{on_chip}
+use Rattle.settings.proofs.Decoded.{ref-code, sys-code, board-small}
+use Rattle.numbers.specs.Row.{part_row, crystal_on, sys_pll_in, usb_pll_in, oscillator_row, first_row, sys_row, clock_row, rtc_numbers, plan_row}
 use Rattle.numbers.proofs.PartRows.{ring_row, pll_row, time_row, peri_row, aux_row, rtc_row}
 use Rattle.numbers.specs.Plan.{whole_oscillators, whole_clocks, whole_chip, whole_plan, strengths_at, ring_at, option_pll_at, crystal_at}
 use Rattle.numbers.specs.Plan.{divided_at, rtc_at, chip_at, plan_at, flagged, part2040, part235x}
 use Rattle.numbers.specs.Plan.{plan_numbered}
 use Rattle.numbers.specs.{Fields.nth, Fields.byte_at, Fields.u8, Fields.u16, Fields.u32, Parts.fit_from, Parts.is_part, Answers.of_value}
 use Rattle.numbers.specs.{Typed.PllTyped, Typed.CrystalTyped, Typed.ChipTyped, Typed.PlanTyped}
-use Rattle.numbers.proofs.PartRows.{row_from, row-whole, cut, both, fits, gone, ref-code, sys-code, codes, code_read, ring_limits}
+use Rattle.numbers.proofs.PartRows.{row_from, row-whole, cut, both, fits, gone, codes, code_read, ring_limits}
 use Rattle.numbers.proofs.PartRows.{ring-back, ring-row, pll_limits, pll-back, pll-row, time_limits, time-back, time-row, peri_limits}
 use Rattle.numbers.proofs.PartRows.{peri-back, peri-row, aux_limits, aux-back, aux-row, rtc_limits, rtc-back, rtc-row, there-fits}
 use Rattle.config.specs.declared.ChipConfig.TheVariants.{Rp2040 as on2040, Rp235x as on235x}
@@ -100,20 +100,6 @@ crystal-row m s u em es eu ls lu =
 
 -- ---- a plan, with its chip-specific part c separate
 
-abbrev plan_with : ChipConfig → ClockConfig → ClockConfig
-plan_with c p =
-    record {
-      chip = c;
-      rosc = p.rosc;
-      xosc = p.xosc;
-      ref_clk = p.ref_clk;
-      sys_clk_src = p.sys_clk_src;
-      peri_clk_src = p.peri_clk_src;
-      usb_clk = p.usb_clk;
-      adc_clk = p.adc_clk;
-      voltage_stabilization_delay_us = p.voltage_stabilization_delay_us;
-    }
-
 module _ (c : ChipConfig) (p : ClockConfig) (t : PlanTyped p) (z : List ℕ) where
   abbrev settling : List ℕ
   settling = time_row p.voltage_stabilization_delay_us
@@ -127,7 +113,7 @@ module _ (c : ChipConfig) (p : ClockConfig) (t : PlanTyped p) (z : List ℕ) whe
       (sys_row p.sys_clk_src (board_of c).whole (board_of c).fraction)
       (row_from 2 0 (peri_row p.peri_clk_src)) (row_from 4 0 (aux_row p.usb_clk)) (row_from 4 0 (aux_row p.adc_clk)) z
 
-  row_is : z ≡ rtc_numbers c → row ≡ plan_row (plan_with c p)
+  row_is : z ≡ rtc_numbers c → row ≡ plan_row (on_chip c p)
   unfolding plan_row oscillator_row clock_row
   row_is e =
       let plls = plls-typed p.xosc t.xosc in
@@ -157,7 +143,7 @@ module _ (c : ChipConfig) (p : ClockConfig) (t : PlanTyped p) (z : List ℕ) whe
       (both (peri-back p.peri_clk_src).1
       (both (aux-back p.usb_clk t.usb).1 (aux-back p.adc_clk t.adc).1)))))
 
-  plan-is : plan_at c row ≡ plan_with c p
+  plan-is : plan_at c row ≡ on_chip c p
   unfolding plan_at ring_at strengths_at crystal_at option_pll_at divided_at
   plan-is = λ i. record {
     chip = c;
@@ -172,7 +158,7 @@ module _ (c : ChipConfig) (p : ClockConfig) (t : PlanTyped p) (z : List ℕ) whe
   }
 
   read-so : (chip : Chip) → z ≡ rtc_numbers c → whole_chip chip row ≡ true → chip_at chip row ≡ Some c
-      → plan_numbered chip (plan_row (plan_with c p)) ≡ Some (plan_with c p)
+      → plan_numbered chip (plan_row (on_chip c p)) ≡ Some (on_chip c p)
   unfolding plan_numbered
   read-so chip e fit read =
       ap (plan_numbered chip) (sym (row_is e))
@@ -185,7 +171,7 @@ pub plan-back : (p : ClockConfig) → PlanTyped p → plan_numbered (board_of p.
 unfolding whole_chip is_part chip_at rtc_at
 plan-back p t = go p.chip t.chip
   where
-    go : (c : ChipConfig) → ChipTyped c → plan_numbered (board_of c).chip (plan_row (plan_with c p)) ≡ Some (plan_with c p)
+    go : (c : ChipConfig) → ChipTyped c → plan_numbered (board_of c).chip (plan_row (on_chip c p)) ≡ Some (on_chip c p)
     go (on2040 c) h =
         let z = rtc_row c.rtc_clk in
         let r = rtc-back c.rtc_clk h.2 in

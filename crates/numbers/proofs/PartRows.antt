@@ -15,7 +15,7 @@ use Rattle.config.specs.declared.{RoscConfig.RoscConfig, PeriClkSrc.PeriClkSrc, 
 use Rattle.config.specs.declared.{RefClkSrc.RefClkSrc, SysClkSrc.SysClkSrc}
 use Rattle.config.specs.Codes.{range_code, ref_code, sys_code, peri_aux, aux_code, range_from, ref_from, sys_source_from, peri_from}
 use Rattle.config.specs.Codes.{aux_from}
-use Rattle.settings.proofs.Decoded.{range-code, aux-code}
+use Rattle.settings.proofs.Decoded.{range-code, peri-code, aux-code}
 use Rattle.numbers.specs.Fields.{nth, byte_at, u8, u16, u32}
 use Rattle.numbers.specs.Row.{part_row, ring_on, pll_on, time_on, peri_on, aux_on, rtc_on}
 use Rattle.numbers.specs.Plan.{flagged, strengths_at, ring_at, option_pll_at, divided_at}
@@ -96,25 +96,6 @@ by_flag row o n limits e if-there if-absent =
     (λ f. if-absent f ∙ absent-row n 0 limits (fits false n 0 limits (rw f at e)))
 
 -- ---- codes
-
-pub ref-code : (x : RefClkSrc) → (ref_from (ref_code x) ≡ x) × (ref_code x ≤ 2)
-ref-code RefClkSrc.Rosc = (refl, omega arith)
-ref-code RefClkSrc.PllUsb = (refl, omega arith)
-ref-code RefClkSrc.Xosc = (refl, omega arith)
-
-pub sys-code : (x : SysClkSrc) → (sys_source_from (sys_code x) ≡ x) × (sys_code x ≤ 4)
-sys-code SysClkSrc.Ref = (refl, omega arith)
-sys-code SysClkSrc.PllSys = (refl, omega arith)
-sys-code SysClkSrc.PllUsb = (refl, omega arith)
-sys-code SysClkSrc.Rosc = (refl, omega arith)
-sys-code SysClkSrc.Xosc = (refl, omega arith)
-
-peri-code : (x : PeriClkSrc) → (peri_from (peri_aux x) ≡ x) × (peri_aux x ≤ 4)
-peri-code PeriClkSrc.Sys = (refl, omega arith)
-peri-code PeriClkSrc.PllSys = (refl, omega arith)
-peri-code PeriClkSrc.PllUsb = (refl, omega arith)
-peri-code PeriClkSrc.Rosc = (refl, omega arith)
-peri-code PeriClkSrc.Xosc = (refl, omega arith)
 
 -- a number within the range of a code is the code of the variant that it decodes to
 pub codes : (n : ℕ) → (n ≤ 3 → (range_code (range_from n) ≡ n) × (aux_code (aux_from n) ≡ n)) × (n ≤ 2 → ref_code (ref_from n) ≡ n)

@@ -7,19 +7,21 @@ use lib.Dec.{eqb}
 use borrow.Author.Tests.{ltb-false}
 use Rattle.base.proofs.Bools.{either_way}
 use Rattle.divider.specs.Delay.{settling_cycles, delay_of}
-use Rattle.config.specs.Board.{board_of}
+use Rattle.config.specs.Board.{board_of, config_of}
 use Rattle.config.specs.declared.{ClockConfig.ClockConfig, XoscConfig.XoscConfig}
 use Rattle.settings.specs.declared.{Settings.Settings}
+use Rattle.settings.proofs.Decoded.{config-back}
+use Rattle.settings.specs.Typed.{Typed}
 use Rattle.settings.specs.Settings.{crystal_of, ring_hz, settling_step, settings_of}
 use Rattle.refusals.specs.Rules.{startup_over, settling_over}
 use Rattle.refusals.specs.Refusals.{Accepted}
-use Rattle.refusals.proofs.Accepted.{accepted-by}
+use Rattle.refusals.proofs.Accepted.{accepted-by, whole-good}
 use lib.Seq.{take_all}
 use Rattle.step.specs.Sheet.{max_steps, encoded}
 use Rattle.sheet.specs.Steps.{steps_of}
 use Rattle.sheet.proofs.{Sheets.settings-back, Sheets.steps-formed, Sheets.steps-few}
 use Rattle.sheet.specs.Writer.{sheet_bytes}
-use Rattle.settings.specs.LeastPlan.{xosc_for, time_for, plan_of}
+use Rattle.settings.specs.LeastPlan.{xosc_for, time_for, plan_with, plan_of}
 use Rattle.readback.specs.{Steps.steps_in, Steps.steps_read, Read.plan_in}
 use Rattle.readback.specs.Law.{Gives, multiplier_in, multiplier_of, time_of, Back}
 use Rattle.readback.proofs.{Numbers.smallest, Numbers.time-back, Decoded.steps-encoded, Fixed.settings-fixed}
@@ -57,7 +59,7 @@ settled reading code time hz ok =
       still = rw (e, z) (λ h. cc);
     }))
 
-module _ (q : ClockConfig) (reading : ℕ) (ok : Accepted q reading) where
+module _ (q : ClockConfig) (reading : ℕ) (ok : Accepted q reading) (t : Typed (settings_of q reading)) where
   abbrev mine : ClockConfig
   mine = plan_of (settings_of q reading)
 
@@ -68,9 +70,18 @@ module _ (q : ClockConfig) (reading : ℕ) (ok : Accepted q reading) where
       × (multiplier_in (xosc_for (crystal_of q.xosc)) ≤ multiplier_in q.xosc)
   crystal-of = crystal-kept q.xosc (accepted-by (settings_of q reading) reading ok 4)
 
+  chip-of : config_of (board_of q.chip) ≡ q.chip
+  chip-of =
+      let b = board_of q.chip in
+      config-back q.chip (whole-good _ b.whole (accepted-by (settings_of q reading) reading ok 9)).1 t.fraction
+
+  -- A plan is the one with its own settings, crystal and time.
+  pub planned : plan_with (settings_of q reading) q.xosc q.voltage_stabilization_delay_us ≡ q
+  planned = rw chip-of
+
   pub settings-kept : settings_of mine reading ≡ settings_of q reading
   unfolding plan_of
-  settings-kept = rw (crystal-of.0, settled-of.kept)
+  settings-kept = rw (chip-of, crystal-of.0, settled-of.kept)
 
   pub multiplier-most : multiplier_of mine ≤ multiplier_of q
   unfolding plan_of
@@ -82,7 +93,7 @@ module _ (q : ClockConfig) (reading : ℕ) (ok : Accepted q reading) where
 
   pub time-still : (settings_of mine reading).settling ≡ None → time_of mine ≡ 0
   unfolding plan_of
-  time-still e = settled-of.still (sym settled-of.kept ∙ e)
+  time-still e = settled-of.still (sym settled-of.kept ∙ (rw chip-of at e))
 
 given-in : (sheet : List ℕ) (reading : ℕ)
     → (plan_in sheet reading).voltage_stabilization_delay_us ≡ Some (time_of (plan_in sheet reading))
@@ -112,7 +123,7 @@ plan-in {sheet} {reading} {q} g =
 module _ {sheet : List ℕ} {reading : ℕ} where
   -- The plan that is read from the bytes has the settings of every plan that gives them.
   pub settings-in : (q : ClockConfig) → Gives sheet reading q → settings_of (plan_in sheet reading) reading ≡ settings_of q reading
-  settings-in q g = rw (plan-in g) (settings-kept q reading g.accepted)
+  settings-in q g = rw (plan-in g) (settings-kept q reading g.accepted g.typed)
 
   pub gives-in : (q : ClockConfig) → Gives sheet reading q → Gives sheet reading (plan_in sheet reading)
   unfolding sheet_bytes
@@ -129,8 +140,8 @@ module _ {sheet : List ℕ} {reading : ℕ} where
   back_in g =
       record {
         gives = g;
-        multiplier = λ q h. rw (plan-in h) (multiplier-most q reading h.accepted);
-        time = λ q h. rw (plan-in h) (time-most q reading h.accepted);
+        multiplier = λ q h. rw (plan-in h) (multiplier-most q reading h.accepted h.typed);
+        time = λ q h. rw (plan-in h) (time-most q reading h.accepted h.typed);
         is_given = given-in sheet reading;
-        still = rw (plan-in g) (time-still (plan_in sheet reading) reading g.accepted);
+        still = rw (plan-in g) (time-still (plan_in sheet reading) reading g.accepted g.typed);
       }

@@ -1,29 +1,27 @@
 -- Truncation does not change the settings of an accepted plan.
 use Rattle.std.specs.Prelude.{Option, Some, None}
-use mathlib.Core.{Path.◌≡◌, Path.refl, Bool.Bool, Bool.false, Bool.◌||◌}
-use Prim.Native.Nat.{ℕ, ◌+◌, ◌%◌, ◌^◌, ◌<◌}
+use mathlib.Core.{Path.◌≡◌, Path.refl, Bool.false}
+use Prim.Native.Nat.{ℕ, ◌+◌, ◌%◌, ◌^◌, ◌≤◌, ◌<◌}
 use native.Mathlib.{Nat.mod-eq_of_lt, Omega.arith}
-use lib.Dec.{eqb, ltb}
 use borrow.Author.Tests.{ltb-false, not-false}
-use Rattle.std.proofs.lemmas.Bool.{or_parts}
 use Rattle.pll.specs.Setting.{valid_of}
 use Rattle.pll.proofs.Valid.{valid}
 use Rattle.config.specs.declared.RoscConfig.{RoscConfig}
 use Rattle.pll.specs.declared.PllConfig.{PllConfig}
-use Rattle.config.specs.declared.ChipConfig.{ChipConfig}
-use Rattle.config.specs.declared.ChipConfig.TheVariants.{Rp2040 as on2040, Rp235x as on235x}
+use Rattle.config.specs.declared.Board.{Board}
 use Rattle.config.specs.declared.{ClockConfig.ClockConfig, AuxClkConfig.AuxClkConfig}
 use Rattle.config.specs.declared.RtcClkConfig.{RtcClkConfig}
-use Rattle.config.specs.Board.{board_of, FractionFits}
+use Rattle.config.specs.Board.{FractionFits}
+use Rattle.chip.specs.declared.{Chip.Chip, Chip.TheVariants.Rp2040, Chip.TheVariants.Rp235x}
 use Rattle.chip.specs.Chips.{facts_of}
 use Rattle.settings.specs.declared.Crystal.{Crystal}
 use Rattle.settings.specs.{Settings.ring_hz, Settings.settings_of, Frequencies.sources_of, Frequencies.frequencies_of}
 use Rattle.settings.specs.Typed.{RtcTyped, Typed}
 use Rattle.refusals.specs.Rules.{strengths_over, ring_divider_over, pll_invalid, sys_pll_invalid, usb_pll_invalid, whole_bad, rtc_bad}
 use Rattle.refusals.specs.Refusals.{Accepted}
-use Rattle.refusals.proofs.Accepted.{accepted-by, strengths-few, divider-good, whole-good}
-use Rattle.sheet.proofs.{Facts.none_more, Facts.AuxFits, Facts.aux-fits, Parts.ring-source}
-use Rattle.readback.specs.Cut.{cut_ring, cut_pll, cut_crystal, cut_aux, cut_rtc, cut_chip, cut_settings}
+use Rattle.refusals.proofs.Accepted.{accepted-by, strengths-few, divider-good, whole-good, rtc-good}
+use Rattle.sheet.proofs.{Facts.AuxFits, Facts.aux-fits, Parts.ring-source}
+use Rattle.readback.specs.Cut.{cut_ring, cut_pll, cut_crystal, cut_aux, cut_rtc, cut_board, cut_settings}
 
 fits : (w x : ℕ) → x < 2 ^ w → x % 2 ^ w ≡ x
 fits w x h = mod-eq_of_lt h
@@ -71,24 +69,22 @@ aux-fixed (Some a) h = rw (fits 8 a.div (omega arith), fits 8 a.phase (omega ari
 aux-fixed None h = refl
 
 rtc-fixed : (source hz : ℕ) (o : Option RtcClkConfig) → RtcTyped o → rtc_bad source hz o ≡ false → cut_rtc o ≡ o
-unfolding rtc_bad
 rtc-fixed source hz (Some r) t e =
-    let still : Bool = eqb source 0 in
-    let h3 = none_more (still || whole_bad 16777215 r.div_int || ltb 3 r.phase) 65535 hz e in
-    let h2 = none_more (still || whole_bad 16777215 r.div_int) 3 r.phase h3.0 in
-    let w = whole-good 16777215 r.div_int (or_parts still (whole_bad 16777215 r.div_int) h2.0).1 in
+    let good = rtc-good source hz r e in
     rw (fits 32 r.div_int (omega arith), fits 8 r.div_frac t, fits 8 r.phase (omega arith))
 rtc-fixed source hz None t e = refl
 
+divider-wide : (chip : Chip) → ((facts_of chip).top_whole < 2 ^ 32) × ((facts_of chip).scale ≤ 2 ^ 16)
+divider-wide Rp2040 = (omega arith, omega arith)
+divider-wide Rp235x = (omega arith, omega arith)
+
 -- The chip-specific part fits its types by the tests of acceptance and the bounds of the types.
-chip-fixed : (c : ChipConfig) (source hz : ℕ) → FractionFits (board_of c) → RtcTyped (board_of c).rtc
-    → whole_bad (facts_of (board_of c).chip).top_whole (board_of c).whole ≡ false
-    → rtc_bad source hz (board_of c).rtc ≡ false → cut_chip c ≡ c
-chip-fixed (on2040 c) source hz t u w e =
-    let g = whole-good 16777215 c.div_int w in
-    rw (fits 32 c.div_int (omega arith), fits 8 c.div_frac t, rtc-fixed source hz c.rtc_clk u e)
-chip-fixed (on235x c) source hz t u w e =
-    let g = whole-good 65535 c.div_int w in rw (fits 16 c.div_int (omega arith), fits 16 c.div_frac t)
+board-fixed : (b : Board) (source hz : ℕ) → FractionFits b → RtcTyped b.rtc → whole_bad (facts_of b.chip).top_whole b.whole ≡ false
+    → rtc_bad source hz b.rtc ≡ false → cut_board b ≡ b
+board-fixed b source hz t u w e =
+    let g = whole-good (facts_of b.chip).top_whole b.whole w in
+    let wide = divider-wide b.chip in
+    rw (fits 32 b.whole (omega arith), fits 16 b.fraction (omega arith), rtc-fixed source hz b.rtc u e)
 
 pub settings-fixed : (p : ClockConfig) (reading : ℕ) → Accepted p reading → Typed (settings_of p reading)
     → cut_settings (settings_of p reading) ≡ settings_of p reading
@@ -99,7 +95,7 @@ settings-fixed p reading ok t =
     let a = accepted-by s reading ok in
     let d = divider-good s.reference.div (a 7) in
     rw (
-      chip-fixed p.chip f.rtc_source f.rtc t.fraction t.rtc (a 9) (a 14),
+      board-fixed s.board f.rtc_source f.rtc t.fraction t.rtc (a 9) (a 14),
       ring-fixed (facts_of s.board.chip).pass s.rosc (rw (← ring-source s.rosc s.xosc) t.rosc) (a 1) (a 2),
       crystal-fixed s.rosc s.xosc t.xosc (a 5) (a 6),
       fits 8 s.reference.div (omega arith),

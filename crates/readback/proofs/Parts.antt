@@ -3,7 +3,7 @@ use Rattle.std.specs.Prelude.{Option, Some}
 use mathlib.Core.{Path.◌≡◌, Path.refl, Path.◌∙◌, List.List}
 use Prim.Native.Nat.{ℕ}
 use lib.ListN.{drop}
-use Rattle.config.specs.declared.{ChipConfig.ChipConfig}
+use Rattle.config.specs.declared.{Board.Board}
 use Rattle.config.specs.Board.{board_of}
 use Rattle.settings.specs.declared.{Crystal.Crystal, Settings.Settings}
 use Rattle.step.specs.declared.Step.{Step}
@@ -50,19 +50,19 @@ pub past-tick : (chip : Chip) (xs : List Step) → past_tick chip xs ≡ drop (t
 past-tick Rp2040 xs = refl
 past-tick Rp235x xs = refl
 
--- The chip-specific part of the plan.
-abbrev pub chip_there : ℕ → List Step → ChipConfig
-chip_there reading xs =
-    chip_from (value_in (chip_taken xs)) (value_in (voltage_taken reading xs)).code
+-- The chip-specific part of the plan in common fields.
+abbrev pub board_there : ℕ → List Step → Board
+board_there reading xs =
+    board_of
+    (chip_from (value_in (chip_taken xs)) (value_in (voltage_taken reading xs)).code
     (value_in (sys_taken reading xs)).whole (value_in (sys_taken reading xs)).fraction
-    (read_rtc (rest_in (adc_taken reading xs)))
+    (read_rtc (rest_in (adc_taken reading xs))))
 
 -- The settings are those of the parts.
 pub settings-there : (reading : ℕ) (xs : List Step)
     → ◌≡◌ {A = Settings} (settings_from reading xs)
     (record {
-      chip = chip_there reading xs;
-      board = board_of (chip_there reading xs);
+      board = board_there reading xs;
       rosc = value_in (ring_taken xs);
       xosc = value_in (crystal_taken reading xs);
       settling = (value_in (voltage_taken reading xs)).settling;

@@ -12,12 +12,10 @@ use Rattle.text.proofs.Same.{same_refl}
 use Rattle.readback.proofs.Canonical.{plan-in, gives-in, back_in}
 use Rattle.readback.proofs.{Accepting.none-held, Unique.readback-one}
 use Rattle.config.specs.declared.{ClockConfig.ClockConfig, RoscConfig.RoscConfig}
-use Rattle.config.specs.declared.ChipConfig.{ChipConfig}
-use Rattle.config.specs.declared.ChipConfig.TheVariants.{Rp2040 as on2040, Rp235x as on235x}
 use Rattle.config.specs.declared.RtcClkConfig.{RtcClkConfig}
 use Rattle.chip.specs.declared.{Chip.Chip, Chip.TheVariants.Rp2040, Chip.TheVariants.Rp235x}
 use Rattle.chip.specs.Chips.{facts_of}
-use Rattle.config.specs.Board.{board_of, FractionFits}
+use Rattle.config.specs.{Board.board_of, Board.FractionFits, Codes.chip_from}
 use Rattle.settings.specs.declared.Crystal.{Crystal}
 use Rattle.settings.specs.declared.Settings.{Settings}
 use Rattle.settings.specs.{Settings.crystal_of, Settings.ring_hz, Settings.settings_of, Frequencies.sources_of}
@@ -32,7 +30,7 @@ use Rattle.step.specs.{Sheet.encoded, Steps.pack_of, Layout.widths, Bytes.bytes8
 use Rattle.step.specs.Kinds.{kinds, kind_of, is}
 use Rattle.step.specs.declared.kind.Kind.TheVariants as kind
 use Rattle.sheet.specs.{Writer.sheet_bytes, Writer.refusal_in}
-use Rattle.readback.specs.Cut.{cut_ring, cut_crystal, cut_rtc, cut_chip, cut_settings}
+use Rattle.readback.specs.Cut.{cut_ring, cut_crystal, cut_rtc, cut_settings}
 use Rattle.settings.specs.LeastPlan.{xosc_for, plan_of}
 use Rattle.readback.specs.Law.{chip_in, top_reading, Gives, ReadBack, over, none, back}
 use Rattle.readback.specs.Read.{plan_in, gives, read_of}
@@ -54,18 +52,20 @@ rtc-typed : (o : Option RtcClkConfig) → RtcTyped (cut_rtc o)
 rtc-typed (Some r) = few 8 r.div_frac
 rtc-typed None = tt
 
-chip-typed : (c : ChipConfig) → FractionFits (board_of (cut_chip c)) × RtcTyped (board_of (cut_chip c)).rtc
-chip-typed (on2040 c) = (few 8 c.div_frac, rtc-typed c.rtc_clk)
-chip-typed (on235x c) = (few 16 c.div_frac, tt)
+chip-typed : (chip : Chip) (code whole fraction : ℕ) (o : Option RtcClkConfig)
+    → let b = board_of (chip_from chip code whole (fraction % (facts_of chip).scale) (cut_rtc o)) in FractionFits b × RtcTyped b.rtc
+chip-typed Rp2040 code whole fraction o = (few 8 fraction, rtc-typed o)
+chip-typed Rp235x code whole fraction o = (few 16 fraction, tt)
 
 plan-typed : (s : Settings) (reading : ℕ) → Typed (settings_of (plan_of (cut_settings s)) reading)
 unfolding plan_of cut_settings
 plan-typed s reading =
+    let chip = chip-typed s.board.chip _ _ _ s.board.rtc in
     record {
       rosc = rw (ring-source (cut_ring s.rosc) (crystal_of (xosc_for (cut_crystal s.xosc)))) (ring-typed s.rosc);
       xosc = crystal-typed (cut_ring s.rosc) s.xosc;
-      fraction = (chip-typed s.chip).0;
-      rtc = (chip-typed s.chip).1;
+      fraction = chip.0;
+      rtc = chip.1;
     }
 
 module _ (sheet : List ℕ) (reading : ℕ) where

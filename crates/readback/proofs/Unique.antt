@@ -11,6 +11,7 @@ use Rattle.settings.specs.declared.Settings.{Settings}
 use Rattle.settings.specs.Settings.{crystal_of, settings_of}
 use Rattle.sheet.proofs.Demand3.{same-sheets}
 use Rattle.settings.specs.LeastPlan.{plan_with}
+use Rattle.readback.proofs.Canonical.{planned}
 use Rattle.readback.specs.Law.{multiplier_in, time_of, Back, ReadBack, over, none, back}
 
 -- The crystal of the settings, and an arbitrary one where it is absent.
@@ -46,7 +47,9 @@ one-plan {sheet} {reading} {p} {q} a b =
     let x : p.xosc ≡ q.xosc =
     same-xosc p.xosc q.xosc (ap (λ (s : Settings). s.xosc) s)
     (omega (arith, a.multiplier q b.gives, b.multiplier p a.gives)) in
-    planned-same s x (a.is_given ∙ ap Some time ∙ sym b.is_given)
+    sym (planned p reading a.gives.accepted a.gives.typed)
+    ∙ planned-same s x (a.is_given ∙ ap Some time ∙ sym b.is_given)
+    ∙ planned q reading b.gives.accepted b.gives.typed
 
 pub readback-one : {sheet : List ℕ} {reading : ℕ} {a b : Answer ClockConfig} → ReadBack sheet reading a
     → ReadBack sheet reading b → a ≡ b

@@ -5,9 +5,7 @@ use Rattle.config.specs.declared.RoscConfig.{RoscConfig}
 use Rattle.pll.specs.declared.PllConfig.{PllConfig}
 use Rattle.config.specs.declared.{RefClkConfig.RefClkConfig, AuxClkConfig.AuxClkConfig}
 use Rattle.config.specs.declared.RtcClkConfig.{RtcClkConfig}
-use Rattle.config.specs.declared.ChipConfig.{ChipConfig}
-use Rattle.config.specs.declared.ChipConfig.TheVariants.{Rp2040 as on2040, Rp235x as on235x}
-use Rattle.config.specs.Board.{board_of}
+use Rattle.config.specs.declared.Board.{Board}
 use Rattle.settings.specs.declared.Crystal.{Crystal}
 use Rattle.settings.specs.declared.Settings.{Settings}
 
@@ -76,24 +74,14 @@ cut_rtc None = None
 abbrev pub cut_ref : RefClkConfig → RefClkConfig
 cut_ref c = record { src = c.src; div = byte c.div }
 
-abbrev pub cut_chip : ChipConfig → ChipConfig
-cut_chip (on2040 c) =
-    on2040
-    (record {
-      core_voltage = c.core_voltage;
-      div_int = word c.div_int;
-      div_frac = byte c.div_frac;
-      rtc_clk = cut_rtc c.rtc_clk;
-    })
-cut_chip (on235x c) =
-    on235x
-    (record { core_voltage = c.core_voltage; div_int = half c.div_int; div_frac = half c.div_frac })
+abbrev pub cut_board : Board → Board
+cut_board b =
+    record { chip = b.chip; volts = b.volts; whole = word b.whole; fraction = half b.fraction; rtc = cut_rtc b.rtc }
 
 unfoldable pub cut_settings : Settings → Settings
 cut_settings s =
     record {
-      chip = cut_chip s.chip;
-      board = board_of (cut_chip s.chip);
+      board = cut_board s.board;
       rosc = cut_ring s.rosc;
       xosc = cut_crystal s.xosc;
       settling = s.settling;

@@ -1,17 +1,16 @@
 // Reads the clocks and the chip-specific part of a plan from the steps of a sheet.
 ghost use Rattle.std.specs.Prelude.{◌≡◌};
-ghost use Rattle.config.specs.Codes.{chip_from};
+ghost use Rattle.config.specs.{Board.board_of, Codes.chip_from};
 ghost use Rattle.sheet.specs.Read.{read_ref, read_sys, read_peri, read_aux, read_rtc};
-ghost use Rattle.readback.specs.Cut.{cut_ref, cut_aux, cut_rtc, cut_chip};
+ghost use Rattle.readback.specs.Cut.{cut_ref, cut_aux, cut_rtc, cut_board};
 ghost use Rattle.readback.specs.Parse.{Reads, ticks, sys_at};
 
 use crate::codes;
 use crate::held::{ahead, past};
 use chip::Chip;
-use chip::voltage::{CoreVoltage, CoreVoltage235};
+use chip::voltage::{CoreVoltage, CoreVoltage235, Voltage};
 use config::{
-    AuxClkConfig, AuxClkSrc, ChipConfig, PeriClkSrc, RefClkConfig, RefClkSrc, Rp235xConfig,
-    Rp2040Config, RtcClkConfig, SysClkSrc,
+    AuxClkConfig, AuxClkSrc, Board, PeriClkSrc, RefClkConfig, RefClkSrc, RtcClkConfig, SysClkSrc,
 };
 use step::{Kind, Step};
 
@@ -110,22 +109,26 @@ fn read_rtc(s: &[Step]) -> Option<RtcClkConfig>
     })
 }
 
-// The chip-specific part of a plan. The steps start with the RTC part where the chip has one.
+// The chip-specific part in common fields. The steps start with the RTC part where the chip has one.
 #[tactic(auto, using(crate::proofs::Voltages::decodes))]
-pub(crate) fn read_config(s: &[Step], chip: Chip, code: u64, sys: Sys) -> ChipConfig
-    ensures { result ≡ cut_chip (chip_from chip code sys.whole sys.fraction (read_rtc s.now)) }
+pub(crate) fn read_board(s: &[Step], chip: Chip, code: u64, sys: Sys) -> Board
+    ensures { result ≡ cut_board (board_of (chip_from chip code sys.whole sys.fraction (read_rtc s.now))) }
 {
-    match chip {
-        Chip::Rp2040 => ChipConfig::Rp2040(Rp2040Config {
-            core_voltage: codes::voltage_from(code, CoreVoltage::V1_10),
-            div_int: codes::cut32(sys.whole),
-            div_frac: codes::cut8(sys.fraction),
-            rtc_clk: read_rtc(s),
-        }),
-        Chip::Rp235x => ChipConfig::Rp235x(Rp235xConfig {
-            core_voltage: codes::voltage_from(code, CoreVoltage235::V1_10),
-            div_int: codes::cut16(sys.whole),
-            div_frac: codes::cut16(sys.fraction),
-        }),
+    let (volts, rtc) = match chip {
+        Chip::Rp2040 => (
+            codes::voltage_from(code, CoreVoltage::V1_10).volts(),
+            read_rtc(s),
+        ),
+        Chip::Rp235x => (
+            codes::voltage_from(code, CoreVoltage235::V1_10).volts(),
+            None,
+        ),
+    };
+    Board {
+        chip,
+        volts,
+        whole: codes::cut32(sys.whole),
+        fraction: codes::cut16(sys.fraction),
+        rtc,
     }
 }

@@ -23,10 +23,8 @@ pub(crate) fn settings_in(steps: &[Step], reading: u8) -> Settings
     let (peri, rest) = clocks::read_peri(rest);
     let (usb, rest) = clocks::read_aux(rest, Kind::UsbDivider);
     let (adc, rest) = clocks::read_aux(rest, Kind::AdcDivider);
-    let chip = clocks::read_config(rest, on, voltage.code, sys);
     Settings {
-        chip,
-        board: chip.board(),
+        board: clocks::read_board(rest, on, voltage.code, sys),
         rosc,
         xosc,
         settling: voltage.settling,

@@ -1,11 +1,8 @@
 -- Every frequency that the sheet of an accepted plan stores fits in 32 bits, and the RTC's in 16.
 use Rattle.std.specs.Prelude.{Option, Some, None}
-use mathlib.Core.{Path.◌≡◌, Bool.false, Bool.◌||◌, List.List, List.[], List.◌∷◌}
+use mathlib.Core.{Path.◌≡◌, Bool.false, List.List, List.[], List.◌∷◌}
 use Prim.Native.Nat.{ℕ, ◌≤◌}
 use native.Mathlib.Omega.{arith}
-use lib.Dec.{eqb, ltb}
-use borrow.Author.Tests.{ltb-false}
-use Rattle.std.proofs.lemmas.Bool.{or_parts}
 use Rattle.chip.specs.declared.{Chip.Chip, Chip.TheVariants.Rp2040, Chip.TheVariants.Rp235x}
 use Rattle.chip.specs.Chips.{facts_of}
 use Rattle.config.specs.declared.RtcClkConfig.{RtcClkConfig}
@@ -13,18 +10,13 @@ use Rattle.settings.specs.declared.{Sources.Sources, Settings.Settings, Frequenc
 use Rattle.settings.specs.Frequencies.{rtc_hz, sources_in, ref_in, sys_in, frequencies_of, tenth_of, stored_of, ten_of}
 use Rattle.settings.specs.Typed.{Typed}
 use Rattle.settings.proofs.Small.{Hz, AllHz, sources-hz, ref-small, sys-small, peri-small, aux-small}
-use Rattle.refusals.specs.Rules.{whole_bad, rtc_bad}
+use Rattle.refusals.specs.Rules.{rtc_bad}
 use Rattle.refusals.specs.Refusals.{refusal_of}
-use Rattle.refusals.proofs.Accepted.{accepted-by, whole-good}
+use Rattle.refusals.proofs.Accepted.{accepted-by, whole-good, rtc-good}
 
 -- The frequency of an accepted RTC fits in 16 bits.
 rtc-small : (source : ℕ) (f : Sources) (o : Option RtcClkConfig) → rtc_bad source (rtc_hz f o) o ≡ false → rtc_hz f o ≤ 65535
-unfolding rtc_bad
-rtc-small source f (Some r) e =
-    ltb-false 65535 (rtc_hz f (Some r))
-    (or_parts
-    (eqb source 0 || whole_bad 16777215 r.div_int || ltb 3 r.phase)
-    (ltb 65535 (rtc_hz f (Some r))) e).1
+rtc-small source f (Some r) e = (rtc-good source (rtc_hz f (Some r)) r e).3
 rtc-small source f None e = omega arith
 
 pub record Stored (f : Frequencies) : Type 0 where

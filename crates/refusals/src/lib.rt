@@ -17,6 +17,7 @@ use pll::PllConfig;
 use settings::{Crystal, Frequencies, Settings, Sources};
 
 // A valid PLL gives 15 MHz or more, so a PLL that is present is invalid exactly where its frequency is 0.
+#[tactic(auto, using(settings::proofs::Plls::pll_silent))]
 fn pll_invalid(pll: Option<PllConfig>, known_hz: u32) -> bool
     ensures { (hz : ℕ) → known_hz ≡ pll_hz hz pll → result ≡ pll_invalid hz pll }
 {
@@ -45,6 +46,7 @@ fn refused_if(test: bool, why: Refusal, rest: Option<Refusal>) -> Option<Refusal
 }
 
 // The first refusal that holds, tested in the order 18, then 1 to 14.
+#[tactic(auto, unfolding(crate::specs::Refusals::refusal_of))]
 fn refusal_of(s: Settings, f: Frequencies, reading: u8) -> Option<Refusal>
     ensures { f ≡ frequencies_of s → result ≡ refusal_of s reading }
 {

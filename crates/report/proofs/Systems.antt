@@ -16,7 +16,7 @@ use Rattle.config.specs.Presets.{ring_config, feeding, from_plls, crystal_plan, 
 use Rattle.settings.specs.declared.Settings.{Settings}
 use Rattle.settings.specs.Frequencies.{pll_hz, sources_of, ref_hz, sys_hz, sys_in}
 use Rattle.settings.specs.{Settings.settling_step, Settings.settings_of, Typed.Typed}
-use Rattle.settings.proofs.Plls.{pll-silent}
+use Rattle.settings.proofs.Plls.{pll_silent}
 use Rattle.refusals.specs.Rules.{strengths_over, ring_divider_over, settling_over, startup_over, sys_pll_invalid, usb_pll_invalid}
 use Rattle.refusals.specs.Rules.{divider_bad, reference_bad, whole_bad, peri_bad, aux_bad, rtc_bad}
 use Rattle.refusals.specs.Refusals.{refusal_of, Accepted}
@@ -37,7 +37,7 @@ module _ (c : PllConfig) (v : CoreVoltage) where
   sounds : valid_of c 12000000 ≡ true → eqb (sys_in set) 0 ≡ false
   unfolding sys_hz sources_of
   sounds ok =
-      ap (λ (hz : ℕ). eqb hz 0) (undivided (pll_hz 12000000 (Some c))) ∙ pll-silent 12000000 c ∙ ap not ok
+      ap (λ (hz : ℕ). eqb hz 0) (undivided (pll_hz 12000000 (Some c))) ∙ pll_silent 12000000 c ∙ ap not ok
 
   plan-accepted : valid_of c 12000000 ≡ true → settling_over set.settling ≡ false → Accepted plan reading
   unfolding startup_sum divided_hz pll_hz sources_of ref_hz strengths_over ring_divider_over startup_over sys_pll_invalid

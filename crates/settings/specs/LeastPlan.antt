@@ -3,6 +3,7 @@ use Rattle.std.specs.Prelude.{Option, Some, None, ℕ, ◌+◌, ◌-◌, ◌*◌
 use Rattle.divider.specs.Delay.{cycles_per_us}
 use Rattle.config.specs.declared.XoscConfig.{XoscConfig}
 use Rattle.config.specs.declared.{ClockConfig.ClockConfig}
+use Rattle.config.specs.Board.{config_of}
 use Rattle.settings.specs.declared.Crystal.{Crystal}
 use Rattle.settings.specs.declared.Settings.{Settings}
 use Rattle.settings.specs.Settings.{ring_hz}
@@ -32,7 +33,7 @@ time_for hz None = 0
 abbrev pub plan_with : Settings → Option XoscConfig → Option ℕ → ClockConfig
 plan_with s x time =
     record {
-      chip = s.chip;
+      chip = config_of s.board;
       rosc = s.rosc;
       xosc = x;
       ref_clk = s.reference;

@@ -36,7 +36,6 @@ settings_of p reading =
     let b = board_of p.chip in
     let time = settling_time p.voltage_stabilization_delay_us b.volts.settling_us in
     record {
-      chip = p.chip;
       board = b;
       rosc = p.rosc;
       xosc = crystal_of p.xosc;

@@ -55,7 +55,7 @@ pub fn plan_of(s: Settings) -> ClockConfig
     ensures { result ≡ plan_of s }
 {
     ClockConfig {
-        chip: s.chip,
+        chip: s.board.config(),
         rosc: s.rosc,
         xosc: xosc_for(s.xosc),
         ref_clk: s.reference,

@@ -1,7 +1,7 @@
 -- The collected words of an accepted plan are ready to be copied, and each of the writer's three ends meets its contract.
-use Rattle.base.specs.{Answer.value, Answer.refusal, Choice.pick, Refusals.number_of}
+use Rattle.base.specs.{Answer.value, Answer.refusal, Refusals.number_of}
 use Rattle.base.specs.declared.refusal.Refusal.{Refusal}
-use mathlib.Core.{Bool.Bool, Bool.true, Bool.false, Path.◌≡◌, Path.refl, Path.sym, Path.ap, Path.◌∙◌}
+use mathlib.Core.{Path.◌≡◌, Path.refl, Path.sym, Path.ap, Path.◌∙◌}
 use mathlib.Core.List.{List, [], ◌++◌, map}
 use Prim.Native.Nat.{ℕ, ◌*◌, ◌≤◌, ◌<◌}
 use lib.ListN.{length, take, drop, replicate, length-map}
@@ -17,6 +17,7 @@ use Rattle.settings.specs.{Settings.settings_of, Frequencies.frequencies_of, Typ
 use Rattle.settings.specs.declared.Settings.{Settings}
 use Rattle.config.specs.Board.{FractionFits}
 use Rattle.settings.specs.declared.Frequencies.{Frequencies}
+use Rattle.base.proofs.Bools.{either_way}
 use Rattle.refusals.proofs.Examined.{examined-refused, examined-accepted}
 use Rattle.refusals.specs.Refusals.{refusal_of, examined_of, Accepted}
 use Rattle.sheet.specs.{Steps.steps_of, Gather.Gathered, Gather.held, Gather.word_of, Gather.pushes}
@@ -54,24 +55,21 @@ module _ (g : Gathered) (bytes b : List ℕ) (y : Ready g bytes) where
 
   pub copy-short : {n : ℕ} → refusal n ≡ copy_of words b → (n ≡ 19) × (length b < length bytes) × (copied words b ≡ b)
   unfolding copied
-  copy-short {n} = go (room_for words b) refl
-    where
-      go : (test : Bool) → room_for words b ≡ test → refusal n ≡ pick test (value (tt {0})) (refusal 19)
-          → (n ≡ 19) × (length b < length bytes) × (pick test (bytes_of (map turned_of words) ++ drop (8 * length words) b) b ≡ b)
-      go true e same = absurd cc
-      go false e same = (cc, omega (arith, leb-false (8 * length words) (length b) e, y.count, y.size), refl)
+  copy-short {n} same =
+      either_way (room_for words b)
+      (λ e. let end = rw e at same in absurd cc)
+      (λ e.
+      let end = rw e at same in
+      rw e (cc, omega (arith, leb-false (8 * length words) (length b) e, y.count, y.size), refl))
 
   pub copy-whole : {x : Unit {0}} → value x ≡ copy_of words b
       → (length bytes ≤ length b) × (copied words b ≡ bytes ++ drop (length bytes) b)
   unfolding copied
-  copy-whole {x} = go (room_for words b) refl
-    where
-      go : (test : Bool) → room_for words b ≡ test → value x ≡ pick test (value (tt {0})) (refusal 19)
-          → (length bytes ≤ length b)
-          × (pick test (bytes_of (map turned_of words) ++ drop (8 * length words) b) b ≡ bytes ++ drop (length bytes) b)
-      go true e same =
-          (omega (arith, leb-true (8 * length words) (length b) e, y.count, y.size), rw (y.content, y.count, y.size) refl)
-      go false e same = absurd cc
+  copy-whole {x} same =
+      either_way (room_for words b)
+      (λ e.
+      rw e (omega (arith, leb-true (8 * length words) (length b) e, y.count, y.size), rw (y.content, y.count, y.size) refl))
+      (λ e. let end = rw e at same in absurd cc)
 
 -- The facts about a plan before its steps are collected.
 pub record Looked (p : ClockConfig) (reading : ℕ) (s : Settings) (f : Frequencies) : Type 0 where

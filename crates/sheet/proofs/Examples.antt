@@ -1,6 +1,6 @@
 -- These plans are accepted at reading 11: the crystal presets, whose sheets have 62 and 63 steps, and for each chip a plan whose
 -- sheet has the greatest number of steps.
-use mathlib.Core.{Path.◌≡◌, Path.refl, List.[], List.◌∷◌, List.map}
+use mathlib.Core.{Path.◌≡◌, Path.refl, List.List, List.[], List.◌∷◌, List.map}
 use Prim.Native.Nat.{ℕ}
 use lib.ListN.{length, get_or}
 use Rattle.step.specs.declared.Step.{Step}
@@ -14,6 +14,7 @@ use Rattle.divider.specs.{Delay.startup_sum, Delay.cycles_per_us, Delay.settling
 use Rattle.step.specs.Sheet.{max_steps}
 use Rattle.pll.specs.Search.{setting}
 use Rattle.config.specs.Presets.{ring_config, feeding, from_plls, crystal_plan}
+use Rattle.config.proofs.OnChip.{on_chip}
 use Rattle.settings.specs.Settings.{settling_step, settings_of}
 use Rattle.settings.specs.Frequencies.{pll_hz, sources_of, ref_hz, sys_hz, sys_in}
 use Rattle.settings.specs.Typed.{Typed}
@@ -29,6 +30,10 @@ pub record Gives (p : ClockConfig) (reading n : ℕ) : Type 0 where
   pub accepted : Accepted p reading
   pub count : length (steps_of reading (settings_of p reading)) ≡ n
 
+made : {p : ClockConfig} {reading n : ℕ} → Typed (settings_of p reading) → Accepted p reading
+    → length (steps_of reading (settings_of p reading)) ≡ n → Gives p reading n
+made typed accepted count = record { typed = typed; accepted = accepted; count = count }
+
 -- The RP2040 at 133 MHz from 12 MHz, at 1.15 V.
 unfoldable pub longest_plan : ClockConfig
 longest_plan = from_plls Rp2040 V1_15 (ring_config 6500000 Medium 16) (feeding 12000000 (setting 133 6 2))
@@ -36,18 +41,7 @@ longest_plan = from_plls Rp2040 V1_15 (ring_config 6500000 Medium 16) (feeding 1
 -- The crystal preset of the RP235x with a system divider of 1 + 32768 / 65536, at 1.15 V.
 unfoldable pub longest235 : ClockConfig
 longest235 =
-    let p = crystal_plan Rp235x 12000000 in
-    record {
-      chip = on235x (record { core_voltage = volts115; div_int = 1; div_frac = 32768 });
-      rosc = p.rosc;
-      xosc = p.xosc;
-      ref_clk = p.ref_clk;
-      sys_clk_src = p.sys_clk_src;
-      peri_clk_src = p.peri_clk_src;
-      usb_clk = p.usb_clk;
-      adc_clk = p.adc_clk;
-      voltage_stabilization_delay_us = p.voltage_stabilization_delay_us;
-    }
+    on_chip (on235x (record { core_voltage = volts115; div_int = 1; div_frac = 32768 })) (crystal_plan Rp235x 12000000)
 
 counts : Gives (crystal_plan Rp2040 12000000) 11 62 × Gives (crystal_plan Rp235x 12000000) 11 63
     × Gives longest_plan 11 65 × Gives longest235 11 max_steps
@@ -56,26 +50,10 @@ unfolding longest_plan longest235 startup_sum cycles_per_us settling_cycles divi
     peri_bad aux_bad rtc_bad refusal_of head_part ring_part voltage_part crystal_part switch_steps sys_part peri_part aux_part rtc_part
     clocks_part steps_of
 counts = (
-  record {
-    typed = record { rosc = omega arith; xosc = omega arith; fraction = omega arith; rtc = omega arith };
-    accepted = refl;
-    count = refl;
-  },
-  record {
-    typed = record { rosc = omega arith; xosc = omega arith; fraction = omega arith; rtc = tt };
-    accepted = refl;
-    count = refl;
-  },
-  record {
-    typed = record { rosc = omega arith; xosc = omega arith; fraction = omega arith; rtc = omega arith };
-    accepted = refl;
-    count = refl;
-  },
-  record {
-    typed = record { rosc = omega arith; xosc = omega arith; fraction = omega arith; rtc = tt };
-    accepted = refl;
-    count = refl;
-  },
+  made (record { rosc = omega arith; xosc = omega arith; fraction = omega arith; rtc = omega arith }) refl refl,
+  made (record { rosc = omega arith; xosc = omega arith; fraction = omega arith; rtc = tt }) refl refl,
+  made (record { rosc = omega arith; xosc = omega arith; fraction = omega arith; rtc = omega arith }) refl refl,
+  made (record { rosc = omega arith; xosc = omega arith; fraction = omega arith; rtc = tt }) refl refl,
 )
 
 pub crystal-steps : Gives (crystal_plan Rp2040 12000000) 11 62
@@ -95,8 +73,15 @@ pub system-235 : sys_in (settings_of longest235 11) ≡ 100000000
 unfolding longest235 divided_hz pll_hz sources_of ref_hz sys_hz
 system-235 = refl
 
+abbrev preset_steps : List Step
+preset_steps = steps_of 11 (settings_of (crystal_plan Rp235x 12000000) 11)
+
+abbrev at : ℕ → Step
+at i = get_or preset_steps i (step0 (kind.Unknown 0))
+
 -- The kinds of the steps of the RP235x's crystal preset in their order, and its masks and dividers.
-pub crystal-kinds-235 : map (λ (x : Step). x.kind) (steps_of 11 (settings_of (crystal_plan Rp235x 12000000) 11))
+pub crystal-235 :
+    (map (λ (x : Step). x.kind) preset_steps
     ≡ kind.ChipMark
     ∷ kind.Reset ∷ kind.ResusOff ∷ kind.SysSource ∷ kind.WaitSys ∷ kind.RefSource ∷ kind.WaitRef
     ∷ kind.Reset ∷ kind.Release ∷ kind.WaitReleased
@@ -112,23 +97,11 @@ pub crystal-kinds-235 : map (λ (x : Step). x.kind) (steps_of 11 (settings_of (c
     ∷ kind.PeriControl ∷ kind.Store
     ∷ kind.UsbDivider ∷ kind.UsbControl ∷ kind.Store
     ∷ kind.AdcDivider ∷ kind.AdcControl ∷ kind.Store
-    ∷ kind.Release ∷ kind.WaitReleased ∷ []
-unfolding startup_sum cycles_per_us settling_cycles divided_hz settling_step pll_hz sources_of ref_hz sys_hz strengths_over
-    ring_divider_over settling_over startup_over sys_pll_invalid usb_pll_invalid divider_bad reference_bad whole_bad peri_bad aux_bad
-    rtc_bad refusal_of head_part ring_part voltage_part crystal_part switch_steps
-    sys_part peri_part aux_part rtc_part clocks_part steps_of
-crystal-kinds-235 = refl
-
-abbrev pub at : ℕ → Step
-at i = get_or (steps_of 11 (settings_of (crystal_plan Rp235x 12000000) 11)) i (step0 (kind.Unknown 0))
-
-pub crystal-fields-235 :
-    (at 1 ≡ step1 kind.Reset 0x1EF3B7F)
+    ∷ kind.Release ∷ kind.WaitReleased ∷ [])
+    × (at 1 ≡ step1 kind.Reset 0x1EF3B7F)
     × (at 8 ≡ step1 kind.Release 0xC000)
     × (at 12 ≡ step1 kind.RingDivider 0xAA10)
     × (at 62 ≡ step1 kind.WaitReleased 0x1FFFFF7)
-unfolding release_mask startup_sum cycles_per_us settling_cycles divided_hz settling_step pll_hz sources_of ref_hz sys_hz strengths_over
-    ring_divider_over settling_over startup_over sys_pll_invalid usb_pll_invalid divider_bad reference_bad whole_bad peri_bad aux_bad
-    rtc_bad refusal_of head_part ring_part voltage_part crystal_part switch_steps
-    sys_part peri_part aux_part rtc_part clocks_part steps_of
-crystal-fields-235 = (refl, refl, refl, refl)
+unfolding release_mask startup_sum cycles_per_us settling_cycles divided_hz settling_step pll_hz sources_of ref_hz sys_hz head_part
+    ring_part voltage_part crystal_part switch_steps sys_part peri_part aux_part rtc_part clocks_part steps_of
+crystal-235 = (refl, refl, refl, refl, refl)

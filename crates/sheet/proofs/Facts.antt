@@ -1,20 +1,16 @@
 -- Bounds for the numbers of a plan that the refusals do not exclude.
 use Rattle.std.specs.Prelude.{Option, Some, None}
-use mathlib.Core.{Path.◌≡◌, Bool.Bool, Bool.false, Bool.◌||◌}
-use Prim.Native.Nat.{ℕ, ◌≤◌, ◌<◌}
+use mathlib.Core.{Path.◌≡◌, Bool.false, Bool.◌||◌}
+use Prim.Native.Nat.{ℕ, ◌<◌}
 use native.Mathlib.Omega.{arith}
-use lib.Dec.{eqb, ltb}
-use borrow.Author.Tests.{ltb-false, eq-eqb}
+use lib.Dec.{eqb}
+use borrow.Author.Tests.{eq-eqb}
 use Rattle.std.proofs.lemmas.Bool.{or_parts}
 use Rattle.config.specs.declared.AuxClkConfig.{AuxClkConfig}
 use Rattle.settings.specs.Settings.{settling_step}
 use Rattle.refusals.specs.Rules.{divider_bad, aux_bad}
-use Rattle.refusals.proofs.Accepted.{divider-good}
+use Rattle.refusals.proofs.Accepted.{none_more, divider-good}
 use Rattle.settings.proofs.Decoded.{Small, AuxSmall}
-
--- Where none of a row of tests holds, the last one does not hold and no earlier one does.
-pub none_more : (row : Bool) (l x : ℕ) → row || ltb l x ≡ false → (row ≡ false) × (x ≤ l)
-none_more row l x e = let h = or_parts row (ltb l x) e in (h.0, ltb-false l x h.1)
 
 -- The divider and the phase of a present clock fit their fields.
 abbrev pub AuxFits : Option AuxClkConfig → Type 0

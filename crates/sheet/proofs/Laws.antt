@@ -3,7 +3,7 @@ use mathlib.Core.{Path.◌≡◌, Path.refl, Bool.Bool, Bool.true, Bool.false, L
 use Prim.Native.Nat.{ℕ, ◌+◌, ◌≤◌}
 use native.Mathlib.Omega.{arith}
 use lib.Dec.{T}
-use Rattle.base.specs.Choice.{pick}
+use Rattle.base.proofs.Bools.{either_way}
 use Rattle.std.proofs.lemmas.List.{map-append}
 use Rattle.chip.specs.declared.{Chip.Chip, Chip.TheVariants.Rp2040, Chip.TheVariants.Rp235x}
 use Rattle.chip.specs.Chips.{facts_of}
@@ -42,12 +42,7 @@ weight-append w (x ∷ xs) ys = omega (arith, weight-append w xs ys)
 
 stores-append : (xs ys : List Step) → stores_in (xs ++ ys) ≡ stores_in xs ++ stores_in ys
 stores-append [] ys = refl
-stores-append (x ∷ xs) ys = rw (stores-append xs ys) (go (is x.kind kind.Store))
-  where
-    go : (b : Bool) → pick b (x ∷ (stores_in xs ++ stores_in ys)) (stores_in xs ++ stores_in ys)
-        ≡ pick b (x ∷ stores_in xs) (stores_in xs) ++ stores_in ys
-    go true = refl
-    go false = refl
+stores-append (x ∷ xs) ys = rw (stores-append xs ys) (either_way (is x.kind kind.Store) (λ e. rw e) (λ e. rw e))
 
 -- The laws of a part with the steps xs. The steps are well formed where `Fits` says that the plan's numbers fit their fields. For
 -- any weight of the kinds the part weighs no more than with everything present, when its kinds are ks. Its stores are ss. `Back`

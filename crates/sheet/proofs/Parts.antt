@@ -1,13 +1,13 @@
 -- The laws of each part of a sheet, in the order of the sheet. The cases of a part are split once, for all of its laws.
 use Rattle.std.specs.Prelude.{Option, Some, None}
-use mathlib.Core.{Path.◌≡◌, Path.refl, Bool.Bool, Bool.true, Bool.false, Bool.◌||◌, Bool.◌&&◌}
+use mathlib.Core.{Path.◌≡◌, Path.refl, Bool.Bool, Bool.true, Bool.false, Bool.◌&&◌}
 use mathlib.Core.List.{List, [], ◌∷◌, ◌++◌, append_assoc}
 use Prim.Native.Nat.{ℕ, ◌+◌, ◌/◌, ◌≤◌, ◌<◌, ◌^◌}
 use native.Mathlib.{Omega.arith, Decide.ℕ_discrete as dec_eq}
-use lib.Dec.{eqb, ltb, le→leb}
+use lib.Dec.{eqb, le→leb}
 use borrow.Author.Tests.{ltb-false, not-false, eq-eqb, ne_eqb}
 use Rattle.base.specs.Choice.{pick}
-use Rattle.std.proofs.{Math.Nat.add-sub_cancel, lemmas.Bool.or_parts}
+use Rattle.std.proofs.{Math.Nat.add-sub_cancel}
 use Rattle.chip.specs.declared.{Chip.Chip, Chip.TheVariants.Rp2040, Chip.TheVariants.Rp235x}
 use Rattle.chip.specs.Chips.{facts_of}
 use Rattle.pll.specs.{Setting.valid_of, declared.PllConfig.PllConfig}
@@ -23,15 +23,15 @@ use Rattle.settings.specs.{Settings.ring_hz, Typed.RtcTyped, Frequencies.sources
 use Rattle.settings.proofs.Small.{Hz, AllHz}
 use Rattle.settings.proofs.Decoded.{range-code, ref-code, peri-code, aux-code, AuxSmall, div-back}
 use Rattle.refusals.specs.Rules.{strengths_over, ring_divider_over, settling_over, startup_over, pll_invalid, sys_pll_invalid}
-use Rattle.refusals.specs.Rules.{usb_pll_invalid, whole_bad, rtc_bad}
-use Rattle.refusals.proofs.Accepted.{strengths-few, whole-good}
+use Rattle.refusals.specs.Rules.{usb_pll_invalid, rtc_bad}
+use Rattle.refusals.proofs.Accepted.{strengths-few, rtc-good}
 use Rattle.sheet.specs.Steps.{step1, step2, store_step, mark_steps, head_part, ring_part, settling_steps, voltage_part}
 use Rattle.sheet.specs.Steps.{pll_steps, crystal_part, source_part, tick_steps, ref_part, switch_steps, sys_part, peri_part}
 use Rattle.sheet.specs.Steps.{aux_part, rtc_part, last_part}
 use Rattle.sheet.specs.Stores.{stores_from}
 use Rattle.sheet.specs.Read.{part, step_at, read_chip, read_ring, read_voltage, past_tick, read_pll, read_crystal, read_sys}
 use Rattle.sheet.specs.Read.{read_peri, read_aux, read_rtc}
-use Rattle.sheet.proofs.Facts.{none_more, AuxFits}
+use Rattle.sheet.proofs.Facts.{AuxFits}
 use Rattle.sheet.proofs.Laws.{Laws, ◌given◌, ◌and◌, mark_kinds, head_kinds, ring_kinds, voltage_kinds, pll_kinds}
 use Rattle.sheet.proofs.Laws.{crystal_kinds, source_kinds, tick_kinds, ref_kinds, sys_kinds, peri_kinds, aux_kinds, rtc_kinds, last_kinds}
 
@@ -237,11 +237,7 @@ unfolding rtc_part rtc_bad widths storable
 last-laws Rp2040 source hz mask (Some r) =
     let code = aux-code r.src in
     record {
-      good = λ h.
-          let still : Bool = eqb source 0 in
-          let h3 = none_more (still || whole_bad 16777215 r.div_int || ltb 3 r.phase) 65535 hz h.3 in
-          let h2 = none_more (still || whole_bad 16777215 r.div_int) 3 r.phase h3.0 in
-          omega (arith, le→leb, code.1, whole-good _ r.div_int (or_parts still (whole_bad 16777215 r.div_int) h2.0).1);
+      good = λ h. let good = rtc-good source hz r h.3 in omega (arith, le→leb, code.1);
       most = λ w. omega arith;
       stores = refl;
       back = λ none. rw code.0;

@@ -118,7 +118,7 @@ readable-back reading p h =
       (aux-laws true f.usb s.usb).back h.usb,
       (aux-laws false f.adc s.adc).back h.adc,
       (last-laws chip f.rtc_source f.rtc _ b.rtc).back (no-rtc p.chip),
-      chip-back s.chip,
+      chip-back p.chip,
     )
 
 pub settings-back : (p : ClockConfig) (reading : ℕ) → Accepted p reading

@@ -163,10 +163,8 @@ settings_from reading xs =
     read_peri xs then λ peri xs.
     read_aux kind.UsbDivider xs then λ usb xs.
     read_aux kind.AdcDivider xs then λ adc xs.
-    let on = chip_from chip v.code sys.whole sys.fraction (read_rtc xs) in
     record {
-      chip = on;
-      board = board_of on;
+      board = board_of (chip_from chip v.code sys.whole sys.fraction (read_rtc xs));
       rosc = rosc;
       xosc = xosc;
       settling = v.settling;

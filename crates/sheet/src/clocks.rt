@@ -70,7 +70,7 @@ fn put_divider(words: &mut Words, at: usize, chip: Chip, whole: u64, fraction: u
     }
 }
 
-#[tactic(auto, unfolding(crate::specs::Steps::sys_part))]
+#[tactic(auto, using(crate::proofs::Gathering::pushes_append), unfolding(crate::specs::Steps::sys_part))]
 fn put_sys(words: &mut Words, at: usize, b: Board, hz: u64, src: SysClkSrc) -> usize
     ensures { held words.new result ≡ pushes (held words.old at) (sys_part b hz src) }
 {
@@ -168,7 +168,7 @@ fn release_mask(
 }
 
 // Appends all parts from the stores of the sources on, with the last release.
-#[tactic(auto, unfolding(crate::specs::Steps::clocks_part))]
+#[tactic(auto, using(crate::proofs::Gathering::pushes_append), unfolding(crate::specs::Steps::clocks_part))]
 pub fn put_clocks(words: &mut Words, at: usize, s: Settings, f: Frequencies) -> usize
     ensures { held words.new result ≡ pushes (held words.old at) (clocks_part s f) }
 {

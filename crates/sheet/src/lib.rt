@@ -18,6 +18,7 @@ use settings::{Frequencies, Settings};
 use steps::Words;
 
 // Collects the steps of settings at a regulator reading, from the first word on; f has the frequencies of the settings.
+#[tactic(auto, using(crate::proofs::Gathering::pushes_append), unfolding(crate::specs::Steps::steps_of))]
 fn gather(words: &mut Words, s: Settings, f: Frequencies, reading: u8) -> usize
     ensures { f ≡ frequencies_of s → held words.new result ≡ pushes (held words.old 0) (steps_of reading s) }
 {

@@ -3,18 +3,19 @@ use Rattle.std.specs.Prelude.{Option, Some, None, ◌≡◌, List, [], ◌∷◌
 use mathlib.Core.Path.{refl}
 use Rattle.base.specs.Choice.{pick}
 use Rattle.chip.specs.declared.{Chip.Chip, Chip.TheVariants.Rp2040, Chip.TheVariants.Rp235x}
-use Rattle.config.specs.declared.{SysClkSrc.SysClkSrc, ClockConfig.ClockConfig, RefClkConfig.RefClkConfig, RoscConfig.RoscConfig}
-use Rattle.config.specs.declared.{PeriClkSrc.PeriClkSrc, AuxClkConfig.AuxClkConfig, RtcClkConfig.RtcClkConfig}
+use Rattle.config.specs.declared.{ClockConfig.ClockConfig, RefClkConfig.RefClkConfig, RoscConfig.RoscConfig}
 use Rattle.pll.specs.declared.PllConfig.{PllConfig}
+use Rattle.config.specs.declared.PeriClkSrc.{PeriClkSrc}
+use Rattle.config.specs.declared.AuxClkConfig.{AuxClkConfig}
+use Rattle.config.specs.declared.RtcClkConfig.{RtcClkConfig}
 use Rattle.config.specs.Board.{board_of}
-use Rattle.config.specs.Codes.{sys_code, range_from, ref_from, sys_source_from, peri_from, aux_from, chip_from}
-use Rattle.settings.specs.declared.{Crystal.Crystal, Settings.Settings}
+use Rattle.settings.specs.declared.Crystal.{Crystal}
+use Rattle.settings.specs.declared.Settings.{Settings}
 use Rattle.settings.specs.Settings.{settings_of}
-use Rattle.settings.proofs.Decoded.{range-code, ref-code, peri-code, aux-code, chip-back}
-use Rattle.wording.specs.Parts.{chip_code, ring_numbers, crystal_numbers, sys_pll_of, usb_pll_of, pll_numbers, cycles_numbers, peri_numbers}
-use Rattle.wording.specs.Parts.{aux_numbers, rtc_numbers, parts_of}
-use Rattle.config.specs.declared.SysClkSrc.TheVariants.{Ref as sys_ref, PllSys as sys_pll_sys, PllUsb as sys_pll_usb}
-use Rattle.config.specs.declared.SysClkSrc.TheVariants.{Rosc as sys_rosc, Xosc as sys_xosc}
+use Rattle.config.specs.Codes.{range_from, ref_from, sys_source_from, peri_from, aux_from, chip_from}
+use Rattle.settings.proofs.Decoded.{range-code, ref-code, sys-code, peri-code, aux-code, chip-back}
+use Rattle.wording.specs.Parts.{chip_code, ring_numbers, crystal_numbers, sys_pll_of, usb_pll_of, pll_numbers, cycles_numbers}
+use Rattle.wording.specs.Parts.{peri_numbers, aux_numbers, rtc_numbers, parts_of}
 
 abbrev pub chip_at : ℕ → Chip
 chip_at n = pick (eqb n 0) Rp2040 Rp235x
@@ -70,12 +71,11 @@ rtc_at (n ∷ ns) = Some (record { src = aux_from n; div_int = get_or ns 0 0; di
 abbrev pub settings_at : List (List ℕ) → Settings
 settings_at ps =
     let sys = get_or ps 8 [] in
-    let chip =
-    chip_from (chip_at (get_or (get_or ps 0 []) 0 0)) (get_or (get_or ps 5 []) 0 0) (get_or sys 1 0) (get_or sys 2 0)
-    (rtc_at (get_or ps 12 [])) in
     record {
-      chip = chip;
-      board = board_of chip;
+      board =
+          board_of
+          (chip_from (chip_at (get_or (get_or ps 0 []) 0 0)) (get_or (get_or ps 5 []) 0 0) (get_or sys 1 0) (get_or sys 2 0)
+          (rtc_at (get_or ps 12 [])));
       rosc = ring_at (get_or ps 1 []);
       xosc = crystal_at (get_or ps 2 []) (pll_at (get_or ps 3 [])) (pll_at (get_or ps 4 []));
       settling = cycles_at (get_or ps 6 []);
@@ -107,13 +107,6 @@ cycles-back : (o : Option ℕ) → cycles_at (cycles_numbers o) ≡ o
 cycles-back (Some n) = refl
 cycles-back None = refl
 
-pub sys-back : (src : SysClkSrc) → sys_source_from (sys_code src) ≡ src
-sys-back sys_ref = refl
-sys-back sys_pll_sys = refl
-sys-back sys_pll_usb = refl
-sys-back sys_rosc = refl
-sys-back sys_xosc = refl
-
 peri-back : (o : Option PeriClkSrc) → peri_at (peri_numbers o) ≡ o
 peri-back (Some src) = rw (peri-code src).0
 peri-back None = refl
@@ -136,10 +129,10 @@ settings-back p reading =
       crystal-back s.xosc,
       cycles-back s.settling,
       (ref-code s.reference.src).0,
-      sys-back s.sys,
+      (sys-code s.sys).0,
       peri-back s.peri,
       aux-back s.usb,
       aux-back s.adc,
       rtc-back s.board.rtc,
-      chip-back s.chip,
+      chip-back p.chip,
     )

@@ -16,7 +16,7 @@ use Rattle.config.specs.Codes.{aux_from}
 use Rattle.settings.proofs.Decoded.{range-code, ref-code, peri-code, aux-code}
 use Rattle.wording.specs.{Parts.chip_code, Parts.ring_numbers, Parts.crystal_numbers, Parts.pll_numbers, Parts.cycles_numbers}
 use Rattle.wording.specs.{Parts.peri_numbers, Parts.aux_numbers, Parts.rtc_numbers, Differences.agree}
-use Rattle.wording.proofs.Decode.{chip_at, code-back, sys-back}
+use Rattle.wording.proofs.Decode.{chip_at, code-back}
 use Rattle.chip.specs.contracts.Chip as chip
 use Rattle.pll.specs.contracts.PllConfigPartialEq.TheImpl as pll
 use Rattle.config.specs.contracts.RoscRange as range
@@ -27,6 +27,14 @@ use Rattle.config.specs.contracts.AuxClkSrc as aux_src
 use Rattle.config.specs.contracts.RoscConfigPartialEq.TheImpl as ring
 use Rattle.config.specs.contracts.AuxClkConfigPartialEq.TheImpl as aux
 use Rattle.config.specs.contracts.RtcClkConfigPartialEq.TheImpl as rtc
+use Rattle.settings.specs.declared.Crystal.{Crystal}
+use Rattle.config.specs.Codes.{range_code, range_from, ref_code, ref_from, sys_code, sys_source_from, peri_aux, peri_from, aux_code}
+use Rattle.config.specs.Codes.{aux_from}
+use Rattle.settings.proofs.Decoded.{range-code, ref-code, sys-code, peri-code, aux-code}
+use Rattle.wording.specs.Parts.{chip_code, ring_numbers, crystal_numbers, pll_numbers, cycles_numbers, peri_numbers, aux_numbers}
+use Rattle.wording.specs.Parts.{rtc_numbers}
+use Rattle.wording.specs.Differences.{agree}
+use Rattle.wording.proofs.Decode.{chip_at, code-back}
 
 -- Values of an enum with no fields are the same exactly where their codes are, if the codes are read back.
 same-code : (D : Declared) → Bare D.parts → (code : D.D → ℕ) (from : ℕ → D.D) → ((x : D.D) → from (code x) ≡ x)
@@ -46,7 +54,7 @@ pub ref_same : (a b : RefClkSrc) → sameb ref_src.the_type a b ≡ eqb (ref_cod
 ref_same = same-code ref_src.the_type tt ref_code ref_from (λ x. (ref-code x).0)
 
 pub sys_same : (a b : SysClkSrc) → sameb sys_src.the_type a b ≡ eqb (sys_code a) (sys_code b)
-sys_same = same-code sys_src.the_type tt sys_code sys_source_from sys-back
+sys_same = same-code sys_src.the_type tt sys_code sys_source_from (λ x. (sys-code x).0)
 
 peri_src_same : (a b : PeriClkSrc) → sameb peri_src.the_type a b ≡ eqb (peri_aux a) (peri_aux b)
 peri_src_same = same-code peri_src.the_type tt peri_aux peri_from (λ x. (peri-code x).0)
