@@ -1,10 +1,7 @@
 -- Two laws of tests: a proof may go by a test's two answers, and the range test is true for a number within its bounds
 -- and for no other.
-use mathlib.Core.Path.{◌≡◌, refl}
-use mathlib.Core.Bool.{Bool, true, false}
-use Prim.Native.Nat.{ℕ, ◌≤◌}
+use Rattle.std.specs.Prelude.{◌≡◌, refl, Bool, true, false, ℕ, ◌≤◌, leb}
 use Rattle.std.proofs.lemmas.Bool.{and_parts, leb-true, le-leb}
-use lib.Dec.{leb}
 use Rattle.base.specs.Choice.{in_range}
 
 -- a case split on a test

@@ -1,15 +1,12 @@
 -- Laws of writers.
-use mathlib.Core.Path.{◌≡◌, refl, sym, ap, ◌∙◌}
-use mathlib.Core.List.{List, [], ◌∷◌, ◌++◌, append-nil, append_assoc}
-use Rattle.std.specs.Prelude.{ℕ, ◌+◌, min, max}
-use lib.ListN.{length, length-append}
-use native.Mathlib.{Omega.arith}
-use lib.Seq.{sets, length-sets}
-use Rattle.base.specs.Placed.{Placed, past}
-use Rattle.base.proofs.Placing.{sets-clamped, sets-run}
-use Rattle.base.specs.declared.writer.Writer.{Writer}
-use Rattle.std.specs.Borrow.{MutBor}
+use Rattle.std.specs.Prelude.{◌≡◌, refl, List, [], ◌++◌, ℕ, ◌+◌, min, max, length}
+use mathlib.Core.{Path.sym, Path.ap, Path.◌∙◌, List.append-nil, List.append_assoc}
+use lib.{ListN.length-append, Seq.sets, Seq.length-sets}
+use native.Mathlib.Omega.{arith}
 use Rattle.base.specs.Writing.{Written, puts, Puts, IsNew}
+use Rattle.base.specs.{Placed.Placed, Placed.past, declared.writer.Writer.Writer}
+use Rattle.base.proofs.Placing.{sets-clamped, sets-run}
+use Rattle.std.specs.Borrow.{MutBor}
 
 -- two indices that the buffer's end cuts alike have the same effect
 sets-alike : {A : Type 0} (xs : List A) (i j : ℕ) (vs : List A) → min i (length xs) ≡ min j (length xs) → sets xs i vs ≡ sets xs j vs

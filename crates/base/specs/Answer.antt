@@ -1,7 +1,6 @@
 -- The answers of a call: a value, or a refusal by its number in docs/FORMAT.md, Refusals.
 use Rattle.std.specs.Prelude.{ℕ, Option, Some, None, Result, Ok, Err}
-use Rattle.base.specs.declared.refusal.Refusal.{Refusal}
-use Rattle.base.specs.Refusals.{number_of}
+use Rattle.base.specs.{declared.refusal.Refusal.Refusal, Refusals.number_of}
 
 pub data Answer (A : Type 0) : Type 0 where
   value : A → Answer A

@@ -1,8 +1,7 @@
 -- Values placed into a lent buffer one after another, as a function promises that answers the index after them; what a writer
 -- puts is stated by `Puts`.
-use mathlib.Core.{Path.◌≡◌, List.List}
-use Rattle.std.specs.Prelude.{ℕ, ◌+◌, min}
-use lib.{ListN.length, Seq.sets}
+use Rattle.std.specs.Prelude.{◌≡◌, List, ℕ, ◌+◌, min, length}
+use lib.Seq.{sets}
 
 -- the index after the values vs placed from index at on, at most the buffer's length
 abbrev pub past : {A : Type 0} → List A → ℕ → List A → ℕ

@@ -1,8 +1,7 @@
 -- What a writer holds, and what it holds after values are put.
-use mathlib.Core.{Path.◌≡◌, List.List}
-use Rattle.std.specs.Prelude.{ℕ, ◌+◌, min, max, length}
+use Rattle.std.specs.Prelude.{◌≡◌, List, ℕ, ◌+◌, min, max, length}
 use Rattle.std.specs.Borrow.{MutBor}
-use lib.{Seq.sets}
+use lib.Seq.{sets}
 use Rattle.base.specs.declared.writer.Writer.{Writer}
 
 -- which buffer it is, what the buffer holds, and the index after the values that were put

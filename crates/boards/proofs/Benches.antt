@@ -1,13 +1,10 @@
 -- The bench after a start of all and after a call for a board, from the parts that the code computes.
-use mathlib.Core.{Bool.Bool, Bool.true, Bool.false, List.List, Path.◌≡◌}
-use Prim.Native.Nat.{ℕ, ◌<◌, ◌≤◌}
+use Rattle.std.specs.Prelude.{Bool, true, false, List, ◌≡◌, ℕ, ◌<◌, ◌≤◌, length}
 use borrow.Author.Tests.{lt-ltb, le-ltb}
-use lib.ListN.{length}
 use Rattle.base.specs.Answer.{value, refusal}
-use Rattle.boards.specs.declared.Bench.{Bench}
+use Rattle.boards.specs.{declared.Bench.Bench, Bench.board_at, Bench.eight_of, Bench.in_bench, Bench.bench_of, Bench.start_all_of}
 use Rattle.runner.specs.Run.{outcome, stepper_of, started_with}
 use Rattle.step.specs.Size.{bad_size}
-use Rattle.boards.specs.Bench.{board_at, eight_of, in_bench, bench_of, start_all_of}
 
 module _ (b : Bench) (sheet : List ℕ) where
   pub all-refused : bad_size (length sheet) ≡ true → outcome (refusal 20) b ≡ start_all_of b sheet

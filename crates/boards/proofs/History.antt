@@ -1,19 +1,18 @@
 -- Each board of a bench behaves as a single runner, whatever calls are made for the other boards.
-use mathlib.Core.{Bool.Bool, Bool.false, List.List, List.[], List.◌∷◌, List.◌++◌}
-use mathlib.Core.Path.{◌≡◌, refl, sym, ap, ◌∙◌}
-use Prim.Native.Nat.{ℕ, ◌≤◌}
+use Rattle.std.specs.Prelude.{Bool, false, List, [], ◌∷◌, ◌++◌, ◌≡◌, refl, ℕ, ◌≤◌, eqb, ltb, length}
+use mathlib.Core.Path.{sym, ap, ◌∙◌}
 use native.Mathlib.Omega.{arith}
 use borrow.Author.Tests.{eqb-true, eqb-false, ltb-true, ltb-false}
-use lib.{Dec.eqb, Dec.ltb, ListN.length, ListN.length-set, ListN.get_or-replicate, Seq.get_or-set_same, Seq.get_or-set_other}
-use Rattle.base.{specs.Answer.Answer, proofs.Bools.either_way}
-use Rattle.runner.specs.declared.{Stepper.Stepper, Runner.Runner}
+use lib.{ListN.length-set, ListN.get_or-replicate, Seq.get_or-set_same, Seq.get_or-set_other}
+use Rattle.base.specs.Answer.{Answer}
+use Rattle.base.proofs.Bools.{either_way}
+use Rattle.runner.specs.Run.{Outcome, fresh_stepper, fresh, stepper_of, advance_of, StartOutcome, started_with, start_of}
+use Rattle.runner.specs.declared.{Stepper.Stepper, Runner.Runner, Reply.Reply}
 use Rattle.boards.specs.declared.Bench.{Bench}
-use Rattle.runner.specs.declared.Reply.{Reply}
-use Rattle.runner.specs.Run.{Outcome, fresh_stepper, fresh, stepper_of, advance_of, Begun, started_with, start_of}
-use Rattle.step.specs.Size.{bad_size}
 use Rattle.boards.specs.Bench.{fresh_bench, no_board, board_at, board_hz, eight_of, bench_of, start_all_of}
-use Rattle.boards.specs.History.{BenchEvent, start, poll, Own, own_of, bench_after, single_after, single_answers, Alike}
-use Rattle.boards.specs.History.{AsSingle, SameBoard}
+use Rattle.boards.specs.History.{BenchEvent, start, poll, Own, own_of, bench_after, single_after, single_answers, Alike, AsSingle}
+use Rattle.boards.specs.History.{SameBoard}
+use Rattle.step.specs.Size.{bad_size}
 use Rattle.runner.proofs.Starts.{start-refused, start-kept}
 use Rattle.boards.proofs.Benches.{all-refused, all-kept, over-seven, of-eight}
 
@@ -31,8 +30,8 @@ module _ (n : ℕ) (few : n ≤ 7) where
   started-alike : (b : Bench) (r : Runner) (sheet : List ℕ) → bad_size (length sheet) ≡ false
       → Alike n (start_all_of b sheet).next (start_of r sheet).next
   started-alike b r sheet ok =
-      let all = ap (λ (x : Begun Bench). x.next) (all-kept b sheet ok) in
-      let one = ap (λ (x : Begun Runner). x.next) (start-kept r sheet ok) in
+      let all = ap (λ (x : StartOutcome Bench). x.next) (all-kept b sheet ok) in
+      let one = ap (λ (x : StartOutcome Runner). x.next) (start-kept r sheet ok) in
       rw (← all, ← one) (eight-alike (started_with sheet))
 
   alike-start : (b : Bench) (r : Runner) (sheet : List ℕ) → Alike n b r
@@ -40,8 +39,8 @@ module _ (n : ℕ) (few : n ≤ 7) where
   alike-start b r sheet k =
       either_way (bad_size (length sheet))
       (λ e.
-      let all = ap (λ (x : Begun Bench). x.next) (all-refused b sheet e) in
-      let one = ap (λ (x : Begun Runner). x.next) (start-refused r sheet e) in
+      let all = ap (λ (x : StartOutcome Bench). x.next) (all-refused b sheet e) in
+      let one = ap (λ (x : StartOutcome Runner). x.next) (start-refused r sheet e) in
       rw (← all, ← one) k) (started-alike b r sheet)
 
   module _ (b : Bench) (r : Runner) (k : Alike n b r) (sheet : List ℕ) (ready : Bool) where
@@ -135,7 +134,7 @@ module _ (n : ℕ) (few : n ≤ 7) where
 pub after-start : (b : Bench) (es : List BenchEvent) (sheet : List ℕ) (fs : List BenchEvent) → bad_size (length sheet) ≡ false
     → bench_after b (es ++ (start sheet ∷ fs)) ≡ bench_after (eight_of (started_with sheet)) fs
 after-start b [] sheet fs ok =
-    ap (λ (x : Begun Bench). bench_after x.next fs) (sym (all-kept b sheet ok))
+    ap (λ (x : StartOutcome Bench). bench_after x.next fs) (sym (all-kept b sheet ok))
 after-start b (start other ∷ es) sheet fs ok = after-start (start_all_of b other).next es sheet fs ok
 after-start b (poll m other ready ∷ es) sheet fs ok = after-start (bench_of b m other ready).next es sheet fs ok
 

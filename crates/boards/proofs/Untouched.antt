@@ -1,13 +1,12 @@
 -- A refusal leaves the whole bench as it was, except at the lock timeout of the board that is called.
-use mathlib.Core.{Bool.Bool, List.List, Logic.inl, Logic.inr, Path.refl}
-use Prim.Native.Nat.{ℕ}
+use Rattle.std.specs.Prelude.{Bool, List, refl, ℕ, ltb}
+use mathlib.Core.Logic.{inl, inr}
 use borrow.Author.Tests.{ltb-true, ltb-false}
-use lib.{Dec.ltb, Seq.set-get_or}
-use Rattle.base.{specs.Answer.Answer, specs.Answer.value, specs.Answer.refusal, proofs.Bools.either_way}
-use Rattle.runner.specs.declared.Stepper.{Stepper}
-use Rattle.runner.specs.declared.Reply.{Reply}
+use lib.Seq.{set-get_or}
+use Rattle.base.specs.Answer.{Answer, value, refusal}
+use Rattle.base.proofs.Bools.{either_way}
 use Rattle.runner.specs.Run.{Outcome, outcome, stepper_of}
-use Rattle.runner.specs.Calls.{Untouched, stepper_timed_out}
+use Rattle.runner.specs.{declared.Stepper.Stepper, declared.Reply.Reply, Calls.Untouched, Calls.stepper_timed_out}
 use Rattle.runner.proofs.Untouched.{stepper-keeps}
 use Rattle.boards.specs.declared.Bench.{Bench}
 use Rattle.boards.specs.Bench.{no_board, board_at, in_bench, board_timed_out, bench_of}

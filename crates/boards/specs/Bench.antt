@@ -1,13 +1,10 @@
 -- Eight boards with one kept sheet (docs/FORMAT.md, Bench): the answer of a call for a board and of a start of all,
 -- and the bench after it.
-use Rattle.std.specs.Prelude.{ℕ}
-use mathlib.Core.{Bool.Bool, Bool.false, List.List, List.[]}
-use lib.{Dec.ltb, ListN.length, ListN.get_or, ListN.set, ListN.replicate}
+use Rattle.std.specs.Prelude.{ℕ, Bool, false, List, [], ltb, length, get_or, set, replicate}
 use Rattle.base.specs.{Answer.Answer, Answer.value, Answer.refusal, Choice.pick}
-use Rattle.runner.specs.declared.{Stepper.Stepper, Runner.Runner}
+use Rattle.runner.specs.Run.{Outcome, outcome, fresh, stepper_of, StartOutcome, started_with}
+use Rattle.runner.specs.{declared.Stepper.Stepper, declared.Runner.Runner, Calls.stepper_timed_out}
 use Rattle.boards.specs.declared.Bench.{Bench}
-use Rattle.runner.specs.Run.{Outcome, outcome, fresh, stepper_of, Begun, started_with}
-use Rattle.runner.specs.Calls.{stepper_timed_out}
 use Rattle.step.specs.Size.{bad_size}
 
 -- eight copies of a runner's stepper, and its kept sheet
@@ -45,6 +42,6 @@ bench_of b n sheet ready =
     pick (ltb 7 n) (outcome (refusal 28) b) (in_bench b n (stepper_of (board_at b n) b.len b.kept sheet ready))
 
 -- a start of all: refusal 20 for a length that no sheet has, which changes nothing; else eight fresh boards
-unfoldable pub start_all_of : Bench → List ℕ → Begun Bench
+unfoldable pub start_all_of : Bench → List ℕ → StartOutcome Bench
 start_all_of b sheet =
     pick (bad_size (length sheet)) (outcome (refusal 20) b) (outcome (value tt) (eight_of (started_with sheet)))

@@ -1,13 +1,8 @@
 -- Histories of a bench (docs/FORMAT.md, Bench): its starts and calls, and the part of them that concerns one board.
-use Rattle.std.specs.Prelude.{ℕ}
-use mathlib.Core.{Bool.Bool, List.List, List.[], List.◌∷◌, Path.◌≡◌}
-use lib.{Dec.eqb, ListN.length}
+use Rattle.std.specs.Prelude.{ℕ, Bool, List, [], ◌∷◌, ◌≡◌, eqb, length}
 use Rattle.base.specs.{Answer.Answer, Choice.pick}
-use Rattle.runner.specs.declared.Runner.{Runner}
-use Rattle.runner.specs.declared.Reply.{Reply}
-use Rattle.runner.specs.Run.{advance_of, start_of}
-use Rattle.boards.specs.declared.Bench.{Bench}
-use Rattle.boards.specs.Bench.{board_at, board_hz, bench_of, start_all_of}
+use Rattle.runner.specs.{declared.Runner.Runner, declared.Reply.Reply, Run.advance_of, Run.start_of}
+use Rattle.boards.specs.{declared.Bench.Bench, Bench.board_at, Bench.board_hz, Bench.bench_of, Bench.start_all_of}
 
 -- an event at the bench: a start of all, or a call for a board
 pub data BenchEvent : Type 0 where

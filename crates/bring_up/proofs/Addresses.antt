@@ -1,17 +1,13 @@
 -- The addresses that steps may change; all others keep their values.
-use mathlib.Core.{Bool.Bool, Bool.true, Bool.false, Bool.◌&&◌, Bool.◌||◌, Path.◌≡◌, Path.refl, Path.sym, Path.ap, Path.◌∙◌}
-use mathlib.Core.List.{List, [], ◌∷◌, ◌++◌}
-use Prim.Native.Nat.{ℕ}
+use Rattle.std.specs.Prelude.{Bool, true, false, ◌&&◌, ◌||◌, ◌≡◌, refl, List, [], ◌∷◌, ◌++◌, ℕ, eqb}
+use mathlib.Core.Path.{sym, ap, ◌∙◌}
 use native.Mathlib.Omega.{arith}
-use lib.Dec.{eqb}
 use borrow.Author.Tests.{ne_eqb}
 use Rattle.base.specs.{Choice.pick, Answer.Answer, Answer.value, Answer.refusal}
 use Rattle.std.proofs.lemmas.Bool.{and_parts, or_parts}
-use Rattle.chip.specs.declared.{Chip.Chip, Chip.TheVariants.Rp2040, Chip.TheVariants.Rp235x}
+use Rattle.chip.specs.declared.Chip.{Chip, TheVariants.Rp2040, TheVariants.Rp235x}
 use Rattle.step.specs.declared.Step.{Step}
-use Rattle.registers.specs.declared.Access.{Access}
-use Rattle.registers.specs.Access.{access_of, op_of, address_of}
-use Rattle.registers.specs.Map.{RESET, PLL_PWR}
+use Rattle.registers.specs.{declared.Access.Access, Access.access_of, Access.op_of, Access.address_of, Map.RESET, Map.PLL_PWR}
 use Rattle.bring_up.specs.Machine.{written, held, done, carried_out}
 
 abbrev pub member : ℕ → List ℕ → Bool

@@ -1,27 +1,17 @@
 -- After a sheet the ring and the source of the reference clock run: both are set, or left, by one part of the sheet, and no later
 -- part changes them.
-use Rattle.std.specs.Prelude.{Option, Some, None}
-use mathlib.Core.{Bool.true, Path.◌≡◌, Path.refl, Path.subst, Path.ap, Path.◌∙◌, List.[], List.◌∷◌}
-use Prim.Native.Nat.{ℕ}
-use Rattle.chip.specs.declared.{Chip.Chip, Chip.TheVariants.Rp2040, Chip.TheVariants.Rp235x}
-use Rattle.chip.specs.Chips.{facts_of}
-use Rattle.config.specs.declared.{RoscConfig.RoscConfig}
-use Rattle.settings.specs.declared.{Settings.Settings}
-use Rattle.settings.specs.Settings.{settings_of}
-use Rattle.settings.specs.Frequencies.{sources_in, frequencies_of}
+use Rattle.std.specs.Prelude.{Option, Some, None, true, ◌≡◌, refl, [], ◌∷◌, ℕ}
+use mathlib.Core.Path.{subst, ap, ◌∙◌}
+use Rattle.chip.specs.{declared.Chip.Chip, declared.Chip.TheVariants.Rp2040, declared.Chip.TheVariants.Rp235x, Chips.facts_of}
+use Rattle.config.specs.declared.RoscConfig.{RoscConfig}
+use Rattle.settings.specs.{declared.Settings.Settings, Settings.settings_of, Frequencies.sources_in, Frequencies.frequencies_of}
 use Rattle.refusals.specs.Refusals.{refusal_of}
 use Rattle.refusals.proofs.Accepted.{accepted-by}
-use Rattle.registers.specs.Access.{has, access_of}
-use Rattle.registers.specs.Map.{ROSC_CTRL, CLK_REF_CTRL}
+use Rattle.registers.specs.{Access.has, Access.access_of, Map.ROSC_CTRL, Map.CLK_REF_CTRL}
 use Rattle.sheet.specs.Steps.{ring_part, clocks_part, steps_of}
-use Rattle.bring_up.specs.Machine.{carried_out}
-use Rattle.bring_up.specs.Tree.{oscillates}
-use Rattle.bring_up.specs.ClockWaits.{Awake, StaysAwake}
-use Rattle.bring_up.proofs.Sheet.{up_to, holds, stays}
-use Rattle.bring_up.proofs.Set.{range-on, ref-sets}
-use Rattle.bring_up.proofs.Times.{ended, crystal-ends}
-use Rattle.bring_up.proofs.Running.{running}
-use Rattle.bring_up.proofs.Switched.{selected, ref-source}
+use Rattle.bring_up.specs.{Machine.carried_out, Tree.oscillates, ClockWaits.Awake, ClockWaits.StaysAwake}
+use Rattle.bring_up.proofs.{Sheet.up_to, Sheet.holds, Sheet.stays, Set.range-on, Set.ref-sets, Times.ended, Times.crystal-ends}
+use Rattle.bring_up.proofs.{Running.running, Switched.selected, Switched.ref-source}
 
 -- a ring that oscillates still does after the ring's part
 ring-stays : (c : Chip) (pass : ℕ) (r : Option RoscConfig) (file : ℕ → ℕ) → oscillates (file (ROSC_CTRL c)) ≡ true
@@ -33,10 +23,10 @@ ring-stays c pass r file on = on
 
 -- one sheet
 awake-after : (reading : ℕ) (s : Settings) → refusal_of s reading ≡ None → (before : ℕ → ℕ)
-    → oscillates (before (ROSC_CTRL s.board.chip)) ≡ true → Awake s.board.chip (carried_out s.board.chip (steps_of reading s) before)
+    → oscillates (before (ROSC_CTRL s.chip.model)) ≡ true → Awake s.chip.model (carried_out s.chip.model (steps_of reading s) before)
 unfolding steps_of clocks_part
 awake-after reading s ok before on =
-    let c : Chip = s.board.chip in
+    let c : Chip = s.chip.model in
     let after : ℕ → ℕ = up_to 13 reading s before in
     let start = ap oscillates (stays 2 reading s before ROSC_CTRL refl refl) ∙ on in
     let ring : oscillates (after (ROSC_CTRL c)) ≡ true =

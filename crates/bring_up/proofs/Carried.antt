@@ -1,6 +1,5 @@
 -- Every step of a sheet is one that its chip carries out, since this holds of each part.
-use mathlib.Core.{Bool.true, Path.◌≡◌, Path.refl, List.List, List.[], List.◌∷◌, List.◌++◌}
-use Prim.Native.Nat.{ℕ}
+use Rattle.std.specs.Prelude.{true, ◌≡◌, refl, List, [], ◌∷◌, ◌++◌, ℕ}
 use Rattle.std.proofs.lemmas.Bool.{and_parts}
 use Rattle.chip.specs.declared.Chip.{Chip}
 use Rattle.step.specs.declared.Step.{Step}

@@ -1,41 +1,34 @@
 -- No wait of a sheet is endless, since this holds of each part. From the head on nothing is in reset, which the PLLs
 -- and the last release need; every other condition of a wait is set in its own part.
-use Rattle.std.specs.Prelude.{Option, Some, None}
-use mathlib.Core.{Bool.Bool, Bool.true, Bool.false, Bool.◌&&◌, Bool.not, Path.◌≡◌, Path.refl, Path.ap, Path.◌∙◌}
-use mathlib.Core.List.{List, [], ◌∷◌}
-use Prim.Native.Nat.{ℕ, ◌+◌, ◌-◌, ◌%◌, ◌^◌}
+use Rattle.std.specs.Prelude.{Option, Some, None, Bool, true, false, ◌&&◌, not, ◌≡◌, refl, List, [], ◌∷◌, ℕ, ◌+◌, ◌-◌, ◌%◌, ◌^◌}
+use Rattle.std.specs.Prelude.{eqb, take}
+use mathlib.Core.Path.{ap, ◌∙◌}
 use native.Mathlib.Omega.{arith}
-use lib.{Dec.eqb, Bits.bit_and, Bits.and_mask, ListN.take}
+use lib.Bits.{bit_and, and_mask}
 use borrow.Author.Tests.{eq-eqb, not-false}
 use Rattle.base.specs.Choice.{bit}
 use Rattle.base.proofs.Bools.{range-true}
-use Rattle.chip.specs.declared.{Chip.Chip, Chip.TheVariants.Rp2040, Chip.TheVariants.Rp235x}
-use Rattle.chip.specs.Chips.{facts_of}
+use Rattle.chip.specs.{declared.Chip.Chip, declared.Chip.TheVariants.Rp2040, declared.Chip.TheVariants.Rp235x, Chips.facts_of}
 use Rattle.step.specs.declared.Step.{Step}
-use Rattle.step.specs.declared.kind.Kind.TheVariants as kind
-use Rattle.pll.specs.{Ranges.reference_min, Ranges.reference_max, Ranges.vco_min, Ranges.vco_max, declared.PllConfig.PllConfig}
-use Rattle.pll.specs.Setting.{reference_of, vco_of, valid_of}
+use Rattle.pll.specs.Ranges.{reference_min, reference_max, vco_min, vco_max}
+use Rattle.pll.specs.{declared.PllConfig.PllConfig, Setting.reference_of, Setting.vco_of, Setting.valid_of}
 use Rattle.pll.proofs.Valid.{valid}
-use Rattle.config.specs.declared.{RefClkConfig.RefClkConfig, SysClkSrc.SysClkSrc, Board.Board, RoscConfig.RoscConfig}
-use Rattle.settings.specs.declared.{Crystal.Crystal, Frequencies.Frequencies}
 use Rattle.config.specs.Codes.{ref_code, sys_select, sys_aux}
-use Rattle.settings.specs.Settings.{settings_of}
+use Rattle.config.specs.declared.{RefClkConfig.RefClkConfig, SysClkSrc.SysClkSrc, ChipSettings.ChipSettings, RoscConfig.RoscConfig}
 use Rattle.settings.specs.Frequencies.{sources_of, sources_in, frequencies_of}
+use Rattle.settings.specs.{declared.Crystal.Crystal, declared.Frequencies.Frequencies, Settings.settings_of}
 use Rattle.refusals.specs.Rules.{pll_invalid, sys_pll_invalid, usb_pll_invalid}
 use Rattle.refusals.proofs.Accepted.{accepted-by}
-use Rattle.registers.specs.Access.{has, access_of}
-use Rattle.registers.specs.Map.{RESET, XOSC_CTRL, CLK_REF_CTRL, CLK_SYS_CTRL, PLL_CS, PLL_FBDIV_INT, BLOCKS, REF_SRC, SYS_SRC, AUXSRC}
-use Rattle.registers.specs.Map.{REFDIV, FBDIV}
-use Rattle.sheet.specs.Steps.{head_part, pll_steps, crystal_part, ref_part, switch_steps, sys_part, release_mask, last_part, clocks_part}
-use Rattle.sheet.specs.Steps.{steps_of, step0, step1}
-use Rattle.bring_up.specs.Machine.{bits_at, held, carried_out}
-use Rattle.bring_up.specs.Tree.{oscillates, vco_on}
-use Rattle.bring_up.specs.ClockWaits.{locks, can_come, NoEndlessWait}
-use Rattle.bring_up.proofs.Addresses.{Apart}
+use Rattle.registers.specs.{Access.has, Access.access_of, Map.RESET, Map.XOSC_CTRL, Map.CLK_REF_CTRL, Map.CLK_SYS_CTRL, Map.PLL_CS}
+use Rattle.registers.specs.Map.{PLL_FBDIV_INT, BLOCKS, REF_SRC, SYS_SRC, AUXSRC, REFDIV, FBDIV}
+use Rattle.sheet.specs.Steps.{head_part, pll_steps, crystal_part, ref_part, switch_steps, sys_part, release_mask, last_part}
+use Rattle.sheet.specs.Steps.{clocks_part, steps_of, step0, step1}
+use Rattle.bring_up.specs.{Machine.bits_at, Machine.held, Machine.carried_out, Tree.oscillates, Tree.vco_on, ClockWaits.locks}
+use Rattle.bring_up.specs.ClockWaits.{can_come, NoEndlessWait}
 use Rattle.bring_up.proofs.Parts.{Calm, ring_own, voltage_own, system_steps, mark, ring, voltage, source, peri, aux, Usb, Adc, rtc}
 use Rattle.bring_up.proofs.Parts.{peri_own, aux_own, rtc_own}
-use Rattle.bring_up.proofs.Walk.{Walk, ◌then◌, Any, calmly, keeps}
-use Rattle.bring_up.proofs.Set.{last-sets}
+use Rattle.bring_up.proofs.{Addresses.Apart, Walk.Walk, Walk.◌then◌, Walk.Any, Walk.calmly, Walk.keeps, Set.last-sets}
+use Rattle.step.specs.declared.kind.Kind.TheVariants as kind
 
 -- nothing is in reset
 abbrev Released : Chip → (ℕ → ℕ) → Type 0
@@ -145,10 +138,10 @@ system-of Rp2040 hz true stored aux select whole fraction = record { walk = λ f
 system-of Rp235x hz true stored aux select whole fraction = record { walk = λ file p. (sys-selected aux select, p) }
 system-of c hz same stored aux select whole fraction = record { walk = λ file p. (sys-selected aux select, p) }
 
-system : (hz : ℕ) (b : Board) (stored : ℕ) (src : SysClkSrc) → Comes b.chip hz (sys_part b stored src)
+system : (hz : ℕ) (b : ChipSettings) (stored : ℕ) (src : SysClkSrc) → Comes b.model hz (sys_part b stored src)
 unfolding sys_part switch_steps
 system hz b stored src =
-    system-of b.chip hz (eqb (sys_select src) 0) stored (sys_aux src) (sys_select src) b.whole b.fraction
+    system-of b.model hz (eqb (sys_select src) 0) stored (sys_aux src) (sys_select src) b.whole b.fraction
 
 -- the blocks that are released are out of reset
 none-held : (mask v : ℕ) → v ≡ 0 → (eqb (bit_and (v - bit_and v (BLOCKS mask) + 0) (BLOCKS mask)) 0 && true) ≡ true
@@ -167,20 +160,20 @@ pub no-endless-wait : NoEndlessWait
 unfolding steps_of clocks_part
 no-endless-wait p reading ok before =
     let s = settings_of p reading in
-    let c : Chip = s.board.chip in
+    let c : Chip = s.chip.model in
     let hz : ℕ = (sources_in s).xosc in
     let f : Frequencies = frequencies_of s in
     let a = accepted-by s reading ok in
     ((calmly (mark c)
     then head c hz
     then still hz ring_own (ring c (facts_of c).pass s.rosc) refl refl
-    then still hz voltage_own (voltage reading s.board s.settling) refl refl
+    then still hz voltage_own (voltage reading s.chip s.settling) refl refl
     then crystal c s.rosc s.xosc (a 5) (a 6)
     then still hz (λ c. []) (source c f.sources) refl refl
     then reference c hz f.reference s.reference
-    then system hz s.board f.sys s.sys
+    then system hz s.chip f.sys s.sys
     then still hz peri_own (peri c f.peri s.peri) refl refl
     then still hz (aux_own Usb) (aux c Usb f.usb s.usb) refl refl
     then still hz (aux_own Adc) (aux c Adc f.adc s.adc) refl refl
-    then still hz rtc_own (rtc c f.rtc s.board.rtc) refl refl
-    then last c hz (release_mask c s.peri s.usb s.adc s.board.rtc)).walk before tt).0
+    then still hz rtc_own (rtc c f.rtc s.chip.rtc) refl refl
+    then last c hz (release_mask c s.peri s.usb s.adc s.chip.rtc)).walk before tt).0

@@ -1,28 +1,26 @@
 -- A runner that was started with the sheet of an accepted plan, or with the bytes that `init` wrote, reaches done
 -- within the bound, and the bound is reached.
-use Prim.Native.Nat.{ℕ, ◌+◌, ◌*◌, ◌/◌, ◌≤◌, ◌<◌}
+use Rattle.std.specs.Prelude.{ℕ, ◌+◌, ◌*◌, ◌/◌, ◌≤◌, ◌<◌, Bool, List, ◌≡◌, refl, length, take, drop}
 use native.Mathlib.{Omega.arith, Nat.mul-le-mul_left, Nat.lt_of_not-le, Decide.dec_le}
-use mathlib.Core.{Bool.Bool, List.List, Path.◌≡◌, Path.refl}
-use lib.{ListN.length, ListN.take, ListN.drop, Seq.take-append_seam}
+use lib.Seq.{take-append_seam}
 use borrow.Author.Tests.{lt-ltb, le-ltb}
 use Rattle.step.specs.Sheet.{max_steps, encoded}
 use Rattle.step.proofs.Sheets.{length-encoded}
-use Rattle.chip.specs.declared.{Chip.Chip, Chip.TheVariants.Rp2040, Chip.TheVariants.Rp235x}
+use Rattle.chip.specs.declared.Chip.{Chip, TheVariants.Rp2040, TheVariants.Rp235x}
 use Rattle.divider.specs.{Delay.cycles_per_us, Delay.settling_cycles, Clock.divided_hz}
 use Rattle.config.specs.declared.ClockConfig.{ClockConfig}
-use Rattle.settings.specs.Settings.{settling_step, settings_of}
 use Rattle.settings.specs.Frequencies.{pll_hz, sources_of, ref_hz, sys_hz, ten_of}
-use Rattle.settings.specs.Typed.{Typed}
+use Rattle.settings.specs.{Settings.settling_step, Settings.settings_of, Typed.Typed}
 use Rattle.refusals.specs.Refusals.{Accepted}
 use Rattle.sheet.specs.Steps.{head_part, ring_part, voltage_part, crystal_part, switch_steps, sys_part, peri_part, aux_part}
 use Rattle.sheet.specs.Steps.{rtc_part, clocks_part, steps_of, most_steps}
 use Rattle.sheet.specs.Writer.{sheet_bytes}
-use Rattle.sheet.proofs.{Sheets.chip-few, Sheets.steps-few, Sheets.steps-formed, Demand3.answered}
 use Rattle.sheet.proofs.Examples.{Gives, longest_plan, longest-steps, longest235, longest-steps-235}
-use Rattle.bring_up.specs.{Up.plan_steps, Wait.HearsAtMost, Wait.waits_in, Wait.UpAfter, Wait.UpWithin, Slow.slowest}
+use Rattle.sheet.proofs.{Sheets.chip-few, Sheets.steps-few, Sheets.steps-formed, Demand3.answered}
 use Rattle.bring_up.specs.ComesUp.{max_waits, most_calls, ComesUp, ComesUpReady, InitComesUp, longest_wait, LongestCovers}
-use Rattle.bring_up.proofs.{Stored.steps-store, Run.sheet-starts, Wait.steps-come-up, Wait.steps-come-up-ready}
-use Rattle.bring_up.proofs.{Slow.slow-few, Slow.steps-come-up-slowest, Waits.waits-ten}
+use Rattle.bring_up.specs.{Up.plan_steps, Wait.HearsAtMost, Wait.waits_in, Wait.UpAfter, Wait.UpWithin, Slow.slowest}
+use Rattle.bring_up.proofs.{Stored.steps-store, Run.sheet-starts, Wait.steps-come-up, Wait.steps-come-up-ready, Slow.slow-few}
+use Rattle.bring_up.proofs.{Slow.steps-come-up-slowest, Waits.waits-ten}
 
 module _ (p : ClockConfig) (reading : ℕ) (ok : Accepted p reading) (t : Typed (settings_of p reading)) where
   pub comes-up : ComesUp p reading

@@ -1,29 +1,25 @@
 -- The values that the parts write give back each source and each divider of the settings.
-use Rattle.std.specs.Prelude.{Option, Some, None}
-use mathlib.Core.{Bool.true, Bool.false, Path.◌≡◌, Path.refl, Path.ap, Path.ap₂, Path.◌∙◌, List.[], List.◌∷◌}
-use Prim.Native.Nat.{ℕ, zero, suc, ◌+◌, ◌/◌, ◌%◌, ◌≤◌, ◌<◌}
+use Rattle.std.specs.Prelude.{Option, Some, None, true, false, ◌≡◌, refl, [], ◌∷◌, ℕ, zero, suc, ◌+◌, ◌/◌, ◌%◌, ◌≤◌, ◌<◌, eqb}
+use Rattle.std.specs.Prelude.{get_or}
+use mathlib.Core.Path.{ap, ap₂, ◌∙◌}
 use native.Mathlib.Omega.{arith}
-use lib.{Dec.eqb, ListN.get_or}
 use borrow.Author.Tests.{ne_eqb, not-false}
 use Rattle.base.specs.Choice.{pick}
-use Rattle.chip.specs.declared.{Chip.Chip, Chip.TheVariants.Rp2040, Chip.TheVariants.Rp235x}
-use Rattle.chip.specs.Chips.{facts_of}
+use Rattle.chip.specs.{declared.Chip.Chip, declared.Chip.TheVariants.Rp2040, declared.Chip.TheVariants.Rp235x, Chips.facts_of}
 use Rattle.divider.specs.{Clock.divided_hz, Gpout.gpout_whole}
-use Rattle.pll.specs.declared.PllConfig.{PllConfig}
-use Rattle.pll.specs.Setting.{valid_of}
+use Rattle.pll.specs.{declared.PllConfig.PllConfig, Setting.valid_of}
 use Rattle.pll.proofs.Valid.{Valid, valid}
+use Rattle.config.specs.Codes.{ref_code, sys_select, sys_aux, peri_aux, aux_code}
 use Rattle.config.specs.declared.{RefClkSrc.RefClkSrc, RefClkConfig.RefClkConfig, SysClkSrc.SysClkSrc, PeriClkSrc.PeriClkSrc}
 use Rattle.config.specs.declared.{AuxClkSrc.AuxClkSrc, AuxClkConfig.AuxClkConfig, RoscConfig.RoscConfig}
-use Rattle.settings.specs.declared.{Crystal.Crystal, Sources.Sources}
-use Rattle.config.specs.Codes.{ref_code, sys_select, sys_aux, peri_aux, aux_code}
-use Rattle.settings.specs.Settings.{ring_hz}
 use Rattle.settings.specs.Frequencies.{pll_hz, sources_of, ref_source, ref_hz, sys_source, peri_source, aux_source}
+use Rattle.settings.specs.{declared.Crystal.Crystal, declared.Sources.Sources, Settings.ring_hz}
 use Rattle.settings.proofs.Decoded.{Small}
 use Rattle.refusals.specs.Rules.{pll_invalid, sys_pll_invalid, usb_pll_invalid}
-use Rattle.registers.specs.Map.{RESET, XOSC_CTRL, ROSC_CTRL, PLL_CS, PLL_PWR, PLL_FBDIV_INT, PLL_PRIM, REF_SRC, SYS_SRC, AUXSRC, ENABLE}
-use Rattle.registers.specs.Map.{INT, REFDIV, FBDIV, POSTDIV1, POSTDIV2}
-use Rattle.bring_up.specs.Machine.{bits_at, held}
-use Rattle.bring_up.specs.Tree.{oscillates, pll_on, pll_from, sources_at, int_from, divided_from, ref_from, sys_from, peri_from, aux_from}
+use Rattle.registers.specs.Map.{RESET, XOSC_CTRL, ROSC_CTRL, PLL_CS, PLL_PWR, PLL_FBDIV_INT, PLL_PRIM, REF_SRC, SYS_SRC, AUXSRC}
+use Rattle.registers.specs.Map.{ENABLE, INT, REFDIV, FBDIV, POSTDIV1, POSTDIV2}
+use Rattle.bring_up.specs.{Machine.bits_at, Machine.held, Tree.oscillates, Tree.pll_on, Tree.pll_from, Tree.sources_at}
+use Rattle.bring_up.specs.Tree.{int_from, divided_from, ref_from, sys_from, peri_from, aux_from}
 use Rattle.bring_up.proofs.Set.{zero-hz, PllSet, CrystalSet, packed, control}
 
 -- ---- dividers

@@ -1,30 +1,27 @@
 -- In each part of a sheet every step is one of the chip, and the part changes only its own registers; both follow
 -- from the kinds of its steps. They compute once the chip and each choice are given: a last clause that only has names
 -- stands for the cases that no clause above it has.
-use Rattle.std.specs.Prelude.{Option, Some, None}
-use mathlib.Core.{Bool.Bool, Bool.true, Bool.false, Path.◌≡◌, Path.refl, List.List, List.[], List.◌∷◌, List.◌++◌}
-use Prim.Native.Nat.{ℕ}
-use lib.Dec.{eqb}
+use Rattle.std.specs.Prelude.{Option, Some, None, Bool, true, false, ◌≡◌, refl, List, [], ◌∷◌, ◌++◌, ℕ, eqb}
 use Rattle.base.specs.Choice.{pick}
-use Rattle.chip.specs.declared.{Chip.Chip, Chip.TheVariants.Rp2040, Chip.TheVariants.Rp235x}
-use Rattle.chip.specs.Chips.{facts_of}
+use Rattle.chip.specs.{declared.Chip.Chip, declared.Chip.TheVariants.Rp2040, declared.Chip.TheVariants.Rp235x, Chips.facts_of}
 use Rattle.step.specs.declared.Step.{Step}
-use Rattle.step.specs.declared.kind.Kind.TheVariants as kind
-use Rattle.config.specs.declared.{RefClkConfig.RefClkConfig, SysClkSrc.SysClkSrc, Board.Board, PeriClkSrc.PeriClkSrc}
+use Rattle.config.specs.Codes.{sys_select, sys_aux}
+use Rattle.config.specs.declared.{RefClkConfig.RefClkConfig, SysClkSrc.SysClkSrc, ChipSettings.ChipSettings, PeriClkSrc.PeriClkSrc}
 use Rattle.config.specs.declared.{AuxClkConfig.AuxClkConfig, RoscConfig.RoscConfig, RtcClkConfig.RtcClkConfig}
 use Rattle.pll.specs.declared.PllConfig.{PllConfig}
 use Rattle.settings.specs.declared.{Crystal.Crystal, Sources.Sources}
-use Rattle.config.specs.Codes.{sys_select, sys_aux}
-use Rattle.registers.specs.declared.Access.{Access}
-use Rattle.registers.specs.Access.{has, access_of}
 use Rattle.registers.specs.Map.{on, RESET, CLK_SYS_RESUS_CTRL, CLK_REF_CTRL, CLK_REF_DIV, CLK_SYS_CTRL, CLK_SYS_DIV, CLK_PERI_CTRL}
-use Rattle.registers.specs.Map.{CLK_USB_CTRL, CLK_USB_DIV, CLK_ADC_CTRL, CLK_ADC_DIV, CLK_RTC_CTRL, CLK_RTC_DIV, XOSC_CTRL, XOSC_STARTUP}
-use Rattle.registers.specs.Map.{ROSC_CTRL, ROSC_FREQA, ROSC_FREQB, ROSC_DIV, PLL_CS, PLL_PWR, PLL_FBDIV_INT, PLL_PRIM, VREG, BOD}
-use Rattle.registers.specs.Map.{WATCHDOG_TICK, POWMAN_VREG, POWMAN_BOD, TIMER0_CTRL, TIMER0_CYCLES, WATCHDOG_CTRL, WATCHDOG_CYCLES}
+use Rattle.registers.specs.Map.{CLK_USB_CTRL, CLK_USB_DIV, CLK_ADC_CTRL, CLK_ADC_DIV, CLK_RTC_CTRL, CLK_RTC_DIV, XOSC_CTRL}
+use Rattle.registers.specs.Map.{XOSC_STARTUP, ROSC_CTRL, ROSC_FREQA, ROSC_FREQB, ROSC_DIV, PLL_CS, PLL_PWR, PLL_FBDIV_INT, PLL_PRIM}
+use Rattle.registers.specs.Map.{VREG, BOD, WATCHDOG_TICK, POWMAN_VREG, POWMAN_BOD, TIMER0_CTRL, TIMER0_CYCLES, WATCHDOG_CTRL}
+use Rattle.registers.specs.Map.{WATCHDOG_CYCLES}
+use Rattle.registers.specs.{declared.Access.Access, Access.has, Access.access_of}
 use Rattle.sheet.specs.Steps.{mark_steps, head_part, ring_part, settling_steps, voltage_part, pll_steps, crystal_part, source_part}
-use Rattle.sheet.specs.Steps.{ref_part, switch_steps, sys_part, peri_part, aux_part, rtc_part, last_part, step0, step1, step2, store_step}
+use Rattle.sheet.specs.Steps.{ref_part, switch_steps, sys_part, peri_part, aux_part, rtc_part, last_part, step0, step1, step2}
+use Rattle.sheet.specs.Steps.{store_step}
 use Rattle.bring_up.specs.{Carried.carries, ClockWaits.all_waits}
 use Rattle.bring_up.proofs.Addresses.{within, reach}
+use Rattle.step.specs.declared.kind.Kind.TheVariants as kind
 
 pub record On (c : Chip) (own : List ℕ) (xs : List Step) : Type 0 where
   pub all : carries c xs ≡ true
@@ -126,21 +123,21 @@ ring Rp235x pass (Some r) = calm_of refl refl (λ test file. refl)
 ring c pass r = calm_of refl refl (λ test file. refl)
 
 -- a voltage that changes
-abbrev pub changed : Chip → Board → Option ℕ → List Step
+abbrev pub changed : Chip → ChipSettings → Option ℕ → List Step
 changed c b settling =
     step1 (facts_of c).voltage b.volts.code ∷ (settling_steps settling ++ (step1 (facts_of c).brownout b.volts.brownout ∷ []))
 
-voltage-of : (c : Chip) (b : Board) (same : Bool) (settling : Option ℕ)
+voltage-of : (c : Chip) (b : ChipSettings) (same : Bool) (settling : Option ℕ)
     → Calm c (voltage_own c) (pick same [] (changed c b settling))
 unfolding access_of has
 voltage-of Rp2040 b false (Some n) = calm_of refl refl (λ test file. refl)
 voltage-of Rp235x b false (Some n) = calm_of refl refl (λ test file. refl)
 voltage-of c b same settling = calm_of refl refl (λ test file. refl)
 
-pub voltage : (reading : ℕ) (b : Board) (settling : Option ℕ)
-    → Calm b.chip (voltage_own b.chip) (voltage_part reading b settling)
+pub voltage : (reading : ℕ) (b : ChipSettings) (settling : Option ℕ)
+    → Calm b.model (voltage_own b.model) (voltage_part reading b settling)
 unfolding voltage_part
-voltage reading b settling = voltage-of b.chip b (eqb b.volts.code reading) settling
+voltage reading b settling = voltage-of b.model b (eqb b.volts.code reading) settling
 
 -- a crystal's part, by its PLLs
 abbrev pub crystal_steps : ℕ → Option PllConfig → Option PllConfig → List Step
@@ -184,9 +181,9 @@ system-of Rp2040 true hz aux select whole fraction = record { all = refl; inside
 system-of Rp235x true hz aux select whole fraction = record { all = refl; inside = refl }
 system-of c same hz aux select whole fraction = record { all = refl; inside = refl }
 
-pub system : (b : Board) (hz : ℕ) (src : SysClkSrc) → On b.chip (sys_own b.chip) (sys_part b hz src)
+pub system : (b : ChipSettings) (hz : ℕ) (src : SysClkSrc) → On b.model (sys_own b.model) (sys_part b hz src)
 unfolding sys_part switch_steps
-system b hz src = system-of b.chip (eqb (sys_select src) 0) hz (sys_aux src) (sys_select src) b.whole b.fraction
+system b hz src = system-of b.model (eqb (sys_select src) 0) hz (sys_aux src) (sys_select src) b.whole b.fraction
 
 pub peri : (c : Chip) (hz : ℕ) (o : Option PeriClkSrc) → Calm c (peri_own c) (peri_part hz o)
 unfolding access_of has peri_part

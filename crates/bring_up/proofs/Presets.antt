@@ -1,15 +1,14 @@
 -- The registers after the sheets of the crystal presets at reading 11, from any values before: every register that
 -- the sheet touches, by its address.
-use mathlib.Core.{Path.◌≡◌, Path.refl, List.List, List.[], List.◌∷◌, List.map}
-use Prim.Native.Nat.{ℕ}
+use Rattle.std.specs.Prelude.{◌≡◌, refl, List, [], ◌∷◌, map, ℕ}
 use Rattle.chip.specs.declared.Chip.{Chip, TheVariants.Rp2040, TheVariants.Rp235x}
 use Rattle.divider.specs.{Delay.startup_sum, Delay.cycles_per_us, Delay.settling_cycles, Clock.divided_hz}
 use Rattle.config.specs.Presets.{crystal_plan}
 use Rattle.settings.specs.Settings.{settling_step, settings_of}
 use Rattle.settings.specs.Frequencies.{pll_hz, sources_of, ref_hz, sys_hz}
 use Rattle.registers.specs.Access.{has, access_of}
-use Rattle.sheet.specs.Steps.{head_part, ring_part, voltage_part, crystal_part, switch_steps, sys_part, peri_part, aux_part, rtc_part}
-use Rattle.sheet.specs.Steps.{release_mask, clocks_part, steps_of}
+use Rattle.sheet.specs.Steps.{head_part, ring_part, voltage_part, crystal_part, switch_steps, sys_part, peri_part, aux_part}
+use Rattle.sheet.specs.Steps.{rtc_part, release_mask, clocks_part, steps_of}
 use Rattle.bring_up.specs.Machine.{carried_out}
 
 -- address and value: 125 MHz from 12 MHz on the RP2040, 150 MHz from 12 MHz on the RP235x

@@ -1,16 +1,14 @@
 -- Any runner starts with the sheet of a plan; the sheet of an accepted plan, at any reading, runs to its end, and the
 -- runner then holds its stored values.
-use mathlib.Core.{Bool.false, Path.◌≡◌, Path.sym, Path.◌∙◌, Path.ap}
-use Prim.Native.Nat.{ℕ}
-use lib.ListN.{length}
+use Rattle.std.specs.Prelude.{false, ◌≡◌, ℕ, length}
+use mathlib.Core.Path.{sym, ◌∙◌, ap}
 use Rattle.config.specs.declared.ClockConfig.{ClockConfig}
 use Rattle.settings.specs.{Settings.settings_of, Typed.Typed}
 use Rattle.refusals.specs.Refusals.{Accepted}
 use Rattle.sheet.specs.Writer.{sheet_bytes}
-use Rattle.sheet.proofs.{Sheets.steps-few, Sheets.steps-formed}
-use Rattle.step.specs.Size.{bad_size}
+use Rattle.sheet.proofs.Sheets.{steps-few, steps-formed}
+use Rattle.step.specs.{Size.bad_size, Sheet.encoded}
 use Rattle.runner.specs.Calls.{ready_at}
-use Rattle.step.specs.Sheet.{encoded}
 use Rattle.step.proofs.Sheets.{length-encoded}
 use Rattle.runner.proofs.{Starts.start-kept, Going.good-size, Ready.ready-answers, Ready.ready-stores}
 use Rattle.bring_up.specs.Up.{plan_steps, Starts, AnswersAll, LeavesStored}

@@ -1,22 +1,18 @@
 -- The sources that run after each part, up to the crystal's part: the ring runs from the start, the crystal and the
 -- PLLs of the plan from their part on.
-use Rattle.std.specs.Prelude.{Option, Some, None}
-use mathlib.Core.{Bool.Bool, Bool.true, Bool.false, Bool.◌&&◌, Bool.not, Path.◌≡◌, Path.refl, Path.ap, Path.◌∙◌, List.[], List.◌∷◌}
-use Prim.Native.Nat.{ℕ, zero, suc, ◌+◌}
-use lib.{Dec.eqb, ListN.get_or}
+use Rattle.std.specs.Prelude.{Option, Some, None, Bool, true, false, ◌&&◌, not, ◌≡◌, refl, [], ◌∷◌, ℕ, zero, suc, ◌+◌, eqb, get_or}
+use mathlib.Core.Path.{ap, ◌∙◌}
 use Rattle.std.proofs.lemmas.Bool.{and_parts}
-use Rattle.chip.specs.declared.{Chip.Chip, Chip.TheVariants.Rp2040, Chip.TheVariants.Rp235x}
+use Rattle.chip.specs.declared.Chip.{Chip, TheVariants.Rp2040, TheVariants.Rp235x}
 use Rattle.pll.specs.declared.PllConfig.{PllConfig}
-use Rattle.config.specs.declared.{Board.Board, RoscRange.RoscRange, RoscConfig.RoscConfig}
+use Rattle.config.specs.declared.{ChipSettings.ChipSettings, RoscRange.RoscRange, RoscConfig.RoscConfig}
 use Rattle.config.specs.Codes.{range_code}
-use Rattle.settings.specs.declared.{Crystal.Crystal, Sources.Sources}
-use Rattle.settings.specs.Frequencies.{pll_hz, sources_of}
+use Rattle.settings.specs.{declared.Crystal.Crystal, declared.Sources.Sources, Frequencies.pll_hz, Frequencies.sources_of}
 use Rattle.registers.specs.Access.{has, access_of}
 use Rattle.registers.specs.Map.{RESET, XOSC_CTRL, ROSC_CTRL, CLK_REF_CTRL, PLL_PWR, FREQ_RANGE, OSCILLATOR_ON}
 use Rattle.sheet.specs.Steps.{mark_steps, head_part, ring_part, voltage_part, crystal_part}
-use Rattle.bring_up.specs.Machine.{bits_at, held, carried_out}
-use Rattle.bring_up.specs.Tree.{oscillates}
 use Rattle.bring_up.specs.ClockWaits.{all_waits, pll_runs, ref_runs, source_runs, Awake}
+use Rattle.bring_up.specs.{Machine.bits_at, Machine.held, Machine.carried_out, Tree.oscillates}
 use Rattle.bring_up.proofs.Parts.{voltage_own, crystal_own, crystal_steps, voltage as voltage-calm, crystal as crystal_on}
 use Rattle.bring_up.proofs.Set.{range-on, PllSet, CrystalSet, crystal-sets}
 use Rattle.bring_up.proofs.{Hz.pll-on, Times.held_none, ClockWaits.sys-cleared, ClockWaits.ref-cleared, Walk.Walk, Walk.keeps}
@@ -102,10 +98,10 @@ ring Rp2040 pass (Some r) = record { walk = λ file p. (refl, turned-on r.range 
 ring Rp235x pass (Some r) = record { walk = λ file p. (refl, turned-on r.range p) }
 ring c pass r = record { walk = λ file p. (refl, p) }
 
-pub voltage : (reading : ℕ) (b : Board) (settling : Option ℕ)
-    → Walk b.chip (source_runs b.chip) (Headed b.chip) (Headed b.chip) (voltage_part reading b settling)
+pub voltage : (reading : ℕ) (b : ChipSettings) (settling : Option ℕ)
+    → Walk b.model (source_runs b.model) (Headed b.model) (Headed b.model) (voltage_part reading b settling)
 voltage reading b settling =
-    let c : Chip = b.chip in
+    let c : Chip = b.model in
     let part = voltage-calm reading b settling in
     record {
       walk = λ file p. (

@@ -1,25 +1,23 @@
 -- The registers after each part, by its steps, for either chip and from any file.
-use Rattle.std.specs.Prelude.{Option, Some, None}
-use mathlib.Core.{Bool.Bool, Bool.true, Bool.false, Path.◌≡◌, Path.refl, Path.ap, Path.◌∙◌}
-use Prim.Native.Nat.{ℕ, ◌+◌, ◌-◌, ◌%◌}
+use Rattle.std.specs.Prelude.{Option, Some, None, Bool, true, false, ◌≡◌, refl, ℕ, ◌+◌, ◌-◌, ◌%◌, eqb}
+use mathlib.Core.Path.{ap, ◌∙◌}
 use native.Mathlib.Omega.{arith}
-use lib.{Dec.eqb, Bits.bit_and}
+use lib.Bits.{bit_and}
 use Rattle.base.specs.Choice.{pick}
-use Rattle.chip.specs.declared.{Chip.Chip, Chip.TheVariants.Rp2040, Chip.TheVariants.Rp235x}
-use Rattle.config.specs.declared.{RoscRange.RoscRange, RefClkConfig.RefClkConfig, SysClkSrc.SysClkSrc, Board.Board, PeriClkSrc.PeriClkSrc}
-use Rattle.config.specs.declared.{AuxClkConfig.AuxClkConfig, RtcClkConfig.RtcClkConfig, RoscConfig.RoscConfig}
-use Rattle.pll.specs.declared.PllConfig.{PllConfig}
-use Rattle.settings.specs.declared.Crystal.{Crystal}
+use Rattle.chip.specs.declared.Chip.{Chip, TheVariants.Rp2040, TheVariants.Rp235x}
 use Rattle.config.specs.Codes.{range_code, ref_code, sys_select, sys_aux, peri_aux, aux_code}
-use Rattle.settings.specs.Settings.{ring_hz}
+use Rattle.config.specs.declared.{RoscRange.RoscRange, RefClkConfig.RefClkConfig, SysClkSrc.SysClkSrc, ChipSettings.ChipSettings}
+use Rattle.config.specs.declared.{PeriClkSrc.PeriClkSrc, AuxClkConfig.AuxClkConfig, RtcClkConfig.RtcClkConfig}
+use Rattle.config.specs.declared.RoscConfig.{RoscConfig}
+use Rattle.pll.specs.declared.PllConfig.{PllConfig}
+use Rattle.settings.specs.{declared.Crystal.Crystal, Settings.ring_hz}
 use Rattle.registers.specs.Access.{has, access_of}
 use Rattle.registers.specs.Map.{on, field, RESET, CLK_REF_CTRL, CLK_REF_DIV, CLK_SYS_CTRL, CLK_SYS_DIV, CLK_PERI_CTRL, CLK_RTC_CTRL}
-use Rattle.registers.specs.Map.{CLK_RTC_DIV, XOSC_CTRL, ROSC_CTRL, PLL_CS, PLL_PWR, PLL_FBDIV_INT, PLL_PRIM, BLOCKS, REF_SRC, SYS_SRC}
-use Rattle.registers.specs.Map.{AUXSRC, ENABLE, PHASE, INT, FREQ_RANGE, OSCILLATOR_ON, REFDIV, FBDIV, POSTDIV1, POSTDIV2}
+use Rattle.registers.specs.Map.{CLK_RTC_DIV, XOSC_CTRL, ROSC_CTRL, PLL_CS, PLL_PWR, PLL_FBDIV_INT, PLL_PRIM, BLOCKS, REF_SRC}
+use Rattle.registers.specs.Map.{SYS_SRC, AUXSRC, ENABLE, PHASE, INT, FREQ_RANGE, OSCILLATOR_ON, REFDIV, FBDIV, POSTDIV1, POSTDIV2}
 use Rattle.sheet.specs.Steps.{head_part, ring_part, crystal_part, ref_part, switch_steps, sys_part, peri_part, aux_part, rtc_part}
 use Rattle.sheet.specs.Steps.{last_part}
-use Rattle.bring_up.specs.Machine.{powers_down, carried_out}
-use Rattle.bring_up.specs.Tree.{oscillates}
+use Rattle.bring_up.specs.{Machine.powers_down, Machine.carried_out, Tree.oscillates}
 use Rattle.bring_up.proofs.Parts.{Aux, Usb, aux_control, aux_divider, aux_of, crystal_steps, system_steps}
 
 -- the head leaves no block in reset, and both PLLs without power
@@ -108,12 +106,12 @@ system-of Rp2040 true hz aux select whole fraction file = (refl, refl)
 system-of Rp235x true hz aux select whole fraction file = (refl, refl)
 system-of c same hz aux select whole fraction file = (refl, refl)
 
-pub sys-sets : (b : Board) (hz : ℕ) (src : SysClkSrc) (file : ℕ → ℕ) → let after = carried_out b.chip (sys_part b hz src) file in
-    (after (CLK_SYS_CTRL b.chip) ≡ AUXSRC (sys_aux src) + SYS_SRC (sys_select src))
-    × (after (CLK_SYS_DIV b.chip) ≡ packed b.chip b.whole b.fraction)
+pub sys-sets : (b : ChipSettings) (hz : ℕ) (src : SysClkSrc) (file : ℕ → ℕ) → let after = carried_out b.model (sys_part b hz src) file in
+    (after (CLK_SYS_CTRL b.model) ≡ AUXSRC (sys_aux src) + SYS_SRC (sys_select src))
+    × (after (CLK_SYS_DIV b.model) ≡ packed b.model b.whole b.fraction)
 unfolding sys_part switch_steps
 sys-sets b hz src file =
-    system-of b.chip (eqb (sys_select src) 0) hz (sys_aux src) (sys_select src) b.whole b.fraction file
+    system-of b.model (eqb (sys_select src) 0) hz (sys_aux src) (sys_select src) b.whole b.fraction file
 
 pub peri-sets : (c : Chip) (hz : ℕ) (src : PeriClkSrc) (file : ℕ → ℕ)
     → carried_out c (peri_part hz (Some src)) file (CLK_PERI_CTRL c) ≡ AUXSRC (peri_aux src) + ENABLE

@@ -1,18 +1,15 @@
 -- A sheet is its parts one after another, and the last part that has a register decides its value.
-use mathlib.Core.{Bool.false, Path.◌≡◌, Path.refl, Path.sym, Path.ap, Path.◌∙◌}
-use mathlib.Core.List.{List, [], ◌∷◌, ◌++◌}
-use Prim.Native.Nat.{ℕ, zero, suc}
-use lib.ListN.{get_or, take, drop}
-use Rattle.chip.specs.declared.{Chip.Chip, Chip.TheVariants.Rp2040, Chip.TheVariants.Rp235x}
-use Rattle.chip.specs.Chips.{facts_of}
+use Rattle.std.specs.Prelude.{false, ◌≡◌, refl, List, [], ◌∷◌, ◌++◌, ℕ, zero, suc, get_or, take, drop}
+use mathlib.Core.Path.{sym, ap, ◌∙◌}
+use Rattle.chip.specs.{declared.Chip.Chip, declared.Chip.TheVariants.Rp2040, declared.Chip.TheVariants.Rp235x, Chips.facts_of}
 use Rattle.step.specs.declared.Step.{Step}
-use Rattle.settings.specs.declared.{Settings.Settings, Frequencies.Frequencies}
-use Rattle.settings.specs.Frequencies.{frequencies_of}
-use Rattle.sheet.specs.Steps.{mark_steps, head_part, ring_part, voltage_part, crystal_part, source_part, ref_part, sys_part, peri_part}
-use Rattle.sheet.specs.Steps.{rtc_part, release_mask, last_part}
+use Rattle.settings.specs.{declared.Settings.Settings, declared.Frequencies.Frequencies, Frequencies.frequencies_of}
+use Rattle.sheet.specs.Steps.{mark_steps, head_part, ring_part, voltage_part, crystal_part, source_part, ref_part, sys_part}
+use Rattle.sheet.specs.Steps.{peri_part, rtc_part, release_mask, last_part}
 use Rattle.bring_up.specs.Machine.{carried_out}
 use Rattle.bring_up.proofs.Addresses.{Apart, apart, member, member-append, outside, reach, steps-keep, append}
-use Rattle.bring_up.proofs.Parts.{On, owns, mark, head, ring, voltage, crystal, source, reference, system, peri, Usb, Adc, aux_of, aux, rtc, last}
+use Rattle.bring_up.proofs.Parts.{On, owns, mark, head, ring, voltage, crystal, source, reference, system, peri, Usb, Adc, aux_of}
+use Rattle.bring_up.proofs.Parts.{aux, rtc, last}
 
 abbrev pub joined : {A : Type 0} → List (List A) → List A
 joined [] = []
@@ -54,45 +51,45 @@ wins {c} (suc k) (◌also◌ {o} {p} {os} {ps} on all) x h file =
 -- the parts of the sheet of settings
 abbrev pub parts_of : ℕ → Settings → List (List Step)
 parts_of reading s =
-    let c = s.board.chip in
+    let c = s.chip.model in
     let f = frequencies_of s in
     mark_steps c
     ∷ head_part c
     ∷ ring_part (facts_of c).pass s.rosc
-    ∷ voltage_part reading s.board s.settling
+    ∷ voltage_part reading s.chip s.settling
     ∷ crystal_part s.xosc
     ∷ source_part f.sources
     ∷ ref_part c f.reference s.reference
-    ∷ sys_part s.board f.sys s.sys
+    ∷ sys_part s.chip f.sys s.sys
     ∷ peri_part f.peri s.peri
     ∷ aux_of Usb f.usb s.usb
     ∷ aux_of Adc f.adc s.adc
-    ∷ rtc_part c f.rtc s.board.rtc
-    ∷ last_part (release_mask c s.peri s.usb s.adc s.board.rtc)
+    ∷ rtc_part c f.rtc s.chip.rtc
+    ∷ last_part (release_mask c s.peri s.usb s.adc s.chip.rtc)
     ∷ []
 
-pub all-parts : (reading : ℕ) (s : Settings) → All s.board.chip (owns s.board.chip) (parts_of reading s)
+pub all-parts : (reading : ℕ) (s : Settings) → All s.chip.model (owns s.chip.model) (parts_of reading s)
 all-parts reading s =
-    let c : Chip = s.board.chip in
+    let c : Chip = s.chip.model in
     let f : Frequencies = frequencies_of s in
     (mark c).on
     also head c
     also (ring c (facts_of c).pass s.rosc).on
-    also (voltage reading s.board s.settling).on
+    also (voltage reading s.chip s.settling).on
     also crystal c s.xosc
     also (source c f.sources).on
     also reference c f.reference s.reference
-    also system s.board f.sys s.sys
+    also system s.chip f.sys s.sys
     also (peri c f.peri s.peri).on
     also (aux c Usb f.usb s.usb).on
     also (aux c Adc f.adc s.adc).on
-    also (rtc c f.rtc s.board.rtc).on
-    also last c (release_mask c s.peri s.usb s.adc s.board.rtc)
+    also (rtc c f.rtc s.chip.rtc).on
+    also last c (release_mask c s.peri s.usb s.adc s.chip.rtc)
     also none
 
 -- the file after the first n parts
 abbrev pub up_to : ℕ → ℕ → Settings → (ℕ → ℕ) → (ℕ → ℕ)
-up_to n reading s before = carried_out s.board.chip (joined (take n (parts_of reading s))) before
+up_to n reading s before = carried_out s.chip.model (joined (take n (parts_of reading s))) before
 
 -- a register that no part from k + 1 to n has, which computes on each chip, keeps the value of part k
 abbrev pub later : ℕ → ℕ → Chip → List ℕ
@@ -100,11 +97,11 @@ later n k c = joined (drop (suc k) (take n (owns c)))
 
 pub holds : (n k reading : ℕ) (s : Settings) (before : ℕ → ℕ) (x : Chip → ℕ)
     → Apart (later n k) x Rp2040 → Apart (later n k) x Rp235x
-    → up_to n reading s before (x s.board.chip)
-    ≡ carried_out s.board.chip (get_or (take n (parts_of reading s)) k [])
-    (carried_out s.board.chip (joined (take k (take n (parts_of reading s)))) before) (x s.board.chip)
+    → up_to n reading s before (x s.chip.model)
+    ≡ carried_out s.chip.model (get_or (take n (parts_of reading s)) k [])
+    (carried_out s.chip.model (joined (take k (take n (parts_of reading s)))) before) (x s.chip.model)
 holds n k reading s before x a b =
-    let c : Chip = s.board.chip in
+    let c : Chip = s.chip.model in
     wins k (all_take n (all-parts reading s)) (x c) (apart (later n k) x a b c) before
 
 -- a register that none of the first n parts has is unchanged
@@ -112,7 +109,7 @@ abbrev pub first : ℕ → Chip → List ℕ
 first n c = joined (take n (owns c))
 
 pub stays : (n reading : ℕ) (s : Settings) (before : ℕ → ℕ) (x : Chip → ℕ)
-    → Apart (first n) x Rp2040 → Apart (first n) x Rp235x → up_to n reading s before (x s.board.chip) ≡ before (x s.board.chip)
+    → Apart (first n) x Rp2040 → Apart (first n) x Rp235x → up_to n reading s before (x s.chip.model) ≡ before (x s.chip.model)
 stays n reading s before x a b =
-    let c : Chip = s.board.chip in
+    let c : Chip = s.chip.model in
     parts-keep (all_take n (all-parts reading s)) (x c) (apart (first n) x a b c) before

@@ -1,10 +1,9 @@
 -- The slowest stream gives exactly k unready polls at each wait, so the bound on the calls is reached.
-use Prim.Native.Nat.{ℕ, zero, suc, ◌+◌, ◌*◌, ◌≤◌, ◌<◌}
+use Rattle.std.specs.Prelude.{ℕ, zero, suc, ◌+◌, ◌*◌, ◌≤◌, ◌<◌, Bool, true, false, ◌&&◌, not, List, ◌≡◌, refl, eqb, leb, length}
+use Rattle.std.specs.Prelude.{replicate}
 use native.Mathlib.Omega.{arith}
-use mathlib.Core.{Bool.Bool, Bool.true, Bool.false, Bool.◌&&◌, Bool.not, List.List}
-use mathlib.Core.Path.{◌≡◌, refl, sym, ap, ap₂, ◌∙◌}
+use mathlib.Core.Path.{sym, ap, ap₂, ◌∙◌}
 use borrow.Author.Tests.{eqb-true, leb-false, lt-leb}
-use lib.{Dec.eqb, Dec.leb, ListN.length, ListN.replicate}
 use Rattle.base.specs.Choice.{bit}
 use Rattle.step.specs.{Access.read_at, Sheet.max_steps, Sheet.encoded, Sheet.AllFormed, declared.Step.Step}
 use Rattle.runner.specs.{Run.advance_of, Calls.stores_of, declared.Runner.Runner}

@@ -1,21 +1,16 @@
 -- The frequencies after the steps of a sheet are its stored values, since only its stores set them.
-use mathlib.Core.{Bool.false, List.List, List.[], List.◌∷◌, Path.◌≡◌, Path.refl, Path.ap, Path.◌∙◌}
-use Prim.Native.Nat.{ℕ}
-use lib.ListN.{replicate}
+use Rattle.std.specs.Prelude.{false, List, [], ◌∷◌, ◌≡◌, refl, ℕ, replicate}
+use mathlib.Core.Path.{ap, ◌∙◌}
 use Rattle.base.proofs.Bools.{either_way}
-use Rattle.step.specs.declared.Step.{Step}
-use Rattle.step.specs.Kinds.{is}
-use Rattle.step.specs.declared.kind.Kind.TheVariants as kind
-use Rattle.config.specs.declared.ChipConfig.{ChipConfig, TheVariants.Rp2040 as on2040, TheVariants.Rp235x as on235x}
-use Rattle.config.specs.declared.ClockConfig.{ClockConfig}
-use Rattle.config.specs.Board.{board_of}
-use Rattle.settings.specs.declared.Sources.{Sources}
-use Rattle.settings.specs.Settings.{settings_of}
+use Rattle.step.specs.{declared.Step.Step, Kinds.is}
+use Rattle.config.specs.declared.ChipConfig.TheVariants.{Rp2040 as on2040, Rp235x as on235x}
+use Rattle.config.specs.{declared.ChipConfig.ChipConfig, declared.ClockConfig.ClockConfig, ChipSettings.chip_of}
 use Rattle.settings.specs.Frequencies.{rtc_hz, tenth_of, stored_of, ten_of}
-use Rattle.sheet.specs.Steps.{steps_of}
-use Rattle.sheet.specs.Stores.{stores_in, stores_from}
+use Rattle.settings.specs.{declared.Sources.Sources, Settings.settings_of}
+use Rattle.sheet.specs.{Steps.steps_of, Stores.stores_in, Stores.stores_from}
 use Rattle.sheet.proofs.Sheets.{sheet-stores}
 use Rattle.runner.specs.{Run.stored_by, Calls.stores_of}
+use Rattle.step.specs.declared.kind.Kind.TheVariants as kind
 
 no_store : (x : Step) (freqs : List ℕ) → is x.kind kind.Store ≡ false → stored_by x freqs ≡ freqs
 unfolding stored_by
@@ -30,9 +25,9 @@ stores-alone (x ∷ xs) freqs =
 
 -- an RTC for which nothing is stored has 0 Hz
 tenth : (c : ChipConfig) (f : Sources) (a₀ a₁ a₂ a₃ a₄ a₅ a₆ a₇ a₈ : ℕ)
-    → stores_of (stores_from 9 (tenth_of (board_of c).chip (rtc_hz f (board_of c).rtc)))
+    → stores_of (stores_from 9 (tenth_of (chip_of c).model (rtc_hz f (chip_of c).rtc)))
     (a₀ ∷ a₁ ∷ a₂ ∷ a₃ ∷ a₄ ∷ a₅ ∷ a₆ ∷ a₇ ∷ a₈ ∷ 0 ∷ [])
-    ≡ a₀ ∷ a₁ ∷ a₂ ∷ a₃ ∷ a₄ ∷ a₅ ∷ a₆ ∷ a₇ ∷ a₈ ∷ rtc_hz f (board_of c).rtc ∷ []
+    ≡ a₀ ∷ a₁ ∷ a₂ ∷ a₃ ∷ a₄ ∷ a₅ ∷ a₆ ∷ a₇ ∷ a₈ ∷ rtc_hz f (chip_of c).rtc ∷ []
 unfolding stored_by
 tenth (on2040 c) f a₀ a₁ a₂ a₃ a₄ a₅ a₆ a₇ a₈ = refl
 tenth (on235x c) f a₀ a₁ a₂ a₃ a₄ a₅ a₆ a₇ a₈ = refl

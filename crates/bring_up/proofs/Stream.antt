@@ -1,14 +1,12 @@
 -- The calls of a runner over the sheet that it was started with, one for each ready flag of a stream: one call, done,
 -- and the counts of unready polls.
-use Prim.Native.Nat.{ℕ, zero, suc, ◌+◌, ◌*◌, ◌≤◌, ◌<◌}
+use Rattle.std.specs.Prelude.{ℕ, zero, suc, ◌+◌, ◌*◌, ◌≤◌, ◌<◌, Bool, true, false, List, ◌≡◌, refl, length}
 use native.Mathlib.{Omega.arith, Nat.zero-add}
-use mathlib.Core.{Bool.Bool, Bool.true, Bool.false, List.List, Path.◌≡◌, Path.refl, Path.ap, Path.◌∙◌}
+use mathlib.Core.Path.{ap, ◌∙◌}
 use borrow.Author.Tests.{eq-eqb, ne_eqb}
-use lib.ListN.{length}
 use Rattle.base.specs.Answer.{value}
 use Rattle.step.specs.{Access.read_at, Sheet.max_steps, declared.Step.Step}
-use Rattle.runner.specs.declared.Runner.{Runner}
-use Rattle.runner.specs.Run.{Outcome, is_wait, advance_of}
+use Rattle.runner.specs.{declared.Runner.Runner, Run.Outcome, Run.is_wait, Run.advance_of}
 use Rattle.runner.proofs.Going.{standing, done_at}
 use Rattle.bring_up.specs.Wait.{runner_after, call_answer, unready_poll, heard}
 

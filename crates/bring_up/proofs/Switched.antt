@@ -1,27 +1,23 @@
 -- The source that a clock is switched to runs, since the reference and system clocks of an accepted plan have no
 -- source of 0 Hz.
-use mathlib.Core.{Bool.Bool, Bool.true, Bool.false, Bool.◌&&◌, Path.◌≡◌, Path.refl, Path.ap, List.[], List.◌∷◌}
-use Prim.Native.Nat.{ℕ, ◌+◌, ◌*◌, ◌/◌}
+use Rattle.std.specs.Prelude.{Bool, true, false, ◌&&◌, ◌≡◌, refl, [], ◌∷◌, ℕ, ◌+◌, ◌*◌, ◌/◌, eqb, get_or}
+use mathlib.Core.Path.{ap}
 use native.Mathlib.{Nat.div-le_self, Omega.arith}
-use lib.{Dec.eqb, ListN.get_or}
 use borrow.Author.Tests.{eqb-false}
 use Rattle.std.proofs.lemmas.Bool.{or_parts}
-use Rattle.chip.specs.declared.{Chip.Chip, Chip.TheVariants.Rp2040, Chip.TheVariants.Rp235x}
-use Rattle.chip.specs.Chips.{facts_of}
+use Rattle.chip.specs.{declared.Chip.Chip, declared.Chip.TheVariants.Rp2040, declared.Chip.TheVariants.Rp235x, Chips.facts_of}
 use Rattle.divider.specs.Clock.{divided_hz}
-use Rattle.config.specs.declared.{RefClkSrc.RefClkSrc, RefClkConfig.RefClkConfig, SysClkSrc.SysClkSrc, Board.Board}
-use Rattle.settings.specs.declared.{Sources.Sources, Frequencies.Frequencies}
 use Rattle.config.specs.Codes.{ref_code, sys_select, sys_aux}
-use Rattle.settings.specs.Settings.{settings_of}
+use Rattle.config.specs.declared.{RefClkSrc.RefClkSrc, RefClkConfig.RefClkConfig, SysClkSrc.SysClkSrc, ChipSettings.ChipSettings}
 use Rattle.settings.specs.Frequencies.{ref_source, ref_hz, sys_source, sys_hz, sources_in, ref_in, frequencies_of}
+use Rattle.settings.specs.{declared.Sources.Sources, declared.Frequencies.Frequencies, Settings.settings_of}
 use Rattle.refusals.specs.Rules.{reference_bad}
 use Rattle.refusals.proofs.Accepted.{accepted-by}
 use Rattle.registers.specs.Access.{has, access_of}
 use Rattle.registers.specs.Map.{XOSC_CTRL, ROSC_CTRL, CLK_REF_CTRL, REF_SRC, AUXSRC, SYS_SRC}
 use Rattle.sheet.specs.Steps.{source_part, ref_part, switch_steps, sys_part, release_mask, last_part, clocks_part, steps_of}
-use Rattle.bring_up.specs.Machine.{bits_at, carried_out}
-use Rattle.bring_up.specs.Tree.{oscillates}
 use Rattle.bring_up.specs.ClockWaits.{pll_runs, ref_runs, source_runs, SourcesRun}
+use Rattle.bring_up.specs.{Machine.bits_at, Machine.carried_out, Tree.oscillates}
 use Rattle.bring_up.proofs.Parts.{Usb, Adc, system_steps, peri, aux, rtc}
 use Rattle.bring_up.proofs.Walk.{Walk, ◌then◌, Any, calmly}
 use Rattle.bring_up.proofs.Running.{NonZero, Running, Referred, mark, head, ring, voltage, crystal}
@@ -82,11 +78,11 @@ sys-runs Rp235x f reference stored whole fraction src nonzero true =
 sys-runs Rp235x f reference stored whole fraction src nonzero false =
     record { walk = λ file p. (both p.reference (sys-selected Rp235x f reference src nonzero file p), tt) }
 
-system : (b : Board) (f : Sources) (reference stored : ℕ) (src : SysClkSrc) → NonZero (sys_source f reference src)
-    → Walk b.chip (source_runs b.chip) (Referred b.chip f) Any (sys_part b stored src)
+system : (b : ChipSettings) (f : Sources) (reference stored : ℕ) (src : SysClkSrc) → NonZero (sys_source f reference src)
+    → Walk b.model (source_runs b.model) (Referred b.model f) Any (sys_part b stored src)
 unfolding sys_part switch_steps
 system b f reference stored src nonzero =
-    sys-runs b.chip f reference stored b.whole b.fraction src nonzero (eqb (sys_select src) 0)
+    sys-runs b.model f reference stored b.whole b.fraction src nonzero (eqb (sys_select src) 0)
 
 -- the last part waits for no source
 last : (c : Chip) (mask : ℕ) → Walk c (source_runs c) Any Any (last_part mask)
@@ -104,11 +100,11 @@ unfolding reference_bad ref_hz
 ref-source f r e still =
     eqb-false (ref_hz f r) 0 (or_parts (eqb (ref_hz f r) 0) _ e).0 (zero-over (ref_source f r.src) r.div still)
 
-sys-source : (b : Board) (f : Sources) (reference : ℕ) (src : SysClkSrc) → eqb (sys_hz b f reference src) 0 ≡ false
+sys-source : (b : ChipSettings) (f : Sources) (reference : ℕ) (src : SysClkSrc) → eqb (sys_hz b f reference src) 0 ≡ false
     → NonZero (sys_source f reference src)
 unfolding sys_hz divided_hz
 sys-source b f reference src e still =
-    let scale : ℕ = (facts_of b.chip).scale in
+    let scale : ℕ = (facts_of b.model).scale in
     let none : sys_source f reference src * scale ≡ 0 = rw still (omega arith) in
     eqb-false (sys_hz b f reference src) 0 e (zero-over (sys_source f reference src * scale) (b.whole * scale + b.fraction) none)
 
@@ -116,20 +112,20 @@ pub sources-run : SourcesRun
 unfolding steps_of clocks_part
 sources-run p reading ok before on awake =
     let s = settings_of p reading in
-    let c : Chip = s.board.chip in
+    let c : Chip = s.chip.model in
     let f : Frequencies = frequencies_of s in
     let a = accepted-by s reading ok in
     ((mark c
     then head c
     then ring c (facts_of c).pass s.rosc
-    then voltage reading s.board s.settling
+    then voltage reading s.chip s.settling
     then crystal c s.rosc s.xosc
     then source c f.sources
     then ref-runs c (sources_in s) f.reference s.reference (ref-source (sources_in s) s.reference (a 8))
-    then system s.board (sources_in s) (ref_in s) f.sys s.sys (sys-source s.board (sources_in s) (ref_in s) s.sys (a 10))
+    then system s.chip (sources_in s) (ref_in s) f.sys s.sys (sys-source s.chip (sources_in s) (ref_in s) s.sys (a 10))
     then calmly (peri c f.peri s.peri)
     then calmly (aux c Usb f.usb s.usb)
     then calmly (aux c Adc f.adc s.adc)
-    then calmly (rtc c f.rtc s.board.rtc)
-    then last c (release_mask c s.peri s.usb s.adc s.board.rtc)).walk before
+    then calmly (rtc c f.rtc s.chip.rtc)
+    then last c (release_mask c s.peri s.usb s.adc s.chip.rtc)).walk before
     (record { ring = on; reference = awake })).0

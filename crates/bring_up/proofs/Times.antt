@@ -1,36 +1,32 @@
 -- The stored frequencies are true: the last part that writes a register of the clock tree fixes its value, and that
 -- value gives the stored frequency.
-use Rattle.std.specs.Prelude.{Option, Some, None}
-use mathlib.Core.{Bool.Bool, Bool.false, Bool.◌||◌, Path.◌≡◌, Path.refl, Path.ap, Path.◌∙◌}
-use Prim.Native.Nat.{ℕ, ◌/◌, ◌≤◌}
+use Rattle.std.specs.Prelude.{Option, Some, None, false, ◌≡◌, refl, ℕ, ◌/◌}
+use mathlib.Core.Path.{ap, ◌∙◌}
 use native.Mathlib.Omega.{arith}
-use lib.{Dec.eqb, Dec.ltb}
 use Rattle.base.specs.Choice.{pick}
-use Rattle.chip.specs.declared.{Chip.Chip, Chip.TheVariants.Rp2040, Chip.TheVariants.Rp235x}
-use Rattle.chip.specs.Chips.{facts_of}
-use Rattle.config.specs.declared.{ChipConfig.ChipConfig, AuxClkConfig.AuxClkConfig, RtcClkConfig.RtcClkConfig, PeriClkSrc.PeriClkSrc}
+use Rattle.chip.specs.{declared.Chip.Chip, declared.Chip.TheVariants.Rp2040, declared.Chip.TheVariants.Rp235x, Chips.facts_of}
+use Rattle.config.specs.declared.{ChipConfig.ChipConfig, AuxClkConfig.AuxClkConfig, RtcClkConfig.RtcClkConfig}
+use Rattle.config.specs.{declared.PeriClkSrc.PeriClkSrc, ChipSettings.chip_of}
 use Rattle.pll.specs.declared.PllConfig.{PllConfig}
-use Rattle.config.specs.Board.{board_of}
-use Rattle.settings.specs.declared.{Settings.Settings, Sources.Sources, Frequencies.Frequencies, Crystal.Crystal}
-use Rattle.settings.specs.{Settings.settings_of, Settings.ring_hz, Typed.Typed, Typed.RtcTyped}
 use Rattle.settings.specs.Frequencies.{sys_hz, peri_hz, aux_hz, rtc_hz, sources_in, ref_in, sys_in, frequencies_of}
+use Rattle.settings.specs.declared.{Settings.Settings, Sources.Sources, Frequencies.Frequencies}
+use Rattle.settings.specs.{declared.Crystal.Crystal, Settings.settings_of, Settings.ring_hz, Typed.Typed, Typed.RtcTyped}
 use Rattle.settings.proofs.Decoded.{AuxSmall}
-use Rattle.refusals.specs.Rules.{rtc_bad}
-use Rattle.refusals.specs.Refusals.{refusal_of}
+use Rattle.refusals.specs.{Rules.rtc_bad, Refusals.refusal_of}
 use Rattle.refusals.proofs.Accepted.{accepted-by, divider-good, whole-good, rtc-good}
 use Rattle.sheet.proofs.Facts.{aux-fits, aux-divider}
-use Rattle.registers.specs.Map.{RESET, CLK_REF_CTRL, CLK_REF_DIV, CLK_SYS_CTRL, CLK_SYS_DIV, CLK_PERI_CTRL, CLK_USB_CTRL, CLK_USB_DIV}
-use Rattle.registers.specs.Map.{CLK_ADC_CTRL, CLK_ADC_DIV, CLK_RTC_CTRL, CLK_RTC_DIV, XOSC_CTRL, ROSC_CTRL, PLL_CS, PLL_PWR, PLL_FBDIV_INT}
-use Rattle.registers.specs.Map.{PLL_PRIM}
+use Rattle.registers.specs.Map.{RESET, CLK_REF_CTRL, CLK_REF_DIV, CLK_SYS_CTRL, CLK_SYS_DIV, CLK_PERI_CTRL, CLK_USB_CTRL}
+use Rattle.registers.specs.Map.{CLK_USB_DIV, CLK_ADC_CTRL, CLK_ADC_DIV, CLK_RTC_CTRL, CLK_RTC_DIV, XOSC_CTRL, ROSC_CTRL, PLL_CS}
+use Rattle.registers.specs.Map.{PLL_PWR, PLL_FBDIV_INT, PLL_PRIM}
 use Rattle.sheet.specs.Steps.{crystal_part, peri_part, rtc_part, release_mask, clocks_part, steps_of}
 use Rattle.bring_up.specs.Machine.{held, carried_out}
-use Rattle.bring_up.specs.Tree.{oscillates, sources_at, ref_at, sys_at, rtc_at, sys_from, peri_from, aux_from, CLK_PERI_DIV, int_from}
-use Rattle.bring_up.specs.Tree.{peri_divider}
+use Rattle.bring_up.specs.Tree.{oscillates, sources_at, ref_at, sys_at, rtc_at, sys_from, peri_from, aux_from, CLK_PERI_DIV}
+use Rattle.bring_up.specs.Tree.{int_from, peri_divider}
 use Rattle.bring_up.specs.Times.{has_peri, has_aux, has_rtc, Runs, AllTrue, TimesAreTrue}
 use Rattle.bring_up.proofs.Parts.{Aux, Usb, Adc, aux_control, aux_divider, aux_of}
 use Rattle.bring_up.proofs.Sheet.{up_to, holds, stays}
-use Rattle.bring_up.proofs.Set.{head-sets, ring-sets, PllSet, CrystalSet, crystal-sets, pll-moves, ref-sets, sys-sets, peri-sets, aux-sets}
-use Rattle.bring_up.proofs.Set.{rtc-sets, peri-absent, aux-absent, rtc-absent, last-sets}
+use Rattle.bring_up.proofs.Set.{head-sets, ring-sets, PllSet, CrystalSet, crystal-sets, pll-moves, ref-sets, sys-sets, peri-sets}
+use Rattle.bring_up.proofs.Set.{aux-sets, rtc-sets, peri-absent, aux-absent, rtc-absent, last-sets}
 use Rattle.bring_up.proofs.Hz.{sources-true, ref-true, sys-true, peri-true, aux-true, rtc-true}
 
 -- ---- the sources
@@ -41,20 +37,20 @@ held_none Rp2040 reset e = (ap (held Rp2040 0) e, ap (held Rp2040 1) e)
 held_none Rp235x reset e = (ap (held Rp235x 0) e, ap (held Rp235x 1) e)
 
 -- nothing is in reset before the last part, nor after it; and it keeps PWR
-reset-before : (reading : ℕ) (s : Settings) (before : ℕ → ℕ) → up_to 12 reading s before (RESET s.board.chip) ≡ 0
+reset-before : (reading : ℕ) (s : Settings) (before : ℕ → ℕ) → up_to 12 reading s before (RESET s.chip.model) ≡ 0
 reset-before reading s before =
-    let c : Chip = s.board.chip in
+    let c : Chip = s.chip.model in
     holds 12 1 reading s before RESET refl refl ∙ (head-sets c (up_to 1 reading s before)).0
 
 pub record Ended (reading : ℕ) (s : Settings) (before : ℕ → ℕ) : Type 0 where
-  pub reset : up_to 13 reading s before (RESET s.board.chip) ≡ 0
-  pub sys : up_to 13 reading s before (PLL_PWR s.board.chip 0) ≡ up_to 12 reading s before (PLL_PWR s.board.chip 0)
-  pub usb : up_to 13 reading s before (PLL_PWR s.board.chip 1) ≡ up_to 12 reading s before (PLL_PWR s.board.chip 1)
+  pub reset : up_to 13 reading s before (RESET s.chip.model) ≡ 0
+  pub sys : up_to 13 reading s before (PLL_PWR s.chip.model 0) ≡ up_to 12 reading s before (PLL_PWR s.chip.model 0)
+  pub usb : up_to 13 reading s before (PLL_PWR s.chip.model 1) ≡ up_to 12 reading s before (PLL_PWR s.chip.model 1)
 
 pub ended : (reading : ℕ) (s : Settings) (before : ℕ → ℕ) → Ended reading s before
 ended reading s before =
-    let c : Chip = s.board.chip in
-    let mask : ℕ = release_mask c s.peri s.usb s.adc s.board.rtc in
+    let c : Chip = s.chip.model in
+    let mask : ℕ = release_mask c s.peri s.usb s.adc s.chip.rtc in
     let set = last-sets c mask (up_to 12 reading s before) (reset-before reading s before) in
     record {
       reset = holds 13 12 reading s before RESET refl refl ∙ set.0;
@@ -71,9 +67,9 @@ crystal-moves c (Some x) f g e sys usb h =
 crystal-moves c None f g e sys usb h = (sys None h.0, usb None h.1)
 
 pub crystal-ends : (reading : ℕ) (s : Settings) (before : ℕ → ℕ)
-    → CrystalSet s.board.chip s.xosc (up_to 13 reading s before)
+    → CrystalSet s.chip.model s.xosc (up_to 13 reading s before)
 crystal-ends reading s before =
-    let c : Chip = s.board.chip in
+    let c : Chip = s.chip.model in
     let f : ℕ → ℕ = up_to 13 reading s before in
     let start : ℕ → ℕ = up_to 4 reading s before in
     let g : ℕ → ℕ = carried_out c (crystal_part s.xosc) start in
@@ -95,9 +91,9 @@ crystal-ends reading s before =
     (crystal-sets c s.xosc start off0 off1)
 
 sources-are : (reading : ℕ) (s : Settings) (before : ℕ → ℕ) → refusal_of s reading ≡ None
-    → sources_at s.board.chip (sources_in s).rosc (sources_in s).xosc (up_to 13 reading s before) ≡ sources_in s
+    → sources_at s.chip.model (sources_in s).rosc (sources_in s).xosc (up_to 13 reading s before) ≡ sources_in s
 sources-are reading s before ok =
-    let c : Chip = s.board.chip in
+    let c : Chip = s.chip.model in
     let a = accepted-by s reading ok in
     let after : ℕ → ℕ = up_to 13 reading s before in
     let out = held_none c (after (RESET c)) (ended reading s before).reset in
@@ -146,7 +142,7 @@ RtcOf Rp2040 o = Unit {0}
 RtcOf Rp235x (Some r) = ⊥
 RtcOf Rp235x None = Unit {0}
 
-rtc-of : (k : ChipConfig) → RtcOf (board_of k).chip (board_of k).rtc
+rtc-of : (k : ChipConfig) → RtcOf (chip_of k).model (chip_of k).rtc
 rtc-of (ChipConfig.Rp2040 k) = tt
 rtc-of (ChipConfig.Rp235x k) = tt
 
@@ -166,25 +162,25 @@ rtc-runs c source hz None f file before after one typed good e0 e1 e2 =
 
 -- ---- all clocks, over the sources that the sheet stores
 
-true_of : (reading : ℕ) (s : Settings) (before : ℕ → ℕ) → refusal_of s reading ≡ None → Typed s → RtcOf s.board.chip s.board.rtc
+true_of : (reading : ℕ) (s : Settings) (before : ℕ → ℕ) → refusal_of s reading ≡ None → Typed s → RtcOf s.chip.model s.chip.rtc
     → (now : Sources) → now ≡ sources_in s
-    → AllTrue s (frequencies_of s) s.board.chip now before (up_to 13 reading s before)
+    → AllTrue s (frequencies_of s) s.chip.model now before (up_to 13 reading s before)
 unfolding sys_hz
 true_of reading s before ok t one now same =
-    let c : Chip = s.board.chip in
+    let c : Chip = s.chip.model in
     let a = accepted-by s reading ok in
     let f : Frequencies = frequencies_of s in
     let after : ℕ → ℕ = up_to 13 reading s before in
     let r = ref-sets c f.reference s.reference (up_to 6 reading s before) in
-    let y = sys-sets s.board f.sys s.sys (up_to 7 reading s before) in
-    let whole = whole-good (facts_of c).top_whole s.board.whole (a 9) in
+    let y = sys-sets s.chip f.sys s.sys (up_to 7 reading s before) in
+    let whole = whole-good (facts_of c).top_whole s.chip.whole (a 9) in
     let reference : ref_at c (sources_in s) after ≡ ref_in s =
     ref-true c (sources_in s) s.reference (after (CLK_REF_CTRL c)) (after (CLK_REF_DIV c)) (divider-good s.reference.div (a 7))
     (holds 13 6 reading s before CLK_REF_CTRL refl refl ∙ r.0)
     (holds 13 6 reading s before CLK_REF_DIV refl refl ∙ r.1) in
     let system : sys_at c (sources_in s) after ≡ sys_in s =
     ap (λ (n : ℕ). sys_from c (sources_in s) n (after (CLK_SYS_CTRL c)) (after (CLK_SYS_DIV c))) reference
-    ∙ sys-true c (sources_in s) (ref_in s) s.sys s.board.whole s.board.fraction (after (CLK_SYS_CTRL c))
+    ∙ sys-true c (sources_in s) (ref_in s) s.sys s.chip.whole s.chip.fraction (after (CLK_SYS_CTRL c))
     (after (CLK_SYS_DIV c)) whole.0 whole.1 t.fraction
     (holds 13 7 reading s before CLK_SYS_CTRL refl refl ∙ y.0)
     (holds 13 7 reading s before CLK_SYS_DIV refl refl ∙ y.1) in
@@ -215,7 +211,7 @@ true_of reading s before ok t one now same =
           (holds 13 10 reading s before CLK_ADC_DIV refl refl)
           (stays 10 reading s before CLK_ADC_CTRL refl refl);
       rtc =
-          rtc-runs c f.rtc_source f.rtc s.board.rtc (sources_in s) (up_to 11 reading s before) before after
+          rtc-runs c f.rtc_source f.rtc s.chip.rtc (sources_in s) (up_to 11 reading s before) before after
           one t.rtc (a 14)
           (holds 13 11 reading s before (λ c. CLK_RTC_CTRL) refl refl)
           (holds 13 11 reading s before (λ c. CLK_RTC_DIV) refl refl)
@@ -227,5 +223,5 @@ unfolding steps_of clocks_part
 times-are-true p reading ok t before =
     let s = settings_of p reading in
     true_of reading s before ok t (rtc-of p.chip)
-    (sources_at s.board.chip (sources_in s).rosc (sources_in s).xosc (up_to 13 reading s before))
+    (sources_at s.chip.model (sources_in s).rosc (sources_in s).xosc (up_to 13 reading s before))
     (sources-are reading s before ok)

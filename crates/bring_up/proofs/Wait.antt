@@ -1,23 +1,21 @@
 -- A runner that was started with a sheet of well-formed steps, with at most k unready polls at each wait, k under
 -- 1000000, reaches done: one call for each step and at most k for each wait.
-use Prim.Native.Nat.{ℕ, zero, suc, ◌+◌, ◌-◌, ◌*◌, ◌≤◌, ◌<◌}
+use Rattle.std.specs.Prelude.{ℕ, zero, suc, ◌+◌, ◌-◌, ◌*◌, ◌≤◌, ◌<◌, Bool, true, false, ◌⊎◌, List, [], ◌∷◌, ◌≡◌, refl, length}
+use Rattle.std.specs.Prelude.{get_or, replicate}
 use native.Mathlib.Omega.{arith}
 use native.Mathlib.Nat.{add-zero, zero-add, mul-add, mul-one, mul-zero, zero-mul, eq-or-lt_of_le}
-use mathlib.Core.{Bool.Bool, Bool.true, Bool.false, Logic.◌⊎◌, Logic.inl, Logic.inr, List.List, List.[], List.◌∷◌}
-use mathlib.Core.Path.{◌≡◌, refl, sym, ap, ◌∙◌}
-use lib.ListN.{length, get_or, replicate}
-use Rattle.base.{specs.Answer.value, proofs.Bools.either_way}
-use Rattle.step.specs.declared.kind.Kind.TheVariants as kind
+use mathlib.Core.{Logic.inl, Logic.inr, Path.sym, Path.ap, Path.◌∙◌}
+use Rattle.base.specs.Answer.{value}
+use Rattle.base.proofs.Bools.{either_way}
 use Rattle.step.specs.{Access.read_at, Sheet.max_steps, Sheet.encoded, Sheet.AllFormed, declared.Step.Step}
 use Rattle.step.proofs.Sheets.{length-encoded, read-encoded}
-use Rattle.runner.specs.declared.Runner.{Runner}
-use Rattle.runner.specs.declared.Reply.TheVariants.{Passed, Waiting}
-use Rattle.runner.specs.Run.{outcome, is_wait, one_more, take_step, stored_by}
-use Rattle.runner.specs.Calls.{stores_of}
+use Rattle.runner.specs.{declared.Runner.Runner, declared.Reply.TheVariants.Passed, declared.Reply.TheVariants.Waiting, Run.outcome}
+use Rattle.runner.specs.{Run.is_wait, Run.one_more, Run.take_step, Run.stored_by, Calls.stores_of}
 use Rattle.runner.proofs.Going.{going, standing, wait-stores, hands, passes, polls-on, done_at, step-at}
 use Rattle.bring_up.specs.Wait.{runner_after, call_answer, heard, HearsAtMost, waits_in, OnTheWay, UpAfter, UpWithin}
 use Rattle.bring_up.specs.Slow.{HearsAll}
 use Rattle.bring_up.proofs.Stream.{at, next, answered, stays-done, elsewhere, polled-here}
+use Rattle.step.specs.declared.kind.Kind.TheVariants as kind
 
 split : {A B C : Type 0} → A ⊎ B → (A → C) → (B → C) → C
 split (inl a) f g = f a

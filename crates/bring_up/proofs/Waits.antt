@@ -1,10 +1,9 @@
 -- A sheet has at most 10 waits.
-use Prim.Native.Nat.{ℕ, ◌≤◌}
+use Rattle.std.specs.Prelude.{ℕ, ◌≤◌, List, [], ◌∷◌, ◌≡◌, refl}
 use native.Mathlib.Omega.{arith}
-use mathlib.Core.{List.List, List.[], List.◌∷◌, Path.◌≡◌, Path.refl}
 use Rattle.base.specs.Choice.{bit}
 use Rattle.step.specs.declared.Step.{Step}
-use Rattle.chip.specs.declared.{Chip.Chip, Chip.TheVariants.Rp2040, Chip.TheVariants.Rp235x}
+use Rattle.chip.specs.declared.Chip.{Chip, TheVariants.Rp2040, TheVariants.Rp235x}
 use Rattle.settings.specs.declared.Settings.{Settings}
 use Rattle.sheet.specs.Steps.{steps_of}
 use Rattle.sheet.proofs.{Laws.weight, Laws.weigh, Laws.clocks_kinds, Laws.sheet_kinds, Sheets.steps-most}
@@ -22,5 +21,5 @@ chip-waits Rp235x = refl
 
 pub waits-ten : (reading : ℕ) (s : Settings) → waits_in (steps_of reading s) ≤ max_waits
 waits-ten reading s =
-    let count = chip-waits s.board.chip in
+    let count = chip-waits s.chip.model in
     omega (arith, steps-most (λ k. bit (is_wait k)) reading s, weighed (steps_of reading s), count)

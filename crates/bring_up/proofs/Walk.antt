@@ -1,13 +1,11 @@
 -- A walk over steps: from a file with property P, the test holds at each wait, and the file after the steps has property Q.
-use mathlib.Core.{Bool.Bool, Bool.true, Path.◌≡◌, Path.sym, Path.subst, List.List, List.[], List.◌∷◌, List.◌++◌}
-use Prim.Native.Nat.{ℕ}
+use Rattle.std.specs.Prelude.{Bool, true, ◌≡◌, List, [], ◌∷◌, ◌++◌, ℕ}
+use mathlib.Core.Path.{sym, subst}
 use Rattle.std.proofs.lemmas.Bool.{and_parts}
-use Rattle.chip.specs.declared.{Chip.Chip, Chip.TheVariants.Rp2040, Chip.TheVariants.Rp235x}
+use Rattle.chip.specs.declared.Chip.{Chip, TheVariants.Rp2040, TheVariants.Rp235x}
 use Rattle.step.specs.declared.Step.{Step}
-use Rattle.registers.specs.declared.Access.{Access}
-use Rattle.registers.specs.Access.{access_of}
-use Rattle.bring_up.specs.Machine.{done, carried_out}
-use Rattle.bring_up.specs.ClockWaits.{at_wait, all_waits}
+use Rattle.registers.specs.{declared.Access.Access, Access.access_of}
+use Rattle.bring_up.specs.{Machine.done, Machine.carried_out, ClockWaits.at_wait, ClockWaits.all_waits}
 use Rattle.bring_up.proofs.Addresses.{Apart, apart, outside, reach, steps-keep, append}
 use Rattle.bring_up.proofs.Parts.{On, Calm}
 

@@ -47,7 +47,7 @@ abbrev pub NoEndlessWait : Type 0
 NoEndlessWait =
     (p : ClockConfig) (reading : ℕ) → Accepted p reading → (before : ℕ → ℕ)
     → let s = settings_of p reading in
-    let c = s.board.chip in
+    let c = s.chip.model in
     all_waits c (can_come c (sources_in s).xosc) (steps_of reading s) before ≡ true
 
 -- ---- the source that a clock is switched to runs, without which its SELECTED never changes
@@ -86,7 +86,7 @@ abbrev pub SourcesRun : Type 0
 SourcesRun =
     (p : ClockConfig) (reading : ℕ) → Accepted p reading → (before : ℕ → ℕ)
     → let s = settings_of p reading in
-    let c = s.board.chip in
+    let c = s.chip.model in
     oscillates (before (ROSC_CTRL c)) ≡ true → ref_runs c before ≡ true
     → all_waits c (source_runs c) (steps_of reading s) before ≡ true
 
@@ -95,7 +95,7 @@ pub record Sheet (c : Chip) : Type 0 where
   pub plan : ClockConfig
   pub reading : ℕ
   pub accepted : Accepted plan reading
-  pub chip : (settings_of plan reading).board.chip ≡ c
+  pub chip : (settings_of plan reading).chip.model ≡ c
 
 -- the file after sheets, one after another
 abbrev pub after_sheets : (c : Chip) → List (Sheet c) → (ℕ → ℕ) → (ℕ → ℕ)

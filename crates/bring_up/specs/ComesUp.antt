@@ -1,18 +1,12 @@
 -- The bound on the calls that a sheet takes until done (docs/FORMAT.md, How long a run takes).
-use Rattle.std.specs.Prelude.{Result}
-use Rattle.base.specs.declared.refusal.Refusal.{Refusal}
-use Rattle.std.specs.Prelude.{ℕ, ◌+◌, ◌*◌, ◌/◌, ◌≤◌, ◌<◌}
-use mathlib.Core.{Path.◌≡◌, Bool.Bool, List.List}
-use lib.{Dec.ltb, ListN.length, ListN.take}
-use Rattle.base.specs.{Choice.pick, Answer.value, Answer.answer_of}
+use Rattle.std.specs.Prelude.{Result, ℕ, ◌+◌, ◌*◌, ◌/◌, ◌≤◌, ◌<◌, ◌≡◌, Bool, List, ltb, length, take}
+use Rattle.base.specs.{declared.refusal.Refusal.Refusal, Choice.pick, Answer.value, Answer.answer_of}
 use Rattle.step.specs.Sheet.{max_steps}
 use Rattle.chip.specs.declared.Chip.{Chip}
 use Rattle.config.specs.declared.ClockConfig.{ClockConfig}
 use Rattle.settings.specs.{Settings.settings_of, Frequencies.ten_of}
-use Rattle.sheet.specs.Steps.{most_steps}
-use Rattle.sheet.specs.Writer.{sheet_bytes, InitCall}
-use Rattle.runner.specs.declared.Runner.{Runner}
-use Rattle.runner.specs.Run.{started_with, start_of, outcome}
+use Rattle.sheet.specs.{Steps.most_steps, Writer.sheet_bytes, Writer.InitCall}
+use Rattle.runner.specs.{declared.Runner.Runner, Run.started_with, Run.start_of, Run.outcome}
 use Rattle.bring_up.specs.{Up.plan_steps, Wait.HearsAtMost, Wait.UpAfter, Wait.UpWithin}
 
 -- at most 10 steps of a sheet are waits
@@ -36,7 +30,7 @@ UpAtOnce calls sheet freqs = (ready : ℕ → Bool) → HearsAtMost 0 sheet read
 
 -- the sheet of a plan: the frequencies are the stored values, and with no unready poll there is one call for each step
 abbrev pub ComesUp : ClockConfig → ℕ → Type 0
-ComesUp p reading = UpInTime (settings_of p reading).board.chip (sheet_bytes p reading) (ten_of (settings_of p reading))
+ComesUp p reading = UpInTime (settings_of p reading).chip.model (sheet_bytes p reading) (ten_of (settings_of p reading))
 
 abbrev pub ComesUpReady : ClockConfig → ℕ → Type 0
 ComesUpReady p reading = UpAtOnce (length (plan_steps p reading)) (sheet_bytes p reading) (ten_of (settings_of p reading))
@@ -44,7 +38,7 @@ ComesUpReady p reading = UpAtOnce (length (plan_steps p reading)) (sheet_bytes p
 -- n bytes written for a plan, eight for each step: any runner starts with them and reaches done
 pub record WrittenUp (p : ClockConfig) (reading n : ℕ) (sheet : List ℕ) : Type 0 where
   pub starts : (r : Runner) → start_of r sheet ≡ outcome (value tt) (started_with sheet)
-  pub in_time : UpInTime (settings_of p reading).board.chip sheet (ten_of (settings_of p reading))
+  pub in_time : UpInTime (settings_of p reading).chip.model sheet (ten_of (settings_of p reading))
   pub at_once : UpAtOnce (n / 8) sheet (ten_of (settings_of p reading))
 
 -- for every plan, reading and buffer: a runner reaches done with the bytes up to the length that `init` answered

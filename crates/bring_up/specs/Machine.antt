@@ -1,13 +1,11 @@
 -- The registers after the steps of a sheet are carried out. A register file gives each address its value.
-use mathlib.Core.{Bool.Bool, Bool.◌&&◌, Bool.◌||◌, List.List, List.[], List.◌∷◌}
-use Rattle.std.specs.Prelude.{ℕ, ◌+◌, ◌-◌, ◌/◌, ◌%◌, ◌^◌}
-use lib.{Dec.eqb, Bits.bit_and}
+use Rattle.std.specs.Prelude.{Bool, ◌&&◌, ◌||◌, List, [], ◌∷◌, ℕ, ◌+◌, ◌-◌, ◌/◌, ◌%◌, ◌^◌, eqb}
+use lib.Bits.{bit_and}
 use Rattle.base.specs.{Choice.pick, Answer.Answer, Answer.value, Answer.refusal}
 use Rattle.chip.specs.declared.Chip.{Chip}
 use Rattle.step.specs.declared.Step.{Step}
-use Rattle.registers.specs.declared.Access.{Access}
 use Rattle.registers.specs.Access.{access_of, op_of, address_of, mask_of, value_of}
-use Rattle.registers.specs.Map.{on, RESET, PLL_PWR}
+use Rattle.registers.specs.{declared.Access.Access, Map.on, Map.RESET, Map.PLL_PWR}
 
 -- the value of a field of a register: its lowest bit, its width, the register's value
 abbrev pub bits_at : ℕ → ℕ → ℕ → ℕ

@@ -1,8 +1,6 @@
 -- Inside: the stream of ready flags that makes a runner wait longest.
-use Rattle.std.specs.Prelude.{ℕ, zero, suc, ◌+◌, ◌<◌, leb}
-use mathlib.Core.{Bool.Bool, Bool.false, Path.◌≡◌, List.List}
-use Rattle.runner.specs.declared.Runner.{Runner}
-use Rattle.runner.specs.Run.{started_with, advance_of}
+use Rattle.std.specs.Prelude.{ℕ, zero, suc, ◌+◌, ◌<◌, leb, Bool, false, ◌≡◌, List}
+use Rattle.runner.specs.{declared.Runner.Runner, Run.started_with, Run.advance_of}
 use Rattle.bring_up.specs.Wait.{runner_after, unready_poll, heard}
 
 -- at each wait at least k unready polls: a poll is unready while fewer than k were

@@ -43,12 +43,12 @@ pub record AllTrue (s : Settings) (f : Frequencies) (c : Chip) (now : Sources) (
   pub peri_divider_kept : peri_divider c after ≡ peri_divider c before
   pub usb : Runs (has_aux s.usb) (usb_at c now after) f.usb (CLK_USB_CTRL c) before after
   pub adc : Runs (has_aux s.adc) (adc_at c now after) f.adc (CLK_ADC_CTRL c) before after
-  pub rtc : Runs (has_rtc s.board.rtc) (rtc_at now after) f.rtc CLK_RTC_CTRL before after
+  pub rtc : Runs (has_rtc s.chip.rtc) (rtc_at now after) f.rtc CLK_RTC_CTRL before after
 
 -- the same for settings at a reading; ring and crystal oscillate at the frequencies that the plan gives
 abbrev pub TrueAfter : Settings → ℕ → (ℕ → ℕ) → Type 0
 TrueAfter s reading before =
-    let c = s.board.chip in
+    let c = s.chip.model in
     let f = frequencies_of s in
     let after = carried_out c (steps_of reading s) before in
     AllTrue s f c (sources_at c f.sources.rosc f.sources.xosc after) before after

@@ -2,18 +2,15 @@
 -- that of the stored values: a PLL is rounded down at its reference and at its output (pll/specs/Setting,
 -- `output_hz`), a divided clock once (divider/specs/Clock, `divided_hz`). A clock that is off has 0 Hz, and so has a
 -- source that no plan can name, which is an input pin.
-use mathlib.Core.{Bool.Bool, Bool.◌&&◌, Bool.not, List.[], List.◌∷◌}
-use Rattle.std.specs.Prelude.{ℕ, ◌+◌, ◌/◌, ◌^◌}
-use lib.{Dec.eqb, ListN.get_or}
+use Rattle.std.specs.Prelude.{Bool, ◌&&◌, not, [], ◌∷◌, ℕ, ◌+◌, ◌/◌, ◌^◌, eqb, get_or}
 use Rattle.base.specs.Choice.{pick}
-use Rattle.chip.specs.declared.{Chip.Chip, Chip.TheVariants.Rp2040, Chip.TheVariants.Rp235x}
+use Rattle.chip.specs.declared.Chip.{Chip, TheVariants.Rp2040, TheVariants.Rp235x}
 use Rattle.divider.specs.{Clock.divided_hz, Gpout.gpout_whole}
-use Rattle.pll.specs.declared.PllConfig.{PllConfig}
-use Rattle.pll.specs.Setting.{output_hz}
+use Rattle.pll.specs.{declared.PllConfig.PllConfig, Setting.output_hz}
 use Rattle.settings.specs.declared.Sources.{Sources}
-use Rattle.registers.specs.Map.{on, RESET, XOSC_CTRL, ROSC_CTRL, PLL_CS, PLL_PWR, PLL_FBDIV_INT, PLL_PRIM}
-use Rattle.registers.specs.Map.{CLK_REF_CTRL, CLK_REF_DIV, CLK_SYS_CTRL, CLK_SYS_DIV, CLK_PERI_CTRL, CLK_USB_CTRL, CLK_USB_DIV}
-use Rattle.registers.specs.Map.{CLK_ADC_CTRL, CLK_ADC_DIV, CLK_RTC_CTRL, CLK_RTC_DIV}
+use Rattle.registers.specs.Map.{on, RESET, XOSC_CTRL, ROSC_CTRL, PLL_CS, PLL_PWR, PLL_FBDIV_INT, PLL_PRIM, CLK_REF_CTRL}
+use Rattle.registers.specs.Map.{CLK_REF_DIV, CLK_SYS_CTRL, CLK_SYS_DIV, CLK_PERI_CTRL, CLK_USB_CTRL, CLK_USB_DIV, CLK_ADC_CTRL}
+use Rattle.registers.specs.Map.{CLK_ADC_DIV, CLK_RTC_CTRL, CLK_RTC_DIV}
 use Rattle.bring_up.specs.Machine.{bits_at, held}
 
 -- ---- sources

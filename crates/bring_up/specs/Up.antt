@@ -1,16 +1,12 @@
 -- Inside: a runner that was started with the sheet of a plan, with every call ready.
-use mathlib.Core.{Bool.true, List.List, List.[], List.◌∷◌, List.◌++◌, List.map, Path.◌≡◌}
-use Rattle.std.specs.Prelude.{ℕ, ◌+◌, length, replicate}
+use Rattle.std.specs.Prelude.{true, List, [], ◌∷◌, ◌++◌, map, ◌≡◌, ℕ, ◌+◌, length, replicate}
 use Rattle.base.specs.Answer.{value}
 use Rattle.step.specs.declared.Step.{Step}
 use Rattle.config.specs.declared.ClockConfig.{ClockConfig}
 use Rattle.settings.specs.{Settings.settings_of, Frequencies.ten_of}
-use Rattle.sheet.specs.Steps.{steps_of}
-use Rattle.sheet.specs.Writer.{sheet_bytes}
-use Rattle.runner.specs.declared.Runner.{Runner}
-use Rattle.runner.specs.declared.Reply.TheVariants.{Done}
-use Rattle.runner.specs.Run.{started_with, start_of, outcome}
+use Rattle.sheet.specs.{Steps.steps_of, Writer.sheet_bytes}
 use Rattle.runner.specs.Calls.{answers, after, ready_answer, ready_at}
+use Rattle.runner.specs.{declared.Runner.Runner, declared.Reply.TheVariants.Done, Run.started_with, Run.start_of, Run.outcome}
 
 -- the steps of a plan's sheet
 abbrev pub plan_steps : ClockConfig → ℕ → List Step

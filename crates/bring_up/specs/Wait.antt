@@ -1,14 +1,10 @@
 -- A runner over the sheet that it was started with, for any stream of ready flags: the number of calls before done,
 -- and the frequencies then.
-use Rattle.std.specs.Prelude.{ℕ, zero, suc, ◌+◌, ◌*◌, ◌≤◌, ◌<◌, eqb}
-use mathlib.Core.{Bool.Bool, Bool.false, Bool.◌&&◌, Bool.not, Path.◌≡◌, List.List, List.[], List.◌∷◌}
+use Rattle.std.specs.Prelude.{ℕ, zero, suc, ◌+◌, ◌*◌, ◌≤◌, ◌<◌, eqb, Bool, false, ◌&&◌, not, ◌≡◌, List, [], ◌∷◌}
 use Rattle.base.specs.{Answer.Answer, Answer.value, Answer.refusal, Choice.bit}
-use Rattle.step.specs.declared.Step.{Step}
-use Rattle.step.specs.Access.{read_at}
-use Rattle.runner.specs.declared.Runner.{Runner}
-use Rattle.runner.specs.declared.Reply.{Reply}
+use Rattle.step.specs.{declared.Step.Step, Access.read_at}
 use Rattle.runner.specs.declared.Reply.TheVariants.{Done, Handed, Passed, Waiting}
-use Rattle.runner.specs.Run.{is_wait, started_with, advance_of}
+use Rattle.runner.specs.{declared.Runner.Runner, declared.Reply.Reply, Run.is_wait, Run.started_with, Run.advance_of}
 
 -- the runner after i calls; then the answer of call i, which has the flag ready i
 unfoldable pub runner_after : List ℕ → (ℕ → Bool) → ℕ → Runner

@@ -1,8 +1,7 @@
 -- A line is cut where its first word ends.
-use mathlib.Core.{Path.◌≡◌, List.List}
-use Prim.Native.Nat.{ℕ, ◌≤◌}
+use Rattle.std.specs.Prelude.{◌≡◌, List, ℕ, ◌≤◌, length, take}
 use native.Mathlib.Omega.{arith}
-use lib.ListN.{length, take, length-drop}
+use lib.ListN.{length-drop}
 use Rattle.text.specs.Words.{up_to}
 use Rattle.text.proofs.Lines.{take-up}
 use Rattle.cases.specs.Line.{rest_after}

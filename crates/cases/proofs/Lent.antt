@@ -1,8 +1,7 @@
 -- The first bytes of a lent buffer are all 0xEE.
-use mathlib.Core.{Path.◌≡◌, Path.refl, Path.ap, List.List, List.◌∷◌}
-use Prim.Native.Nat.{ℕ, zero, suc, ◌≤◌}
+use Rattle.std.specs.Prelude.{◌≡◌, refl, List, ◌∷◌, ℕ, zero, suc, ◌≤◌, take, replicate}
+use mathlib.Core.Path.{ap}
 use native.Mathlib.Omega.{arith}
-use lib.{ListN.take, ListN.replicate}
 
 pub take_same : (m n a : ℕ) → m ≤ n → take m (replicate n a) ≡ replicate m a
 take_same zero n a h = refl

@@ -1,13 +1,12 @@
 -- An answer has at most 3477 bytes: a 32-bit number has at most 10 digits, a 64-bit number at most 20, and a byte has two hex
 -- digits.
-use mathlib.Core.{Path.◌≡◌, List.List, List.[], List.◌∷◌}
-use Prim.Native.Nat.{ℕ, suc, ◌+◌, ◌*◌, ◌%◌, ◌≤◌, ◌<◌}
+use Rattle.std.specs.Prelude.{◌≡◌, List, [], ◌∷◌, ℕ, suc, ◌+◌, ◌*◌, ◌%◌, ◌≤◌, ◌<◌, eqb, length, get_or}
 use native.Mathlib.Omega.{arith}
-use lib.{Dec.eqb, ListN.length, ListN.get_or, ListN.length-append}
-use Rattle.base.{specs.Choice.in_range, proofs.Bools.either_way}
-use Rattle.text.specs.{Decimal.decimal_of, Hex.hex_digits, Hex.hex_of}
+use lib.ListN.{length-append}
+use Rattle.base.specs.Choice.{in_range}
+use Rattle.base.proofs.Bools.{either_way}
+use Rattle.text.specs.{Decimal.decimal_of, Hex.hex_digits, Hex.hex_of, Reply.spaced, Reply.row_text}
 use Rattle.text.proofs.Decimals.{length-decimal}
-use Rattle.text.specs.Reply.{spaced, row_text}
 use Rattle.numbers.specs.Answers.{refusals, malformed}
 use Rattle.cases.specs.Said.{number_text, hex_behind, call_text}
 

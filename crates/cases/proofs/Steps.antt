@@ -1,24 +1,17 @@
 -- A word is taken as its letter says, the letters are taken one after another, and the hex of no bytes is no text.
-use Rattle.std.specs.Prelude.{Option, Some, None, Result, Ok, Err, MatchOption}
-use Rattle.std.specs.Option.{option_map, option_and_then}
-use Rattle.std.specs.Bool.{then_some}
-use Rattle.std.specs.Result.{result_ok}
-use Rattle.base.specs.Answer.{answer_of}
-use Rattle.base.specs.declared.refusal.Refusal.{Refusal}
-use mathlib.Core.{Path.◌≡◌, Path.refl, Bool.Bool, Bool.true, Bool.false}
-use mathlib.Core.{List.List, List.[], List.◌∷◌}
-use Prim.Native.Nat.{ℕ, suc, ◌≤◌, ◌<◌}
+use Rattle.std.specs.Prelude.{Option, Some, None, Result, Ok, Err, MatchOption, option_map, option_and_then, ◌≡◌, refl, Bool, true}
+use Rattle.std.specs.Prelude.{false, List, [], ◌∷◌, ℕ, suc, ◌≤◌, ◌<◌, eqb, leb, length, drop, get_or}
+use Rattle.std.specs.{Bool.then_some, Result.result_ok}
+use Rattle.base.specs.{Answer.answer_of, declared.refusal.Refusal.Refusal, Choice.pick}
 use native.Mathlib.Omega.{arith}
 use borrow.Author.Tests.{lt-ltb, le-ltb, leb-true}
-use lib.{Dec.eqb, Dec.leb, ListN.length, ListN.drop, ListN.get_or, ListN.drop_of_length-le, Seq.sets, Seq.drop-cons}
-use Rattle.base.{specs.Choice.pick, proofs.Bools.either_way}
+use lib.{ListN.drop_of_length-le, Seq.sets, Seq.drop-cons}
+use Rattle.base.proofs.Bools.{either_way}
 use Rattle.std.proofs.lemmas.Bool.{and_parts}
-use Rattle.text.specs.{Hex.is_hex_word, Hex.is_readable, Hex.pair_values, Hex.hex_of, Hex.HexReading}
+use Rattle.text.specs.Hex.{is_hex_word, is_readable, pair_values, hex_of, HexReading}
 use Rattle.text.proofs.HexWords.{no_word}
-use Rattle.cases.specs.declared.words.Words.{Words}
-use Rattle.cases.specs.Line.{word_after, rest_after}
 use Rattle.cases.specs.Words.{with_number, number_step, step, given}
-use Rattle.cases.specs.Said.{hex_behind}
+use Rattle.cases.specs.{declared.words.Words.Words, Line.word_after, Line.rest_after, Said.hex_behind}
 
 -- a word of hex that is read: it is readable, the count is that of its bytes, and these are at the buffer's start
 pub record Hexed (w xs : List ℕ) (m : ℕ) (ys : List ℕ) : Type 0 where

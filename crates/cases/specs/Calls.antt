@@ -1,27 +1,21 @@
 -- The answers of the cases that lend a buffer, a runner, a bench or slots, from the row n of their numbers (docs/CASES.md). The
 -- words of a case are named above its definition.
-use Rattle.std.specs.Prelude.{Option, Some, None}
-use mathlib.Core.{Bool.Bool, List.List, List.[], List.◌++◌}
-use Rattle.std.specs.Prelude.{ℕ, ◌-◌}
-use lib.{Dec.eqb, Dec.ltb, ListN.length, ListN.take, ListN.drop, ListN.replicate, Seq.sets}
+use Rattle.std.specs.Prelude.{Option, Some, None, Bool, List, [], ◌++◌, ℕ, ◌-◌, eqb, ltb, length, take, drop, replicate}
+use lib.Seq.{sets}
 use Rattle.base.specs.{Answer.Answer, Choice.pick}
-use Rattle.chip.specs.declared.{Chip.Chip, Chip.TheVariants.Rp2040, Chip.TheVariants.Rp235x}
+use Rattle.chip.specs.declared.Chip.{Chip, TheVariants.Rp2040, TheVariants.Rp235x}
 use Rattle.config.specs.declared.ClockConfig.{ClockConfig}
 use Rattle.lister.specs.Lister.{listed_of, listed_in}
-use Rattle.sleep.specs.Sleep.{SleepOutcome, sleep_of, wake_of}
-use Rattle.sleep.specs.declared.steps.Step.{Step}
-use Rattle.numbers.specs.Slots.{slots_numbers, steps_numbers}
-use Rattle.runner.specs.Run.{start_of}
+use Rattle.sleep.specs.{Sleep.SleepOutcome, Sleep.sleep_of, Sleep.wake_of, declared.steps.Step.Step}
 use Rattle.numbers.specs.Fields.{nth, byte_at, half_at, room_at, pll_at, ten_at}
 use Rattle.numbers.specs.Answers.{answer_number, itself, malformed, chip_numbered, divider_numbered, gpout_number}
-use Rattle.numbers.specs.Manual.{manual_by_code}
-use Rattle.numbers.specs.Run.{runner_in, run_number, run_leaves, go_number, start_leaves}
+use Rattle.numbers.specs.{Slots.slots_numbers, Slots.steps_numbers, Manual.manual_by_code, Run.runner_in, Run.run_number}
+use Rattle.numbers.specs.{Run.run_leaves, Run.go_number, Run.start_leaves, Bench.bench_in, Bench.bench_number, Bench.bench_leaves}
+use Rattle.numbers.specs.{Bench.start_all_leaves, SleepCall.asked_with, SleepCall.steps_number, SleepCall.left_asked}
+use Rattle.runner.specs.Run.{start_of}
 use Rattle.boards.specs.Bench.{start_all_of}
-use Rattle.numbers.specs.Bench.{bench_in, bench_number, bench_leaves, start_all_leaves}
-use Rattle.numbers.specs.SleepCall.{asked_with, steps_number, left_asked}
 use Rattle.export.specs.Sheet.{sheet_number, sheet_buffer, plan_on}
-use Rattle.cases.specs.Said.{call_text}
-use Rattle.cases.specs.Say.{one_text, written_text, planned_text}
+use Rattle.cases.specs.{Said.call_text, Say.one_text, Say.written_text, Say.planned_text}
 
 -- 0 is the RP2040, 1 the RP235x
 abbrev pub chip_at : List ℕ → Chip

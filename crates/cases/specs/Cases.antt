@@ -1,7 +1,6 @@
 -- The table of cases: each row has a name, the letters of its words, and the answer (docs/CASES.md).
-use Rattle.std.specs.Prelude.{Option, Some, None, is_some, find}
-use mathlib.Core.{Bool.Bool, Bool.true, Bool.false, List.List, List.[], List.◌∷◌}
-use Prim.Native.{Nat.ℕ, String.String}
+use Rattle.std.specs.Prelude.{Option, Some, None, is_some, find, Bool, true, false, List, [], ◌∷◌, ℕ}
+use Prim.Native.String.{String}
 use Rattle.base.specs.Choice.{bit}
 use Rattle.text.specs.{Ascii.ascii, Ascii.same, Words.up_to}
 use Rattle.pll.specs.{Setting.valid_of, Setting.output_of, Search.search_of, Usb.usb_of}
@@ -13,13 +12,11 @@ use Rattle.config.specs.Presets.{default_plan, crystal_plan, rosc_plan, system_p
 use Rattle.readback.specs.Read.{read_of}
 use Rattle.numbers.specs.Fields.{nth, byte_at, pll_at}
 use Rattle.numbers.specs.Answers.{answer_number, itself, malformed, chip_numbered, on_chip, voltage_number}
-use Rattle.cases.specs.declared.words.Words.{Words}
-use Rattle.cases.specs.{Line.rest_of, Words.spelled, Words.unread, Words.sheet_at, Words.given}
-use Rattle.cases.specs.declared.table.Case.{Case}
+use Rattle.cases.specs.{declared.words.Words.Words, Line.rest_of, Words.spelled, Words.unread, Words.sheet_at, Words.given}
+use Rattle.cases.specs.{declared.table.Case.Case, Say.one_text, Say.found_text, Say.margin_text, Say.level_text, Say.plan_text}
+use Rattle.cases.specs.{Say.planned_text, Calls.chip_at, Calls.gpout_text, Calls.list_text, Calls.manual_text, Calls.sheet_text}
+use Rattle.cases.specs.Calls.{start_text, run_text, change_text, bench_start_text, bench_run_text}
 use Rattle.cases.specs.declared.table.Case.TheVariants as case
-use Rattle.cases.specs.Say.{one_text, found_text, margin_text, level_text, plan_text, planned_text}
-use Rattle.cases.specs.Calls.{chip_at, gpout_text, list_text, manual_text, sheet_text, start_text, run_text, change_text}
-use Rattle.cases.specs.Calls.{bench_start_text, bench_run_text}
 
 -- the row of a case: its name, the letters of its words (specs/Words, `spelled`), and the answer from what is read
 pub record Row : Type 0 where

@@ -1,6 +1,5 @@
 -- A line is a word and the rest, which is empty or begins with the space before the next word.
-use Rattle.std.specs.Prelude.{List, ℕ}
-use lib.ListN.{length, drop}
+use Rattle.std.specs.Prelude.{List, ℕ, length, drop}
 use Rattle.text.specs.Words.{up_to}
 
 -- the rest of a line after its first word, which is `up_to 32`

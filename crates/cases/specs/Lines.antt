@@ -1,12 +1,11 @@
 -- A text that arrives in pieces of any size is answered line by line, in the order of the lines (docs/PROGRAMS.md, Programs
 -- answers and limits).
-use mathlib.Core.{Path.◌≡◌, List.List, List.[], List.◌∷◌, List.◌++◌}
-use Rattle.std.specs.Prelude.{Option, Some, None, IfSome, ℕ, ◌+◌, ◌≤◌, ◌<◌}
-use lib.{Dec.eqb, Dec.ltb, ListN.length, ListN.take, ListN.set, ListN.replicate, Seq.sets}
+use Rattle.std.specs.Prelude.{◌≡◌, List, [], ◌∷◌, ◌++◌, Option, Some, None, IfSome, ℕ, ◌+◌, ◌≤◌, ◌<◌, eqb, ltb, length, take, set}
+use Rattle.std.specs.Prelude.{replicate}
+use lib.Seq.{sets}
 use Rattle.base.specs.{Choice.pick, Placed.past}
 use Rattle.text.specs.Reply.{bad_case}
-use Rattle.cases.specs.Cases.{answer_to}
-use Rattle.cases.specs.declared.lines.Held.{Held}
+use Rattle.cases.specs.{Cases.answer_to, declared.lines.Held.Held}
 
 -- what is held of a line: its bytes at the start of a buffer of 4096, and their count; 4097 marks a line that is too long
 abbrev pub held_of : List ℕ → ℕ → Held

@@ -1,14 +1,12 @@
 -- The words of a case: its name is followed by one word for each letter of its row, with one space between (docs/CASES.md,
 -- Words).
-use Rattle.std.specs.Prelude.{Option, Some, None, option_and_then}
-use mathlib.Core.{List.List, List.[], List.◌∷◌}
-use Rattle.std.specs.Prelude.{ℕ, suc, ◌+◌, ◌*◌, ◌-◌, max, ◌++◌}
-use lib.{Dec.eqb, Dec.leb, Dec.ltb, ListN.length, ListN.set, ListN.take, ListN.drop, ListN.replicate, Seq.sets}
+use Rattle.std.specs.Prelude.{Option, Some, None, option_and_then, List, [], ◌∷◌, ℕ, suc, ◌+◌, ◌*◌, ◌-◌, max, ◌++◌, eqb, leb, ltb}
+use Rattle.std.specs.Prelude.{length, set, take, drop, replicate}
+use lib.Seq.{sets}
 use Rattle.base.specs.{Answer.Answer, Answer.value, Answer.refusal, Choice.pick}
 use Rattle.text.specs.{Decimal.is_digit, Decimal.number_of, Hex.is_readable, Hex.pair_values}
 use Rattle.numbers.specs.Fields.{nth}
-use Rattle.cases.specs.declared.words.Words.{Words}
-use Rattle.cases.specs.Line.{word_after, rest_after}
+use Rattle.cases.specs.{declared.words.Words.Words, Line.word_after, Line.rest_after}
 
 -- the words read so far: a number for each word, in a row of 128, and the bytes of each word of hex in its buffer
 abbrev pub state_of : ℕ → List ℕ → List ℕ → List ℕ → Words

@@ -1,9 +1,8 @@
 // The cases that lend a buffer, a runner, a bench or slots. Each takes the case's words and writes the answer.
 ghost use Rattle.std.specs.Prelude.{◌≡◌, ◌≤◌, length};
-ghost use Rattle.cases.specs.Say.{Says};
-ghost use Rattle.cases.specs.Calls.{chip_at, part, kept_text, gpout_text, list_text, manual_text, plan_at, sheet_text};
-ghost use Rattle.cases.specs.Calls.{start_text, run_text, bench_start_text, bench_run_text, changed_row, change_text};
-ghost use Rattle.cases.specs.Words.{sheet_at};
+ghost use Rattle.cases.specs.Calls.{chip_at, part, kept_text, gpout_text, list_text, manual_text, plan_at, sheet_text, start_text};
+ghost use Rattle.cases.specs.Calls.{run_text, bench_start_text, bench_run_text, changed_row, change_text};
+ghost use Rattle.cases.specs.{Say.Says, Words.sheet_at};
 
 use crate::say::{write, write_one, write_planned, write_written};
 use crate::words::Words;

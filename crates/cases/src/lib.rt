@@ -8,8 +8,7 @@ mod table;
 pub mod words;
 
 ghost use Rattle.std.specs.Prelude.{◌≡◌};
-ghost use Rattle.cases.specs.Say.{Says, Answered};
-ghost use Rattle.cases.specs.Cases.{case_text, is_case, answer_to};
+ghost use Rattle.cases.specs.{Say.Says, Say.Answered, Cases.case_text, Cases.is_case, Cases.answer_to};
 
 use base::Writer;
 use calls::chip_at;

@@ -1,8 +1,7 @@
 // Gathers lines byte by byte from pieces of a text of any size, and writes the answer to each line to standard output.
 
 ghost use Rattle.std.specs.Prelude.{◌≡◌, ◌≤◌, length};
-ghost use Rattle.base.specs.Placed.{Placed};
-ghost use Rattle.base.specs.Writing.{Puts};
+ghost use Rattle.base.specs.{Placed.Placed, Writing.Puts};
 ghost use Rattle.cases.specs.Lines.{no_line, held_text, pushed, feeds, feeds_out, Feeding};
 
 use base::Writer;

@@ -2,8 +2,7 @@
 
 mod line;
 
-ghost use Rattle.std.specs.Prelude.{◌≡◌, ◌<◌};
-ghost use Rattle.std.specs.Option.{option_map};
+ghost use Rattle.std.specs.Prelude.{◌≡◌, ◌<◌, option_map};
 ghost use Rattle.base.specs.Writing.{Puts};
 ghost use Rattle.cases.specs.Words.{limit_of, unread, with_number, given, step, numbers_past, sheet_at};
 ghost use Rattle.cases.specs.Said.{number_text, hex_behind, call_text};

@@ -1,13 +1,12 @@
 -- The code of a voltage is read back as that voltage. Codes and brownout levels fit in 4 bits, and a number over 15 is no code.
-use mathlib.Core.{Path.◌≡◌, Path.refl, List.List, List.[], List.◌∷◌}
-use Prim.Native.Nat.{ℕ, ◌<◌}
+use Rattle.std.specs.Prelude.{◌≡◌, refl, List, [], ◌∷◌, ℕ, ◌<◌}
 use native.Mathlib.Omega.{arith}
 use borrow.Author.Tests.{ne_eqb}
 use Rattle.base.specs.Answer.{value, refusal}
-use Rattle.chip.specs.declared.{Chip.Chip, Chip.TheVariants.Rp2040, Chip.TheVariants.Rp235x}
+use Rattle.chip.specs.Voltage.{VoltageOf, code_of, bod_of, voltages, with_code, core_voltage_of}
+use Rattle.chip.specs.declared.Chip.{Chip, TheVariants.Rp2040, TheVariants.Rp235x}
 use Rattle.chip.specs.declared.voltage.CoreVoltage.TheVariants as old
 use Rattle.chip.specs.declared.voltage.CoreVoltage235.TheVariants as new
-use Rattle.chip.specs.Voltage.{VoltageOf, code_of, bod_of, voltages, with_code, core_voltage_of}
 
 facts : (chip : Chip) (v : VoltageOf chip)
     → (core_voltage_of chip (code_of chip v) ≡ value v) × (code_of chip v < 16) × (bod_of chip v < 16)

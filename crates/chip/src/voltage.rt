@@ -1,8 +1,7 @@
 // The core voltages of both chips: register codes, brownout levels and default settling times (docs/FORMAT.md, Voltages).
 ghost use Rattle.std.specs.Prelude.{◌≡◌};
 ghost use Rattle.base.specs.Answer.{answer_of};
-ghost use Rattle.chip.specs.declared.Chip.TheVariants.{Rp2040, Rp235x};
-ghost use Rattle.chip.specs.declared.voltage.Volts.{Volts};
+ghost use Rattle.chip.specs.declared.{Chip.TheVariants.Rp2040, Chip.TheVariants.Rp235x, voltage.Volts.Volts};
 ghost use Rattle.chip.specs.Voltage.{volts_of, core_voltage_of};
 
 use base::Refusal;

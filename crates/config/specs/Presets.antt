@@ -1,17 +1,12 @@
 -- The presets, each with the values that the Rust has (docs/FORMAT.md, Presets).
 use Rattle.std.specs.Prelude.{Option, Some, None, ℕ, eqb, ltb}
-use Rattle.config.specs.declared.RoscConfig.{RoscConfig}
-use Rattle.base.specs.{Choice.pick, Answer.Answer, Answer.value, Answer.refusal}
-use Rattle.chip.specs.declared.{Chip.Chip, Chip.TheVariants.Rp2040, Chip.TheVariants.Rp235x}
-use Rattle.chip.specs.Chips.{facts_of}
-use Rattle.chip.specs.declared.voltage.{CoreVoltage.CoreVoltage, CoreVoltage235.CoreVoltage235}
-use Rattle.pll.specs.declared.PllConfig.{PllConfig}
-use Rattle.pll.specs.{Setting.valid_of, Search.setting, Search.search_of, Usb.usb_of}
-use Rattle.config.specs.declared.{RoscRange.RoscRange}
-use Rattle.config.specs.declared.{XoscConfig.XoscConfig, RefClkSrc.RefClkSrc, SysClkSrc.SysClkSrc}
-use Rattle.config.specs.declared.{PeriClkSrc.PeriClkSrc, AuxClkSrc.AuxClkSrc}
-use Rattle.config.specs.declared.{RtcClkConfig.RtcClkConfig}
+use Rattle.config.specs.declared.{RoscConfig.RoscConfig, RoscRange.RoscRange, XoscConfig.XoscConfig, RefClkSrc.RefClkSrc}
+use Rattle.config.specs.declared.{SysClkSrc.SysClkSrc, PeriClkSrc.PeriClkSrc, AuxClkSrc.AuxClkSrc, RtcClkConfig.RtcClkConfig}
 use Rattle.config.specs.declared.{ChipConfig.ChipConfig, ClockConfig.ClockConfig}
+use Rattle.base.specs.{Choice.pick, Answer.Answer, Answer.value, Answer.refusal}
+use Rattle.chip.specs.{declared.Chip.Chip, declared.Chip.TheVariants.Rp2040, declared.Chip.TheVariants.Rp235x, Chips.facts_of}
+use Rattle.chip.specs.declared.voltage.{CoreVoltage.CoreVoltage, CoreVoltage235.CoreVoltage235}
+use Rattle.pll.specs.{declared.PllConfig.PllConfig, Setting.valid_of, Search.setting, Search.search_of, Usb.usb_of}
 
 -- A ring oscillator with all drive strengths 0.
 abbrev pub ring_config : ℕ → RoscRange → ℕ → Option RoscConfig

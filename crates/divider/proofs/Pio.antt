@@ -1,8 +1,6 @@
 -- The range test alone decides the PIO divider: a target of 0 gives the quotient 0, which is out of range.
-use mathlib.Core.{Path.◌≡◌}
-use Prim.Native.Nat.{ℕ, ◌*◌, ◌/◌}
+use Rattle.std.specs.Prelude.{◌≡◌, ℕ, ◌*◌, ◌/◌, eqb}
 use native.Mathlib.Nat.{div-zero}
-use lib.Dec.{eqb}
 use borrow.Author.Tests.{eqb-true}
 use Rattle.base.specs.{Choice.pick, Choice.in_range, Answer.Answer, Answer.value, Answer.refusal}
 use Rattle.base.proofs.Bools.{either_way}

@@ -1,8 +1,6 @@
 -- The settling cycles take at least the settling time at the ring's frequency.
-use mathlib.Core.{Path.◌≡◌, Path.refl}
-use Prim.Native.Nat.{ℕ, ◌*◌, ◌≤◌}
+use Rattle.std.specs.Prelude.{◌≡◌, refl, ℕ, ◌*◌, ◌≤◌, eqb}
 use native.Mathlib.{Nat.le_refl, Nat.mul-le-mul, Omega.arith}
-use lib.Dec.{eqb}
 use borrow.Author.Tests.{eqb-true}
 use Rattle.base.proofs.Bools.{either_way}
 use Rattle.divider.specs.Delay.{cycles_per_us, settling_cycles}

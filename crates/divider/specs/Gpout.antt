@@ -1,15 +1,10 @@
 -- The frequency of a Gpout, the Rust's `get_freq` (docs/FORMAT.md, Gpout).
-use Rattle.std.specs.Prelude.{ℕ, Option, Some, None}
-use mathlib.Core.{List.List}
-use lib.{Dec.leb, Dec.eqb, ListN.get_or}
+use Rattle.std.specs.Prelude.{ℕ, Option, Some, None, List, leb, eqb, get_or}
 use Rattle.base.specs.{Choice.pick, Answer.Answer, Answer.value, Answer.refusal}
-use Rattle.chip.specs.declared.{Chip.Chip, Chip.TheVariants.Rp2040, Chip.TheVariants.Rp235x}
-use Rattle.chip.specs.Chips.{facts_of}
-use Rattle.step.specs.declared.clock.{Clock.Clock}
-use Rattle.step.specs.Clocks.{clock_number}
-use Rattle.divider.specs.declared.GpoutDiv.{GpoutDiv}
+use Rattle.chip.specs.{declared.Chip.Chip, declared.Chip.TheVariants.Rp2040, declared.Chip.TheVariants.Rp235x, Chips.facts_of}
+use Rattle.step.specs.{declared.clock.Clock.Clock, Clocks.clock_number}
 use Rattle.divider.specs.declared.GpoutDiv.TheVariants.{Rp2040 as On2040, Rp235x as On235x}
-use Rattle.divider.specs.Clock.{divided_hz}
+use Rattle.divider.specs.{declared.GpoutDiv.GpoutDiv, Clock.divided_hz}
 
 -- The clock of a source code; none for an unknown code.
 unfoldable pub gpout_clock : Chip → ℕ → Option Clock

@@ -3,10 +3,8 @@
 
 ghost use Rattle.std.specs.Prelude.{◌≡◌, ◌≤◌};
 ghost use Rattle.base.specs.Answer.{answer_of};
-ghost use Rattle.divider.specs.Clock.{divided_hz};
-ghost use Rattle.divider.specs.Delay.{startup_sum, cycles_per_us, settling_cycles};
 ghost use Rattle.divider.specs.Gpout.{gpout_clock, gpout_whole, gpout_of, gpout_in};
-ghost use Rattle.divider.specs.Pio.{pio_of};
+ghost use Rattle.divider.specs.{Clock.divided_hz, Delay.startup_sum, Delay.cycles_per_us, Delay.settling_cycles, Pio.pio_of};
 
 use base::Refusal;
 use chip::Chip;

@@ -1,12 +1,8 @@
 -- The messages about a sheet that was made, and about a file that is not read or written.
-use Rattle.std.specs.Prelude.{Option, Some, None, Result, Ok, Err}
-use Rattle.base.specs.declared.refusal.Refusal.{Refusal}
-use Rattle.std.specs.Prelude.{List, ◌++◌, ℕ}
-use Rattle.base.specs.Refusals.{number_of}
+use Rattle.std.specs.Prelude.{Option, Some, None, Result, Ok, Err, List, ◌++◌, ℕ}
+use Rattle.base.specs.{declared.refusal.Refusal.Refusal, Refusals.number_of}
 use Rattle.text.specs.{Ascii.ascii, Decimal.decimal_of}
-use Rattle.wording.specs.Words.{refused_lines}
-use Rattle.wording.specs.Texts.{usage_text}
-use Rattle.wording.specs.declared.commands.texts.Usage.{Usage}
+use Rattle.wording.specs.{Words.refused_lines, Texts.usage_text, declared.commands.texts.Usage.Usage}
 use Rattle.dizbaral.specs.declared.said.Reason.{Reason}
 
 abbrev pub made_text : Option (Result ℕ Refusal) → List ℕ

@@ -11,7 +11,7 @@ use Rattle.step.specs.{Sheet.max_bytes, Size.bad_size}
 use Rattle.numbers.specs.Bench.{runner_at, bench_in, bench_number, fresh_numbers, start_all_leaves}
 use Rattle.numbers.specs.{Fields.nth, Fields.ten_at, Answers.answer_number, Run.progress_number}
 use Rattle.runner.specs.declared.Runner.{Runner}
-use Rattle.runner.specs.Run.{Outcome, Begun, fresh, started_with, start_of}
+use Rattle.runner.specs.Run.{Outcome, StartOutcome, fresh, started_with, start_of}
 use Rattle.runner.proofs.Starts.{start-kept}
 use Rattle.boards.specs.declared.Bench.{Bench}
 use Rattle.boards.specs.Bench.{fresh_bench, bench_of, start_all_of}
@@ -22,7 +22,7 @@ use Rattle.export.specs.{Calls.Held, Calls.held_of, Calls.held_after, Calls.run_
 use Rattle.export.specs.{Calls.bench_held_after, Calls.bench_numbers, Calls.ExportedSingle, Calls.ExportedSame, State.bench_held}
 use Rattle.export.proofs.{Rows.mark-same, Calls.taken, Calls.answered, Calls.after-start, Benches.bench-decoded, Benches.bench-held}
 
-started_by : Held → Begun Bench → Held
+started_by : Held → StartOutcome Bench → Held
 started_by h o = record { numbers = start_all_leaves o.answer h.numbers o.next.len; bytes = o.next.kept }
 
 after_one : (b : Bench) (e : BenchEvent) (es : List BenchEvent) → bench_after (bench_after b (e ∷ [])) es ≡ bench_after b (e ∷ es)
@@ -35,8 +35,8 @@ started-bench : (h : Held) (sheet : List ℕ) → bad_size (length sheet) ≡ fa
 unfolding started_by
 started-bench h sheet e =
     let o = sym (all-kept (bench_held h) sheet e) in (
-      ap (λ (x : Begun Bench). bench_held (started_by h x)) o ∙ sym (ap (λ (x : Begun Bench). x.next) o),
-      rw (ap (λ (x : Begun Bench). (started_by h x).numbers) o) (record { all = refl; marked = fresh-marks }),
+      ap (λ (x : StartOutcome Bench). bench_held (started_by h x)) o ∙ sym (ap (λ (x : StartOutcome Bench). x.next) o),
+      rw (ap (λ (x : StartOutcome Bench). (started_by h x).numbers) o) (record { all = refl; marked = fresh-marks }),
     )
   where
     fresh-marks : (n : ℕ) → n ≤ 7 → get_or (fresh_numbers (length sheet)) (14 * n + 3) 0 ≤ 1
@@ -54,8 +54,8 @@ unfolding started_by
 one-event h (start sheet) is =
     either_way (bad_size (length sheet))
     (λ e. let o = sym (all-refused (bench_held h) sheet e) in (
-      ap (λ (x : Begun Bench). bench_held (started_by h x)) o ∙ sym (ap (λ (x : Begun Bench). x.next) o),
-      rw (ap (λ (x : Begun Bench). (started_by h x).numbers) o) is,
+      ap (λ (x : StartOutcome Bench). bench_held (started_by h x)) o ∙ sym (ap (λ (x : StartOutcome Bench). x.next) o),
+      rw (ap (λ (x : StartOutcome Bench). (started_by h x).numbers) o) is,
     ))
     (λ e. started-bench h sheet e)
 one-event h (poll n sheet ready) is =
@@ -119,7 +119,8 @@ pub exported-between-starts : (n : ℕ) → n ≤ 7 → (h g : Held) (sheet : Li
 exported-between-starts n few h g sheet ok es =
     let s = started-bench h sheet ok in
     let at = bench_call_leaves h (start sheet) in
-    let one : (start_of fresh sheet).next ≡ started_with sheet = ap (λ (x : Begun Runner). x.next) (sym (start-kept fresh sheet ok)) in
+    let one : (start_of fresh sheet).next ≡ started_with sheet =
+    ap (λ (x : StartOutcome Runner). x.next) (sym (start-kept fresh sheet ok)) in
     let single = between-starts n few (bench_held h) fresh sheet ok es in
     let past = bench-history at es s.1 in
     let alike = alike-by n (past.0 ∙ ap (λ (b : Bench). bench_after b es) s.0)

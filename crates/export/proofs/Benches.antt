@@ -1,20 +1,18 @@
 -- The numbers that an exported call for a board leaves, read as a bench, are the bench that the definition leaves.
-use Rattle.std.specs.Prelude.{Bool, List, ◌∷◌, ◌⊎◌, ◌≡◌, ℕ, zero, suc, ◌+◌, ◌*◌, ◌≤◌, ◌<◌, eqb, ltb, length, get_or, set}
-use mathlib.Core.{Logic.inl, Logic.inr, Path.refl, Path.sym, Path.ap, Path.◌∙◌}
+use Rattle.std.specs.Prelude.{Bool, List, ◌∷◌, ◌⊎◌, ◌≡◌, ℕ, zero, suc, ◌+◌, ◌*◌, ◌≤◌, ◌<◌, eqb, ltb, length, get_or, set, refl}
+use mathlib.Core.{Logic.inl, Logic.inr, Path.sym, Path.ap, Path.◌∙◌}
 use native.Mathlib.Omega.{arith}
 use borrow.Author.Tests.{le-ltb, le-leb, eqb-true, eqb-false, ltb-true, ltb-false}
 use lib.{ListN.length-set, Seq.length-sets}
 use Rattle.base.specs.{Answer.Answer, Answer.value, Answer.refusal, Choice.bit}
 use Rattle.base.proofs.Bools.{either_way}
-use Rattle.step.specs.declared.Step.{Step}
-use Rattle.step.specs.Kinds.{is}
+use Rattle.step.specs.{declared.Step.Step, Kinds.is}
 use Rattle.numbers.specs.Fields.{nth, ten_at}
 use Rattle.numbers.specs.Bench.{stepper_at, boards_from, bench_in, board_numbers, with_board, bench_leaves}
 use Rattle.runner.specs.declared.Reply.TheVariants.{Done, Handed, Passed, Waiting}
-use Rattle.runner.specs.declared.{Stepper.Stepper, Reply.Reply}
 use Rattle.runner.specs.Run.{Outcome, stored_by, freqs_after, stepper_of}
-use Rattle.boards.specs.declared.Bench.{Bench}
-use Rattle.boards.specs.Bench.{bench_of}
+use Rattle.runner.specs.declared.{Stepper.Stepper, Reply.Reply}
+use Rattle.boards.specs.{declared.Bench.Bench, Bench.bench_of}
 use Rattle.numbers.proofs.{PartRows.row-whole, Boards.call, Boards.of-board, Boards.next-board}
 use Rattle.export.specs.Calls.{IsBench}
 use Rattle.export.proofs.Rows.{mark-back, mark-same, mark-least, outside, inside, sets_same}

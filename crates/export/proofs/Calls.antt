@@ -13,7 +13,7 @@ use Rattle.refusals.specs.Refusals.{Accepted}
 use Rattle.sheet.specs.Writer.{sheet_bytes}
 use Rattle.runner.specs.declared.Reply.TheVariants.{Done, Handed, Passed, Waiting}
 use Rattle.runner.specs.declared.{Runner.Runner, Reply.Reply}
-use Rattle.runner.specs.Run.{Begun, HandsFormed, fresh, stepper_of, advance_of, started_with, start_of}
+use Rattle.runner.specs.Run.{StartOutcome, HandsFormed, fresh, stepper_of, advance_of, started_with, start_of}
 use Rattle.runner.specs.Calls.{Call, call, after, after_calls, flags_of}
 use Rattle.runner.proofs.{Starts.start-refused, Starts.start-kept, Steps.turn_formed, OneSheet.one-sheet}
 use Rattle.boards.specs.History.{Own, start, poll, single_after, single_answers}
@@ -59,7 +59,7 @@ module _ (r : Runner) (sheet : List ℕ) (ready : Bool) where
   formed = turn_formed _ _ _ _ _
 
 -- the numbers and bytes that a start leaves, by its answer
-started_by : Held → Begun Runner → Held
+started_by : Held → StartOutcome Runner → Held
 started_by h o = record { numbers = start_leaves o.answer h.numbers o.next.len; bytes = o.next.kept }
 
 module _ (h : Held) (sheet : List ℕ) where
@@ -74,8 +74,8 @@ module _ (h : Held) (sheet : List ℕ) where
 begun-held : (r : Runner) (sheet : List ℕ) → call_leaves (held_of r) (start sheet) ≡ held_of (start_of r sheet).next
 begun-held r sheet =
     either_way (bad_size (length sheet))
-    (λ e. turned (held_of r) sheet e ∙ ap (λ (x : Begun Runner). held_of x.next) (start-refused r sheet e))
-    (λ e. taken (held_of r) sheet e ∙ ap (λ (x : Begun Runner). held_of x.next) (start-kept r sheet e))
+    (λ e. turned (held_of r) sheet e ∙ ap (λ (x : StartOutcome Runner). held_of x.next) (start-refused r sheet e))
+    (λ e. taken (held_of r) sheet e ∙ ap (λ (x : StartOutcome Runner). held_of x.next) (start-kept r sheet e))
 
 -- ---- calls one after another
 

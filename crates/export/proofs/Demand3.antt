@@ -1,11 +1,10 @@
 -- Demand 3 holds of the exported calls by their contracts alone: a number below the refusals is a length, so the call is a call
 -- of `init`, of which demand 3 holds.
-use Rattle.std.specs.Prelude.{Option, Some, None, ◌≡◌, ◌↔◌, List, ℕ, ◌<◌, Ok, option_map}
-use mathlib.Core.Path.{refl, ap}
+use Rattle.std.specs.Prelude.{Option, Some, None, ◌≡◌, ◌↔◌, List, ℕ, ◌<◌, Ok, option_map, refl}
+use mathlib.Core.Path.{ap}
 use native.Mathlib.Omega.{arith}
 use Rattle.base.specs.Answer.{Answer, value, refusal}
-use Rattle.config.specs.declared.ClockConfig.{ClockConfig}
-use Rattle.config.specs.Presets.{system_plan, system_plan_from}
+use Rattle.config.specs.{declared.ClockConfig.ClockConfig, Presets.system_plan, Presets.system_plan_from}
 use Rattle.settings.specs.Settings.{settings_of}
 use Rattle.sheet.specs.{Writer.init_answer, Writer.InitCall, Demand3.SameUpTo}
 use Rattle.sheet.proofs.Demand3.{demand-3}

@@ -1,19 +1,18 @@
 -- A preset's plan is read back from its numbers, since they fit their types: those that the preset gives are small, and a PLL that is
 -- searched for, or valid, has dividers of the datasheet's ranges.
-use Rattle.std.specs.Prelude.{Option, Some, None, true, ◌≡◌, ℕ, ◌≤◌, eqb}
-use mathlib.Core.Path.{refl, ap, subst}
+use Rattle.std.specs.Prelude.{Option, Some, None, true, ◌≡◌, ℕ, ◌≤◌, eqb, refl}
+use mathlib.Core.Path.{ap, subst}
 use native.Mathlib.Omega.{arith}
 use Rattle.base.specs.Answer.{Answer, value, refusal}
 use Rattle.base.proofs.Bools.{either_way}
-use Rattle.chip.specs.declared.{Chip.Chip, Chip.TheVariants.Rp2040, Chip.TheVariants.Rp235x, voltage.CoreVoltage.CoreVoltage}
-use Rattle.chip.specs.Chips.{facts_of}
-use Rattle.pll.specs.declared.PllConfig.{PllConfig}
-use Rattle.pll.specs.{Setting.valid_of, Search.search_of, Usb.usb_of, Law.RightAnswer}
+use Rattle.chip.specs.declared.Chip.TheVariants.{Rp2040, Rp235x}
+use Rattle.chip.specs.{declared.Chip.Chip, declared.voltage.CoreVoltage.CoreVoltage, Chips.facts_of}
+use Rattle.pll.specs.{declared.PllConfig.PllConfig, Setting.valid_of, Search.search_of, Usb.usb_of, Law.RightAnswer}
 use Rattle.pll.proofs.{Right.search-right, Valid.valid, UsbRight.usb-found}
-use Rattle.config.specs.declared.{ClockConfig.ClockConfig, RoscConfig.RoscConfig, RoscRange.RoscRange, RtcClkConfig.RtcClkConfig}
-use Rattle.config.specs.Board.{board_of}
 use Rattle.config.specs.Presets.{plain, from_plls, feeding_both, with_found, ring_config, rosc_plan, default_plan, crystal_plan}
 use Rattle.config.specs.Presets.{system_voltage, system_plan, system_plan_from, manual_plan}
+use Rattle.config.specs.declared.{ClockConfig.ClockConfig, RoscConfig.RoscConfig, RoscRange.RoscRange}
+use Rattle.config.specs.{declared.RtcClkConfig.RtcClkConfig, ChipSettings.chip_of}
 use Rattle.numbers.specs.{Fields.u32, Typed.PllTyped, Typed.RingTyped, Typed.ClockTyped, Typed.ChipTyped, Typed.PlanTyped}
 use Rattle.numbers.proofs.Inverse.{plan-back}
 use Rattle.export.specs.Plan.{Back, PresetsBack}
@@ -25,7 +24,7 @@ ForPlan chip (value p) = Back chip p
 ForPlan chip (refusal n) = Unit {0}
 
 -- the chip's part of a preset is of its chip, and fits its types where its RTC does
-plain-chip : (chip : Chip) (v : CoreVoltage) (rtc : Option RtcClkConfig) → (board_of (plain chip v rtc)).chip ≡ chip
+plain-chip : (chip : Chip) (v : CoreVoltage) (rtc : Option RtcClkConfig) → (chip_of (plain chip v rtc)).model ≡ chip
 plain-chip Rp2040 v rtc = refl
 plain-chip Rp235x v rtc = refl
 
@@ -33,7 +32,7 @@ plain-typed : (chip : Chip) (v : CoreVoltage) (rtc : Option RtcClkConfig) → Cl
 plain-typed Rp2040 v rtc few = (omega arith, omega arith, few)
 plain-typed Rp235x v rtc few = (omega arith, omega arith)
 
-back : (chip : Chip) (p : ClockConfig) → (board_of p.chip).chip ≡ chip → PlanTyped p → Back chip p
+back : (chip : Chip) (p : ClockConfig) → (chip_of p.chip).model ≡ chip → PlanTyped p → Back chip p
 back chip p e t = subst (λ (on : Chip). Back on p) e (plan-back p t)
 
 -- a plan with both PLLs

@@ -1,12 +1,9 @@
 -- The ranges of exported answers hold, so a caller distinguishes the kinds of answers by size alone.
-use Rattle.std.specs.Prelude.{Bool, true, false, ◌≡◌, ◌^◌, ◌≤◌, T}
-use mathlib.Core.Path.{refl}
+use Rattle.std.specs.Prelude.{Bool, true, false, ◌≡◌, ◌^◌, ◌≤◌, T, refl}
 use native.Mathlib.Omega.{arith}
-use Rattle.step.specs.declared.Step.{Step}
-use Rattle.step.specs.{Kinds.known, Steps.pack_of, Steps.WellFormed}
+use Rattle.step.specs.{declared.Step.Step, Kinds.known, Steps.pack_of, Steps.WellFormed}
 use Rattle.step.proofs.{Laws.number-in, Laws.pack-lt, Numbers.known-from}
-use Rattle.runner.specs.declared.Reply.{Reply}
-use Rattle.runner.specs.declared.Reply.TheVariants.{Done, Handed, Passed, Waiting}
+use Rattle.runner.specs.declared.Reply.{Reply, TheVariants.Done, TheVariants.Handed, TheVariants.Passed, TheVariants.Waiting}
 use Rattle.export.specs.Ranges.{ProgressRange, Ranges}
 
 is_true : (b : Bool) → T b → b ≡ true

@@ -1,17 +1,15 @@
 -- Runner, bench and slots read back from their numbers as themselves, and their numbers as the same numbers: a part's numbers stand in a
 -- row, and a mark that is 1 or 0 is that of its truth value.
-use Rattle.std.specs.Prelude.{Bool, false, ◌&&◌, List, [], ◌∷◌, ◌≡◌, ℕ, ◌≤◌, leb}
-use mathlib.Core.Path.{refl, sym, ap, ◌∙◌}
+use Rattle.std.specs.Prelude.{Bool, false, ◌&&◌, List, [], ◌∷◌, ◌≡◌, ℕ, ◌≤◌, leb, refl}
+use mathlib.Core.Path.{sym, ap, ◌∙◌}
 use native.Mathlib.Omega.{arith}
 use borrow.Author.Tests.{leb-true}
 use Rattle.std.proofs.lemmas.Bool.{and_parts}
 use Rattle.runner.specs.declared.Stepper.{Stepper}
-use Rattle.boards.specs.declared.Bench.{Bench}
-use Rattle.boards.specs.Bench.{no_board, board_at}
-use Rattle.sleep.specs.declared.Slot.{Slot}
-use Rattle.sleep.specs.Sleep.{slot_at}
-use Rattle.numbers.specs.Bench.{bench_in, board_numbers, stepper_at}
-use Rattle.numbers.specs.{Fields.nth, Slots.words_at, Slots.slots_in, Slots.slots_numbers}
+use Rattle.boards.specs.{declared.Bench.Bench, Bench.no_board, Bench.board_at}
+use Rattle.sleep.specs.{declared.Slot.Slot, Sleep.slot_at}
+use Rattle.numbers.specs.{Bench.bench_in, Bench.board_numbers, Bench.stepper_at, Fields.nth, Slots.words_at, Slots.slots_in}
+use Rattle.numbers.specs.Slots.{slots_numbers}
 use Rattle.numbers.proofs.PartRows.{items-whole, row-whole}
 use Rattle.export.specs.Calls.{IsBench}
 use Rattle.export.specs.State.{bench_held, held_bench, EightBoards, IsSlots, FourSlots, StateMeans}

@@ -1,47 +1,40 @@
 -- A refusal leaves what was lent unchanged. For the runner and the bench this follows from runner/proofs/Untouched; for the other
 -- calls, from the fact that their values have numbers below the refusals.
-use Rattle.std.specs.Prelude.{Option, Some, None, option_map, Bool, true, false, List, [], ◌∷◌, ◌≡◌, ℕ, ◌+◌, ◌*◌, ◌≤◌, leb, ltb, length}
-use Rattle.std.specs.Prelude.{get_or}
-use mathlib.Core.{Logic.inl, Logic.inr, List.flat_map, Path.refl, Path.sym, Path.ap, Path.◌∙◌}
+use Rattle.std.specs.Prelude.{Option, Some, None, option_map, Bool, true, false, List, [], ◌∷◌, ◌≡◌, ℕ, ◌+◌, ◌*◌, ◌≤◌, leb, ltb}
+use Rattle.std.specs.Prelude.{length, get_or, refl}
+use mathlib.Core.{Logic.inl, Logic.inr, List.flat_map, Path.sym, Path.ap, Path.◌∙◌}
 use native.Mathlib.Omega.{arith}
 use borrow.Author.Tests.{leb-true, leb-false, ltb-true, ltb-false, le-ltb}
-use Rattle.base.specs.{Answer.Answer, Answer.value, Answer.refusal, Placed.past}
+use Rattle.base.specs.{Answer.Answer, Answer.value, Answer.refusal, Placed.past, declared.refusal.Refusal.Refusal}
 use Rattle.step.specs.Size.{bad_size}
 use Rattle.step.proofs.Sizes.{size_fits}
-use Rattle.chip.specs.declared.{Chip.Chip, Chip.TheVariants.Rp2040, Chip.TheVariants.Rp235x}
-use Rattle.base.specs.declared.refusal.Refusal.{Refusal}
+use Rattle.chip.specs.declared.Chip.{Chip, TheVariants.Rp2040, TheVariants.Rp235x}
 use Rattle.base.proofs.Bools.{either_way}
-use Rattle.config.specs.declared.ClockConfig.{ClockConfig}
-use Rattle.config.specs.Board.{board_of}
+use Rattle.config.specs.{declared.ClockConfig.ClockConfig, ChipSettings.chip_of}
 use Rattle.sheet.specs.Writer.{sheet_bytes, refusal_in, init_answer, init_buffer}
 use Rattle.bring_up.proofs.Run.{sheet-size}
-use Rattle.pll.specs.declared.PllConfig.{PllConfig}
-use Rattle.pll.specs.Search.{keep, rising, falling}
+use Rattle.pll.specs.{declared.PllConfig.PllConfig, Search.keep, Search.rising, Search.falling}
 use Rattle.lister.specs.Lister.{in_order, meets, list_of, has_room, listed_of, listed_in}
-use Rattle.margin.specs.Margin.{margin_of}
-use Rattle.margin.specs.declared.Margin.{Margin}
-use Rattle.numbers.specs.Answers.{refusals, itself, answer_number, left_by, limits_after, Writes}
+use Rattle.margin.specs.{Margin.margin_of, declared.Margin.Margin}
+use Rattle.numbers.specs.Answers.{refusals, itself, answer_number, left_by, limits_after, Writes, done as margin-done}
 use Rattle.numbers.specs.Run.{runner_in, progress_number, go_number, run_number, run_leaves, started_numbers, Starts, StartCall}
 use Rattle.numbers.specs.Bench.{stepper_at, bench_in, with_board, bench_number, bench_leaves, fresh_numbers, StartAllCall}
 use Rattle.numbers.specs.{Fields.nth, Slots.steps_numbers, SleepCall.SlotsCall, Read.chip_number, Access.AccessCall}
 use Rattle.runner.specs.declared.Reply.TheVariants.{Done, Handed, Passed, Waiting}
+use Rattle.runner.specs.Run.{Outcome, StartOutcome, HandsFormed, stepper_of, outcome, advance_of, started_with, start_of}
+use Rattle.runner.specs.Calls.{stepper_timed_out, timed_out, Untouched as Stays}
 use Rattle.runner.specs.declared.{Stepper.Stepper, Runner.Runner, Reply.Reply}
-use Rattle.runner.specs.Run.{Outcome, Begun, HandsFormed, stepper_of, outcome, advance_of, started_with, start_of}
-use Rattle.runner.proofs.{Starts.start-refused, Starts.start-kept, Steps.turn_formed, Untouched.stepper-keeps, Untouched.refusal-keeps}
-use Rattle.boards.specs.declared.Bench.{Bench}
-use Rattle.boards.specs.{Bench.eight_of, Bench.start_all_of, History.poll}
+use Rattle.runner.proofs.{Starts.start-refused, Starts.start-kept, Steps.turn_formed, Untouched.stepper-keeps}
+use Rattle.runner.proofs.Untouched.{refusal-keeps}
+use Rattle.boards.specs.{declared.Bench.Bench, Bench.eight_of, Bench.start_all_of, History.poll}
 use Rattle.boards.proofs.Benches.{all-refused, all-kept}
-use Rattle.sleep.specs.declared.steps.Step.{Step}
-use Rattle.sleep.specs.Sleep.{SleepOutcome}
-use Rattle.registers.specs.declared.Access.{Access}
-use Rattle.registers.specs.Access.{access_at, op_of}
+use Rattle.sleep.specs.{declared.steps.Step.Step, Sleep.SleepOutcome}
+use Rattle.registers.specs.{declared.Access.Access, Access.access_at, Access.op_of}
 use Rattle.numbers.proofs.Boards.{call, of-board, over-leaves, bad-leaves}
 use Rattle.export.specs.Untouched.{Refused, SaveTimeout, timed_out_numbers, Untouched}
 use Rattle.export.specs.{Calls.Held, Calls.held_of, Calls.call_leaves, Sheet.SheetCall, Plan.PlanCall}
 use Rattle.export.proofs.Calls.{read-written, ran, ran-number, formed}
 use Rattle.export.proofs.{Ranges.word-from, Benches.board-again, Benches.left_is}
-use Rattle.runner.specs.Calls.{stepper_timed_out, timed_out, Untouched as Stays}
-use Rattle.numbers.specs.Answers.{done as margin-done}
 use Rattle.registers.specs.declared.Access.TheVariants as access
 
 -- a call that may time out, where f gives the numbers of what it leaves
@@ -100,16 +93,16 @@ bench-keeps ns kept n sheet ready r =
     (λ m. inl (sym (bad-leaves ns kept n sheet ready few (leb-false (nth ns (14 * n + 3)) 1 m)))))
 
 -- a start that answers a refusal's number changes nothing: x is the start of a runner or a bench b
-start-refuses : {A : Type 0} (kept_of fresh_of : A → List ℕ) (b next : A) (x : Begun A) (bad : Bool)
+start-refuses : {A : Type 0} (kept_of fresh_of : A → List ℕ) (b next : A) (x : StartOutcome A) (bad : Bool)
     → (bad ≡ true → outcome (refusal 20) b ≡ x) → (bad ≡ false → outcome (value tt) next ≡ x) → {ns : List ℕ} {r : ℕ} {ns' kept' : List ℕ}
     → Starts x.answer (fresh_of x.next) (kept_of x.next) ns r ns' kept' → Refused r → (ns' ≡ ns) × (kept' ≡ kept_of b)
 start-refuses {A} kept_of fresh_of b next x bad refused taken {ns} c low =
     either_way bad
     (λ t. let o = sym (refused t) in (
-      c.numbers ∙ ap (λ (y : Begun A). left_by (λ go before. fresh_of y.next) y.answer ns) o,
-      c.bytes ∙ ap (λ (y : Begun A). kept_of y.next) o,
+      c.numbers ∙ ap (λ (y : StartOutcome A). left_by (λ go before. fresh_of y.next) y.answer ns) o,
+      c.bytes ∙ ap (λ (y : StartOutcome A). kept_of y.next) o,
     ))
-    (λ t. absurd (omega (arith, c.answer, ap (λ (y : Begun A). answer_number go_number y.answer) (taken t), low.0)))
+    (λ t. absurd (omega (arith, c.answer, ap (λ (y : StartOutcome A). answer_number go_number y.answer) (taken t), low.0)))
 
 start-keeps : (ns kept sheet : List ℕ) {r : ℕ} {ns' kept' : List ℕ} → StartCall ns kept sheet r ns' kept' → Refused r
     → (ns' ≡ ns) × (kept' ≡ kept)
@@ -176,7 +169,7 @@ margin-keeps (refusal n) before r = refl
 
 plan-keeps : (plan : Option (Answer ClockConfig)) {before after : List ℕ} {r : ℕ} → PlanCall plan before r after → Refused r
     → after ≡ before
-plan-keeps = writes-keep (λ p. chip-few (board_of p.chip).chip)
+plan-keeps = writes-keep (λ p. chip-few (chip_of p.chip).model)
   where
     chip-few : (chip : Chip) → chip_number chip ≤ 4
     chip-few Rp2040 = omega arith

@@ -1,20 +1,18 @@
 -- Sequences of exported calls: the numbers and bytes that the caller holds after each, and the answers. The theorems are in
 -- proofs/Calls (a runner), proofs/BenchCalls (a bench) and proofs/Sleeps (slots): after any calls the caller holds the numbers of
 -- the runner, bench or slots after the same calls. What their numbers mean is in specs/State.
-use Rattle.std.specs.Prelude.{Some, Bool, false, ◌≡◌, List, [], ◌∷◌, ℕ, zero, suc, ◌+◌, ◌*◌, ◌≤◌, ◌<◌, map, fold, eqb, length, get_or, drop}
-use Rattle.std.specs.Prelude.{replicate}
+use Rattle.std.specs.Prelude.{Some, Bool, false, ◌≡◌, List, [], ◌∷◌, ℕ, zero, suc, ◌+◌, ◌*◌, ◌≤◌, ◌<◌, map, fold, eqb, length}
+use Rattle.std.specs.Prelude.{get_or, drop, replicate}
 use lib.Seq.{sets}
 use Rattle.base.specs.Choice.{pick, bit}
 use Rattle.config.specs.declared.ClockConfig.{ClockConfig}
 use Rattle.settings.specs.{Settings.settings_of, Frequencies.ten_of}
 use Rattle.sheet.specs.Writer.{sheet_bytes}
 use Rattle.step.specs.Size.{bad_size}
-use Rattle.runner.specs.declared.Runner.{Runner}
-use Rattle.runner.specs.{Run.start_of, Calls.Call, Calls.call, Calls.flags_of}
+use Rattle.runner.specs.{declared.Runner.Runner, Run.start_of, Calls.Call, Calls.call, Calls.flags_of}
 use Rattle.boards.specs.{Bench.start_all_of, History.Own, History.start, History.poll, History.BenchEvent, History.own_of}
-use Rattle.sleep.specs.declared.{Slot.Slot, steps.Step.Step}
-use Rattle.sleep.specs.Sleep.{SleepOutcome, wake_steps, sleep_of, wake_of}
-use Rattle.sleep.specs.History.{SleepEvent, sleeps, wakes, writes, last_sleep}
+use Rattle.sleep.specs.{declared.Slot.Slot, declared.steps.Step.Step, Sleep.SleepOutcome, Sleep.wake_steps, Sleep.sleep_of}
+use Rattle.sleep.specs.{Sleep.wake_of, History.SleepEvent, History.sleeps, History.wakes, History.writes, History.last_sleep}
 use Rattle.numbers.specs.Bench.{runner_at, bench_in, bench_number, bench_leaves, start_all_leaves}
 use Rattle.numbers.specs.Run.{runner_in, run_number, run_leaves, start_leaves}
 use Rattle.numbers.specs.{Slots.slots_numbers, Slots.steps_numbers, SleepCall.asked_with, SleepCall.left_asked, SleepCall.SlotsCall}
@@ -85,7 +83,7 @@ number_of h sheet ready i =
 -- answer 0 follows at most `most_calls` calls, every later call answers 0, and the last ten numbers are then the stored values
 pub record ExportedUp (p : ClockConfig) (reading : ℕ) (h : Held) (k : ℕ) (ready : ℕ → Bool) : Type 0 where
   pub calls : ℕ
-  pub few : calls ≤ most_calls (settings_of p reading).board.chip k
+  pub few : calls ≤ most_calls (settings_of p reading).chip.model k
   pub before : (i : ℕ) → i < calls → number_of h (sheet_bytes p reading) ready i ≡ 0 → ⊥
   pub ends : (i : ℕ) → calls ≤ i → number_of h (sheet_bytes p reading) ready i ≡ 0
   pub holds : (i : ℕ) → calls ≤ i

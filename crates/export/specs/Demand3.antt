@@ -2,10 +2,8 @@
 -- that count).
 use Rattle.std.specs.Prelude.{Option, option_map, ◌≡◌, ◌↔◌, List, ℕ, ◌<◌}
 use Rattle.base.specs.Answer.{Answer}
-use Rattle.config.specs.declared.ClockConfig.{ClockConfig}
-use Rattle.config.specs.Presets.{system_plan, system_plan_from}
-use Rattle.settings.specs.Settings.{settings_of}
-use Rattle.settings.specs.declared.Settings.{Settings}
+use Rattle.config.specs.{declared.ClockConfig.ClockConfig, Presets.system_plan, Presets.system_plan_from}
+use Rattle.settings.specs.{Settings.settings_of, declared.Settings.Settings}
 use Rattle.sheet.specs.Demand3.{SameUpTo}
 use Rattle.numbers.specs.Answers.{refusals, chip_numbered}
 use Rattle.export.specs.Sheet.{plan_given, SheetCall, preset_on, plan_on}

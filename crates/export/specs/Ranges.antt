@@ -3,8 +3,7 @@ use Rattle.std.specs.Prelude.{ℕ, ◌^◌, ◌≤◌, ◌<◌}
 use Rattle.base.specs.Answer.{refusal}
 use Rattle.pll.specs.declared.PllConfig.{PllConfig}
 use Rattle.step.specs.Steps.{WellFormed}
-use Rattle.runner.specs.declared.Reply.{Reply}
-use Rattle.runner.specs.declared.Reply.TheVariants.{Done, Handed, Passed, Waiting}
+use Rattle.runner.specs.declared.Reply.{Reply, TheVariants.Done, TheVariants.Handed, TheVariants.Passed, TheVariants.Waiting}
 use Rattle.numbers.specs.Answers.{refusals, malformed, itself, answer_number, setting_number, level_number}
 use Rattle.numbers.specs.Run.{progress_number}
 

@@ -2,12 +2,9 @@
 -- read and written again are the same, and all zeros are the value before any call. A mark is 1 or 0.
 use Rattle.std.specs.Prelude.{true, ◌≡◌, List, [], ◌∷◌, ◌++◌, ℕ, ◌≤◌, flat_map, All, length, get_or, replicate}
 use Rattle.step.specs.Sheet.{max_bytes}
-use Rattle.runner.specs.declared.{Runner.Runner, Stepper.Stepper}
-use Rattle.runner.specs.Run.{fresh}
-use Rattle.boards.specs.declared.Bench.{Bench}
-use Rattle.boards.specs.Bench.{fresh_bench}
-use Rattle.sleep.specs.declared.Slot.{Slot}
-use Rattle.sleep.specs.Sleep.{fresh_slots}
+use Rattle.runner.specs.{declared.Runner.Runner, declared.Stepper.Stepper, Run.fresh}
+use Rattle.boards.specs.{declared.Bench.Bench, Bench.fresh_bench}
+use Rattle.sleep.specs.{declared.Slot.Slot, Sleep.fresh_slots}
 use Rattle.numbers.specs.{Bench.bench_in, Bench.board_numbers, Slots.slots_in, Slots.slots_numbers, SleepCall.are_slots}
 use Rattle.export.specs.Calls.{Held, runner_of, held_of, IsBench}
 

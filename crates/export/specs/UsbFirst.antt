@@ -3,8 +3,7 @@
 use Rattle.std.specs.Prelude.{Some, ◌≡◌, List, ℕ, ◌+◌}
 use Rattle.base.specs.Answer.{value, refusal}
 use Rattle.chip.specs.declared.Chip.{Chip}
-use Rattle.pll.specs.declared.PllConfig.{PllConfig}
-use Rattle.pll.specs.{Search.search_of, Usb.usb_of}
+use Rattle.pll.specs.{declared.PllConfig.PllConfig, Search.search_of, Usb.usb_of}
 use Rattle.config.specs.Presets.{system_plan_from}
 use Rattle.numbers.specs.Answers.{refusals, chip_numbered}
 use Rattle.export.specs.Sheet.{SheetCall, preset_on}

@@ -9,11 +9,8 @@ pub mod slots;
 
 ghost use Rattle.std.specs.Prelude.{◌≡◌, length};
 ghost use Rattle.divider.specs.Pio.{pio_of};
-ghost use Rattle.pll.specs.Setting.{valid_of, output_of};
-ghost use Rattle.pll.specs.Search.{search_of};
-ghost use Rattle.speed_book.specs.Book.{crystal, table};
-ghost use Rattle.speed_book.specs.Lookup.{lookup_in};
-ghost use Rattle.pll.specs.Usb.{usb_of};
+ghost use Rattle.pll.specs.{Setting.valid_of, Setting.output_of, Search.search_of, Usb.usb_of};
+ghost use Rattle.speed_book.specs.{Book.crystal, Book.table, Lookup.lookup_in};
 ghost use Rattle.margin.specs.Margin.{margin_of};
 ghost use Rattle.config.specs.Presets.{system_plan, system_plan_from};
 ghost use Rattle.base.specs.Answer.{answer_in};
@@ -21,9 +18,8 @@ ghost use Rattle.lister.specs.Lister.{listed_of, listed_in};
 ghost use Rattle.bring_up.specs.ComesUp.{longest_wait};
 ghost use Rattle.numbers.specs.Answers.{answer_number, itself, setting_number, dividers_are, done, limits_after, chip_numbered, on_chip};
 ghost use Rattle.numbers.specs.Answers.{voltage_number, divider_numbered, gpout_number};
+ghost use Rattle.numbers.specs.{Run.run_number, Run.run_leaves, Run.StartCall, Access.AccessCall};
 ghost use Rattle.export.specs.Sheet.{SheetCall, preset_on, plan_on};
-ghost use Rattle.numbers.specs.Run.{run_number, run_leaves, StartCall};
-ghost use Rattle.numbers.specs.Access.{AccessCall};
 
 use base::Refusal;
 use config::ClockConfig;

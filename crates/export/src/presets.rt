@@ -1,10 +1,8 @@
 // The presets of the Rust, as the numbers of their plans.
 ghost use Rattle.base.specs.Answer.{value, answer_in};
 ghost use Rattle.config.specs.Presets.{crystal_plan, rosc_plan, default_plan, system_plan, system_plan_from};
-ghost use Rattle.numbers.specs.Answers.{chip_numbered, dividers_are};
-ghost use Rattle.export.specs.Sheet.{preset_on};
-ghost use Rattle.numbers.specs.Manual.{manual_by_code};
-ghost use Rattle.export.specs.Plan.{PlanCall};
+ghost use Rattle.numbers.specs.{Answers.chip_numbered, Answers.dividers_are, Manual.manual_by_code};
+ghost use Rattle.export.specs.{Sheet.preset_on, Plan.PlanCall};
 
 use base::Refusal;
 use config::ClockConfig;

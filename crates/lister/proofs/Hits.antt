@@ -1,11 +1,10 @@
 -- The settings with one feedback divider that give the target with no remainder are those whose post product is the
 -- quotient of the VCO frequency and the target.
-use mathlib.Core.{Path.◌≡◌, Path.refl, Path.sym, Path.◌∙◌, Path.ap, List.[], List.◌∷◌, List.map, List.flat_map}
-use mathlib.Core.{Bool.Bool, Bool.true, Bool.false, Bool.◌&&◌, Logic.⊎_elim}
-use Prim.Native.Nat.{ℕ, zero, suc, ◌+◌, ◌-◌, ◌*◌, ◌/◌, ◌%◌, ◌≤◌, ◌<◌}
+use Rattle.std.specs.Prelude.{◌≡◌, refl, [], ◌∷◌, map, Bool, true, false, ◌&&◌, ℕ, zero, suc, ◌+◌, ◌-◌, ◌*◌, ◌/◌, ◌%◌, ◌≤◌, ◌<◌}
+use Rattle.std.specs.Prelude.{leb, eqb}
+use mathlib.Core.{Path.sym, Path.◌∙◌, Path.ap, List.flat_map, Logic.⊎_elim}
 use native.Mathlib.Omega.{arith}
 use native.Mathlib.Nat.{eq-or-lt_of_le, eq_of_mul-eq-mul_left, div-one, div-add-mod', mul-mod_right, mul-div_cancel_left}
-use lib.Dec.{leb, eqb}
 use borrow.Author.Tests.{le-leb, leb-true, eqb-true, eq-eqb, ne_eqb}
 use Rattle.base.specs.Choice.{in_range}
 use Rattle.std.proofs.lemmas.Bool.{and_parts, false_from_ne_true, false≢true}
@@ -13,9 +12,8 @@ use Rattle.base.proofs.Bools.{in-range}
 use Rattle.pll.specs.Ranges.{reference_min, feedback_min, feedback_max, vco_min, vco_max}
 use Rattle.pll.specs.Search.{falling, rising, setting, keep}
 use Rattle.pll.specs.Law.{InVco, VcoPermits, HighestPermitted, LowestPermitted}
-use Rattle.lister.specs.Lister.{meets, in_order, list_of}
-use Rattle.lister.specs.Order.{at_post1, at_feedback, has_product}
-use Rattle.lister.proofs.{Walks.same-feedback, Walks.none_kept, Walks.none-given, Walks.between}
+use Rattle.lister.specs.{Lister.meets, Lister.in_order, Lister.list_of, Order.at_post1, Order.at_feedback, Order.has_product}
+use Rattle.lister.proofs.Walks.{same-feedback, none_kept, none-given, between}
 
 -- two tests, each of which holds where the other does, are the same
 same_test : (a b : Bool) → (a ≡ true → b ≡ true) → (b ≡ true → a ≡ true) → a ≡ b

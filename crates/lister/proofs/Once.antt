@@ -1,8 +1,7 @@
 -- The list is right: it has each remainder-free setting once and nothing else, in order.
-use mathlib.Core.{Path.◌≡◌, Logic.inl, Logic.inr, List.List, List.[], List.◌∷◌, Bool.true}
-use Prim.Native.Nat.{ℕ, ◌+◌, ◌-◌, ◌*◌, ◌≤◌, ◌<◌}
+use Rattle.std.specs.Prelude.{◌≡◌, List, [], ◌∷◌, true, ℕ, ◌+◌, ◌-◌, ◌*◌, ◌≤◌, ◌<◌, eqb}
+use mathlib.Core.Logic.{inl, inr}
 use native.Mathlib.{Omega.arith, Decide.dec_le}
-use lib.Dec.{eqb}
 use borrow.Author.Tests.{eqb-true, eq-eqb}
 use Rattle.base.specs.Choice.{pick, in_range}
 use Rattle.std.proofs.lemmas.Bool.{and_parts}

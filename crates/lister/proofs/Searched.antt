@@ -1,13 +1,12 @@
 -- The list and the search agree: the search's answer is exact where the list has an entry, and then it is in the list.
-use mathlib.Core.{Path.◌≡◌, Path.refl, Path.subst, List.List, List.[], List.◌∷◌}
-use Prim.Native.Nat.{ℕ, ◌*◌, ◌<◌}
+use Rattle.std.specs.Prelude.{◌≡◌, refl, List, [], ◌∷◌, ℕ, ◌*◌, ◌<◌, length}
+use mathlib.Core.Path.{subst}
 use native.Mathlib.Omega.{arith}
-use lib.ListN.{length}
 use borrow.Author.Tests.{eqb-true, eq-eqb}
-use Rattle.base.{specs.Answer.Answer, specs.Answer.value, specs.Answer.refusal, proofs.Bools.either_way}
-use Rattle.pll.specs.{Setting.vco_of, Setting.posts_of, Search.search_of}
+use Rattle.base.specs.Answer.{Answer, value, refusal}
+use Rattle.base.proofs.Bools.{either_way}
 use Rattle.pll.specs.Law.{Candidate, Exact, Before, Chosen, RightAnswer}
-use Rattle.pll.specs.declared.PllConfig.{PllConfig}
+use Rattle.pll.specs.{Setting.vco_of, Setting.posts_of, Search.search_of, declared.PllConfig.PllConfig}
 use Rattle.pll.proofs.{Right.LowestOf, Right.search-lowest, Right.search-right, Same.same_self}
 use Rattle.lister.specs.Lister.{remainder_free, how_often, list_of, length_of}
 use Rattle.lister.proofs.Once.{Hit, hit-free, free-hit, list-once}

@@ -1,16 +1,13 @@
 -- A walk over numbers writes the settings of each number that pass a test; numbers without such settings may be left out.
-use mathlib.Core.Path.{◌≡◌, refl, sym, ap, ◌∙◌}
-use mathlib.Core.List.{List, [], ◌∷◌, ◌++◌, map, flat_map}
-use mathlib.Core.Bool.{Bool, false}
-use Prim.Native.Nat.{ℕ, zero, suc, ◌+◌, ◌-◌, ◌*◌, ◌≤◌, ◌<◌}
-use lib.ListN.{length}
+use Rattle.std.specs.Prelude.{◌≡◌, refl, List, [], ◌∷◌, ◌++◌, map, Bool, false, ℕ, zero, suc, ◌+◌, ◌-◌, ◌*◌, ◌≤◌, ◌<◌, length}
+use mathlib.Core.{Path.sym, Path.ap, Path.◌∙◌, List.flat_map}
 use native.Mathlib.{Omega.arith, Numerals.add-one}
-use Rattle.pll.specs.{Ranges.feedback_min, Ranges.feedback_max, Search.falling, Search.rising, Search.setting, Search.keep}
-use Rattle.pll.specs.declared.PllConfig.{PllConfig}
+use Rattle.pll.specs.Search.{falling, rising, setting, keep}
+use Rattle.pll.specs.{Ranges.feedback_min, Ranges.feedback_max, declared.PllConfig.PllConfig}
 use Rattle.pll.proofs.Order.{keep_append}
-use Rattle.base.{specs.Writing.Written, proofs.Bools.either_way}
-use Rattle.lister.specs.Lister.{in_order}
-use Rattle.lister.specs.Order.{at_post1, at_feedback, puts}
+use Rattle.base.specs.Writing.{Written}
+use Rattle.base.proofs.Bools.{either_way}
+use Rattle.lister.specs.{Lister.in_order, Order.at_post1, Order.at_feedback, Order.puts}
 use Rattle.lister.proofs.Writing.{put_more, put_none}
 
 pub falling-step : (n : ℕ) → 1 ≤ n → falling n ≡ n ∷ falling (n - 1)

@@ -1,6 +1,5 @@
 -- The right list, stated declaratively (docs/PLL.md, Lister); `proofs/Once.antt` proves it of `list_of`.
-use mathlib.Core.{Path.◌≡◌, Logic.◌⊎◌, List.List, List.[], List.◌∷◌}
-use Rattle.std.specs.Prelude.{ℕ, ◌<◌}
+use Rattle.std.specs.Prelude.{◌≡◌, ◌⊎◌, List, [], ◌∷◌, ℕ, ◌<◌}
 use Rattle.base.specs.Choice.{pick}
 use Rattle.pll.specs.declared.PllConfig.{PllConfig}
 use Rattle.lister.specs.Lister.{remainder_free, how_often}

@@ -1,12 +1,10 @@
 -- The lister (docs/PLL.md, Lister) writes each setting of the search that has no remainder, once, the lowest feedback
 -- divider first.
-use mathlib.Core.{List.List, List.[], List.◌∷◌, List.◌++◌, List.map, List.flat_map, Bool.Bool, Bool.◌&&◌}
-use Rattle.std.specs.Prelude.{ℕ, ◌+◌, ◌-◌, ◌*◌, ◌/◌, ◌%◌}
-use lib.{Dec.leb, Dec.eqb, ListN.length, ListN.drop}
+use Rattle.std.specs.Prelude.{List, [], ◌∷◌, ◌++◌, map, Bool, ◌&&◌, ℕ, ◌+◌, ◌-◌, ◌*◌, ◌/◌, ◌%◌, leb, eqb, length, drop}
+use mathlib.Core.List.{flat_map}
 use Rattle.base.specs.{Choice.pick, Choice.in_range, Answer.Answer, Answer.value, Answer.refusal}
-use Rattle.pll.specs.{Setting.same_setting, Ranges.feedback_min, Ranges.feedback_max}
 use Rattle.pll.specs.Search.{falling, rising, setting, keep, permitted, exact}
-use Rattle.pll.specs.declared.PllConfig.{PllConfig}
+use Rattle.pll.specs.{Setting.same_setting, Ranges.feedback_min, Ranges.feedback_max, declared.PllConfig.PllConfig}
 
 -- remainder-free, in the search's ranges: input from 5 MHz, VCO 750 to 1600 MHz, reference divider 1, feedback
 -- divider 16 to 320, post 1 from 1 to 7, post 2 from 1 to post 1

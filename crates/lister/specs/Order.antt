@@ -1,13 +1,11 @@
 -- Inside: the code puts the settings of one feedback divider after another.
-use mathlib.Core.{Path.◌≡◌, List.List, List.map, List.flat_map, Bool.Bool}
-use Rattle.std.specs.Prelude.{ℕ, ◌+◌, ◌*◌}
+use Rattle.std.specs.Prelude.{◌≡◌, List, map, Bool, ℕ, ◌+◌, ◌*◌, eqb, length}
+use mathlib.Core.List.{flat_map}
 use Rattle.std.specs.Borrow.{MutBor}
-use lib.{Dec.eqb, ListN.length, Seq.sets}
-use Rattle.pll.specs.{Setting.posts_of, Search.falling, Search.setting}
-use Rattle.pll.specs.declared.PllConfig.{PllConfig}
+use lib.Seq.{sets}
+use Rattle.pll.specs.{Setting.posts_of, Search.falling, Search.setting, declared.PllConfig.PllConfig}
 use Rattle.base.specs.Writing.{Written}
-use Rattle.lister.specs.declared.Listing.{Listing}
-use Rattle.lister.specs.Lister.{list_bytes}
+use Rattle.lister.specs.{declared.Listing.Listing, Lister.list_bytes}
 
 abbrev pub at_post1 : ℕ → ℕ → List PllConfig
 at_post1 fb p1 = map (setting fb p1) (falling p1)

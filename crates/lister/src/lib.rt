@@ -3,9 +3,7 @@
 
 ghost use Rattle.std.specs.Prelude.{◌≡◌, ◌≤◌, [], ◌∷◌, length};
 ghost use Rattle.base.specs.Answer.{answer_of};
-ghost use Rattle.pll.specs.Ranges.{reference_min, feedback_max};
-ghost use Rattle.pll.specs.Law.{VcoPermits};
-ghost use Rattle.pll.specs.Search.{keep};
+ghost use Rattle.pll.specs.{Ranges.reference_min, Ranges.feedback_max, Law.VcoPermits, Search.keep};
 ghost use Rattle.lister.specs.Lister.{meets, list_of, listed_of, listed_in};
 ghost use Rattle.lister.specs.Order.{at_post1, at_feedback, has_product, Puts, IsNew};
 

@@ -1,14 +1,12 @@
 -- `margin_of` is right by `RightMargin` (specs/Law), and so any right answer equals it.
-use mathlib.Core.{Path.◌≡◌, Path.refl, Path.sym, Path.ap, Path.◌∙◌, Bool.Bool, Bool.true, Bool.false}
-use mathlib.Core.Logic.{⊎_elim}
-use Prim.Native.Nat.{ℕ, zero, suc, ◌+◌, ◌-◌, ◌≤◌, ◌<◌}
+use Rattle.std.specs.Prelude.{◌≡◌, refl, Bool, true, false, ℕ, zero, suc, ◌+◌, ◌-◌, ◌≤◌, ◌<◌}
+use mathlib.Core.{Path.sym, Path.ap, Path.◌∙◌, Logic.⊎_elim}
 use native.Mathlib.{Omega.arith, Nat.eq-or-lt_of_le}
-use Rattle.base.{specs.Answer.Answer, specs.Answer.value, specs.Answer.refusal, proofs.Bools.either_way}
-use Rattle.pll.specs.Search.{search_of}
-use Rattle.pll.specs.declared.PllConfig.{PllConfig}
+use Rattle.base.specs.Answer.{Answer, value, refusal}
+use Rattle.base.proofs.Bools.{either_way}
+use Rattle.pll.specs.{Search.search_of, declared.PllConfig.PllConfig}
 use Rattle.margin.specs.Margin.{is_setting, lower_from, higher_from, margin_at, margin_of}
-use Rattle.margin.specs.declared.Margin.{Margin}
-use Rattle.margin.specs.Law.{RightLower, RightHigher, RightMargin}
+use Rattle.margin.specs.{declared.Margin.Margin, Law.RightLower, Law.RightHigher, Law.RightMargin}
 use Rattle.pll.proofs.Same.{same-path, same_self}
 use Rattle.margin.proofs.{Sides.refused-15, Unique.margin-unique}
 

@@ -1,10 +1,9 @@
 -- A comparison of two settings decides whether the search gives c, and the lowest and the highest target with c give
 -- the two sides.
-use mathlib.Core.{Path.◌≡◌, Path.sym, Path.ap, Path.subst, Path.◌∙◌, Bool.Bool, Bool.false}
-use Prim.Native.Nat.{ℕ}
+use Rattle.std.specs.Prelude.{◌≡◌, Bool, false, ℕ}
+use mathlib.Core.Path.{sym, ap, subst, ◌∙◌}
 use Rattle.base.specs.Answer.{Answer, value, refusal}
-use Rattle.pll.specs.{Search.search_of, Law.RightAnswer, Setting.same_setting}
-use Rattle.pll.specs.declared.PllConfig.{PllConfig}
+use Rattle.pll.specs.{Search.search_of, Law.RightAnswer, Setting.same_setting, declared.PllConfig.PllConfig}
 use Rattle.pll.proofs.{Right.search-right, Same.same-path, Same.same_self}
 use Rattle.margin.specs.Walk.{Tells}
 

@@ -1,8 +1,7 @@
 -- `RightMargin` leaves no choice: two answers that are right are equal.
-use Rattle.std.specs.Prelude.{Option, Some, None}
-use mathlib.Core.{Path.◌≡◌, Path.refl, Path.sym, Path.ap, Path.◌∙◌}
-use Prim.Native.Nat.{ℕ, ◌<◌}
-use native.Mathlib.{Omega.arith}
+use Rattle.std.specs.Prelude.{Option, Some, None, ◌≡◌, refl, ℕ, ◌<◌}
+use mathlib.Core.Path.{sym, ap, ◌∙◌}
+use native.Mathlib.Omega.{arith}
 use Rattle.base.specs.Answer.{Answer, value, refusal}
 use Rattle.margin.specs.{declared.Margin.Margin, Law.RightLower, Law.RightHigher, Law.RightMargin}
 

@@ -1,10 +1,8 @@
 -- The margin of a target, stated declaratively (docs/PLL.md, Margin). `proofs/Right.antt` proves it of `margin_of`;
 -- `proofs/Unique.antt` shows that it has one solution.
-use mathlib.Core.{Path.◌≡◌}
-use Rattle.std.specs.Prelude.{ℕ, ◌≤◌, ◌<◌, Option, Some, None}
+use Rattle.std.specs.Prelude.{◌≡◌, ℕ, ◌≤◌, ◌<◌, Option, Some, None}
 use Rattle.base.specs.Answer.{Answer, value, refusal}
-use Rattle.pll.specs.Search.{search_of}
-use Rattle.pll.specs.declared.PllConfig.{PllConfig}
+use Rattle.pll.specs.{Search.search_of, declared.PllConfig.PllConfig}
 use Rattle.margin.specs.declared.Margin.{Margin}
 
 -- two targets share the setting

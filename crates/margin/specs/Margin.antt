@@ -1,10 +1,8 @@
 -- The margin of a target (docs/PLL.md, Margin): the definition steps hertz by hertz to either side until the search
 -- gives another setting.
-use mathlib.Core.{Bool.Bool, Bool.false}
-use Rattle.std.specs.Prelude.{ℕ, zero, suc, ◌-◌, Option, Some, None}
+use Rattle.std.specs.Prelude.{Bool, false, ℕ, zero, suc, ◌-◌, Option, Some, None}
 use Rattle.base.specs.{Answer.Answer, Answer.value, Answer.refusal, Choice.pick}
-use Rattle.pll.specs.{Search.search_of, Setting.same_setting}
-use Rattle.pll.specs.declared.PllConfig.{PllConfig}
+use Rattle.pll.specs.{Search.search_of, Setting.same_setting, declared.PllConfig.PllConfig}
 use Rattle.margin.specs.declared.Margin.{Margin}
 
 -- an answer is the setting c

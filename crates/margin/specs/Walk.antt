@@ -1,9 +1,7 @@
 -- Inside: the code finds the two sides by a bisection.
-use mathlib.Core.{Path.◌≡◌, Bool.Bool, Bool.true, Bool.false, Bool.not}
-use Rattle.std.specs.Prelude.{ℕ, ◌≤◌, ◌<◌}
+use Rattle.std.specs.Prelude.{◌≡◌, Bool, true, false, not, ℕ, ◌≤◌, ◌<◌}
 use Rattle.base.specs.Answer.{value}
-use Rattle.pll.specs.Search.{search_of}
-use Rattle.pll.specs.declared.PllConfig.{PllConfig}
+use Rattle.pll.specs.{Search.search_of, declared.PllConfig.PllConfig}
 
 -- the search gives the setting c for a target
 abbrev pub Has : ℕ → PllConfig → ℕ → Type 0

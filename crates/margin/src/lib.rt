@@ -3,8 +3,7 @@
 
 ghost use Rattle.std.specs.Prelude.{◌≡◌, ◌≤◌, is_none};
 ghost use Rattle.base.specs.Answer.{answer_of};
-ghost use Rattle.margin.specs.Margin.{margin_of};
-ghost use Rattle.margin.specs.Walk.{Tells, Turns, First};
+ghost use Rattle.margin.specs.{Margin.margin_of, Walk.Tells, Walk.Turns, Walk.First};
 
 use base::Refusal;
 use pll::PllConfig;

@@ -1,22 +1,20 @@
 -- A bench given as numbers: a call for a board is the runner's call over the board's numbers, and a start that is refused for
 -- one bench is refused for each.
-use mathlib.Core.{Bool.Bool, List.List, Path.◌≡◌, Path.refl, Path.sym, Path.ap, Path.◌∙◌}
-use Prim.Native.Nat.{ℕ, zero, suc, ◌+◌, ◌*◌, ◌<◌, ◌≤◌}
+use Rattle.std.specs.Prelude.{Bool, List, ◌≡◌, refl, ℕ, zero, suc, ◌+◌, ◌*◌, ◌<◌, ◌≤◌, length, get_or}
+use mathlib.Core.Path.{sym, ap, ◌∙◌}
 use native.Mathlib.Omega.{arith}
 use borrow.Author.Tests.{lt-ltb, le-ltb, le-leb, lt-leb}
-use lib.{ListN.length, ListN.get_or, Seq.sets, Seq.get_or-set_same}
-use Rattle.numbers.specs.Fields.{nth}
-use Rattle.runner.specs.declared.{Stepper.Stepper}
-use Rattle.runner.specs.Run.{Outcome, outcome, stepper_of, advance_of, Begun}
-use Rattle.base.{specs.Answer.refusal, proofs.Bools.either_way}
-use Rattle.step.specs.Size.{bad_size}
-use Rattle.boards.specs.declared.Bench.{Bench}
-use Rattle.boards.specs.Bench.{no_board, board_at, in_bench, bench_of, start_all_of}
-use Rattle.boards.proofs.Benches.{all-refused, all-kept, over-seven, of-eight}
-use Rattle.numbers.specs.Answers.{answer_number, refusals, malformed}
+use lib.Seq.{sets, get_or-set_same}
 use Rattle.numbers.specs.Run.{progress_number, with_state, with_freqs, run_number, run_leaves, go_number}
 use Rattle.numbers.specs.Bench.{runner_at, stepper_at, boards_from, bench_in, fourteen, bench_number, bench_leaves}
 use Rattle.numbers.specs.Bench.{start_all_leaves, StartAllCall}
+use Rattle.numbers.specs.{Fields.nth, Answers.answer_number, Answers.refusals, Answers.malformed}
+use Rattle.runner.specs.{declared.Stepper.Stepper, Run.Outcome, Run.outcome, Run.stepper_of, Run.advance_of, Run.StartOutcome}
+use Rattle.base.specs.Answer.{refusal}
+use Rattle.base.proofs.Bools.{either_way}
+use Rattle.step.specs.Size.{bad_size}
+use Rattle.boards.specs.{declared.Bench.Bench, Bench.no_board, Bench.board_at, Bench.in_bench, Bench.bench_of, Bench.start_all_of}
+use Rattle.boards.proofs.Benches.{all-refused, all-kept, over-seven, of-eight}
 
 board-from : (count n i : ℕ) (ns : List ℕ) → i < count
     → get_or (boards_from count n ns) i no_board ≡ stepper_at ns (n + i)
@@ -74,7 +72,7 @@ module _ (ns kept : List ℕ) (n : ℕ) (sheet : List ℕ) (ready : Bool) where
       board-leaves = rw (le-ltb 7 n few, le-leb _ _ good, next-board) refl
 
 -- the number of a start's answer
-abbrev start_number : Begun Bench → ℕ
+abbrev start_number : StartOutcome Bench → ℕ
 start_number x = answer_number go_number x.answer
 
 -- a start that is refused for one bench is refused for each, and leaves each
@@ -86,7 +84,7 @@ refused-start ns kept sheet b after n e =
     let each = all-refused (bench_in ns kept) sheet bad in
     record {
       answer = ap start_number (e ∙ sym (all-refused b sheet bad)) ∙ ap start_number each;
-      numbers = ap (λ (x : Begun Bench). start_all_leaves x.answer ns x.next.len) each;
-      bytes = ap (λ (x : Begun Bench). x.next.kept) each;
+      numbers = ap (λ (x : StartOutcome Bench). start_all_leaves x.answer ns x.next.len) each;
+      bytes = ap (λ (x : StartOutcome Bench). x.next.kept) each;
     })
     (λ ok. let no : refusals + n ≡ 0 = ap start_number (e ∙ sym (all-kept b sheet ok)) in absurd (omega (arith, no)))

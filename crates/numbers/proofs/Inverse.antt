@@ -12,10 +12,11 @@ use Rattle.chip.specs.declared.{Chip.Chip, Chip.TheVariants.Rp2040, Chip.TheVari
 use Rattle.chip.specs.Voltage.{code_of, voltages, with_code, core_voltage_of}
 use Rattle.chip.proofs.Codes.{core-voltage-code, code-small}
 use Rattle.pll.specs.declared.PllConfig.{PllConfig}
-use Rattle.config.specs.{Board.board_of, Codes.ref_code}
+use Rattle.config.specs.{ChipSettings.chip_of, Codes.ref_code}
 use Rattle.config.proofs.OnChip.{on_chip}
-use Rattle.settings.proofs.Decoded.{ref-code, sys-code, board-small}
-use Rattle.numbers.specs.Row.{part_row, crystal_on, sys_pll_in, usb_pll_in, oscillator_row, first_row, sys_row, clock_row, rtc_numbers, plan_row}
+use Rattle.settings.proofs.Decoded.{ref-code, sys-code, volts-small}
+use Rattle.numbers.specs.Row.{part_row, crystal_on, sys_pll_in, usb_pll_in, oscillator_row, first_row, sys_row, clock_row}
+use Rattle.numbers.specs.Row.{rtc_numbers, plan_row}
 use Rattle.numbers.proofs.PartRows.{ring_row, pll_row, time_row, peri_row, aux_row, rtc_row}
 use Rattle.numbers.specs.Plan.{whole_oscillators, whole_clocks, whole_chip, whole_plan, strengths_at, ring_at, option_pll_at, crystal_at}
 use Rattle.numbers.specs.Plan.{divided_at, rtc_at, chip_at, plan_at, flagged, part2040, part235x}
@@ -109,8 +110,8 @@ module _ (c : ChipConfig) (p : ClockConfig) (t : PlanTyped p) (z : List ℕ) whe
   row =
       joined (row_from 12 0 (ring_row p.rosc)) (row_from 3 0 (crystal_row p.xosc)) (row_from 5 0 (pll_row (sys_pll_in p.xosc)))
       (row_from 5 0 (pll_row (usb_pll_in p.xosc)))
-      ((board_of c).volts.code ∷ (row_from 2 0 settling ++ (ref_code p.ref_clk.src ∷ p.ref_clk.div ∷ [])))
-      (sys_row p.sys_clk_src (board_of c).whole (board_of c).fraction)
+      ((chip_of c).volts.code ∷ (row_from 2 0 settling ++ (ref_code p.ref_clk.src ∷ p.ref_clk.div ∷ [])))
+      (sys_row p.sys_clk_src (chip_of c).whole (chip_of c).fraction)
       (row_from 2 0 (peri_row p.peri_clk_src)) (row_from 4 0 (aux_row p.usb_clk)) (row_from 4 0 (aux_row p.adc_clk)) z
 
   row_is : z ≡ rtc_numbers c → row ≡ plan_row (on_chip c p)
@@ -118,10 +119,10 @@ module _ (c : ChipConfig) (p : ClockConfig) (t : PlanTyped p) (z : List ℕ) whe
   row_is e =
       let plls = plls-typed p.xosc t.xosc in
       let time = (time-back p.voltage_stabilization_delay_us t.settling).0 in
-      let first = ap (λ (l : List ℕ). (board_of c).volts.code ∷ (l ++ (ref_code p.ref_clk.src ∷ p.ref_clk.div ∷ []))) time in
+      let first = ap (λ (l : List ℕ). (chip_of c).volts.code ∷ (l ++ (ref_code p.ref_clk.src ∷ p.ref_clk.div ∷ []))) time in
       λ i. joined ((ring-back p.rosc t.rosc).0 i) ((crystal-back p.xosc t.xosc).long i)
       ((pll-back (sys_pll_in p.xosc) plls.0).0 i) ((pll-back (usb_pll_in p.xosc) plls.1).0 i) (first i)
-      (sys_row p.sys_clk_src (board_of c).whole (board_of c).fraction) ((peri-back p.peri_clk_src).0 i)
+      (sys_row p.sys_clk_src (chip_of c).whole (chip_of c).fraction) ((peri-back p.peri_clk_src).0 i)
       ((aux-back p.usb_clk t.usb).0 i) ((aux-back p.adc_clk t.adc).0 i) (e i)
 
   oscillators-fit : whole_oscillators row ≡ true
@@ -135,8 +136,8 @@ module _ (c : ChipConfig) (p : ClockConfig) (t : PlanTyped p) (z : List ℕ) whe
   clocks-fit : whole_clocks row ≡ true
   unfolding whole_clocks is_part
   clocks-fit =
-      let code : (board_of c).volts.code ≤ 15 = omega (arith, (board-small c).0) in
-      both (both (le-leb (board_of c).volts.code 15 code) refl)
+      let code : (chip_of c).volts.code ≤ 15 = omega (arith, (volts-small c).0) in
+      both (both (le-leb (chip_of c).volts.code 15 code) refl)
       (both (time-back p.voltage_stabilization_delay_us t.settling).1
       (both (both (le-leb _ 2 (ref-code p.ref_clk.src).1) (both (le-leb _ u8 t.reference) refl))
       (both (both (le-leb _ 4 (sys-code p.sys_clk_src).1) refl)
@@ -167,11 +168,11 @@ module _ (c : ChipConfig) (p : ClockConfig) (t : PlanTyped p) (z : List ℕ) whe
       ∙ ap (option_map (λ (c : ChipConfig). plan_at c row)) read ∙ ap Some plan-is
 
 -- every typed plan reads back from its numbers
-pub plan-back : (p : ClockConfig) → PlanTyped p → plan_numbered (board_of p.chip).chip (plan_row p) ≡ Some p
+pub plan-back : (p : ClockConfig) → PlanTyped p → plan_numbered (chip_of p.chip).model (plan_row p) ≡ Some p
 unfolding whole_chip is_part chip_at rtc_at
 plan-back p t = go p.chip t.chip
   where
-    go : (c : ChipConfig) → ChipTyped c → plan_numbered (board_of c).chip (plan_row (on_chip c p)) ≡ Some (on_chip c p)
+    go : (c : ChipConfig) → ChipTyped c → plan_numbered (chip_of c).model (plan_row (on_chip c p)) ≡ Some (on_chip c p)
     go (on2040 c) h =
         let z = rtc_row c.rtc_clk in
         let r = rtc-back c.rtc_clk h.2 in
@@ -226,7 +227,7 @@ module _ (n : List ℕ) (osc : whole_oscillators n ≡ true) (clk : whole_clocks
   code-most : nth n 25 ≤ 15
   code-most = (fits true n 25 (15 ∷ []) clock-facts.0).0
 
-  plan-row : (c : ChipConfig) → (board_of c).volts.code ≡ nth n 25 → (board_of c).whole ≡ nth n 31 → (board_of c).fraction ≡ nth n 32
+  plan-row : (c : ChipConfig) → (chip_of c).volts.code ≡ nth n 25 → (chip_of c).whole ≡ nth n 31 → (chip_of c).fraction ≡ nth n 32
       → plan_row (plan_at c n) ≡ row_from 43 0 n ++ rtc_numbers c
   unfolding plan_row oscillator_row clock_row plan_at is_part crystal_at option_pll_at divided_at
   plan-row c code whole fraction =
@@ -237,7 +238,7 @@ module _ (n : List ℕ) (osc : whole_oscillators n ≡ true) (clk : whole_clocks
       let r = fits true n 28 (2 ∷ u8 ∷ []) k.1.1.0 in
       let s = fits true n 30 (4 ∷ []) k.1.1.1.0 in
       let time = time-row (row_from 2 26 n) k.1.0 in
-      let first : first_row (board_of c).volts.code (plan_at c n).voltage_stabilization_delay_us (plan_at c n).ref_clk ≡ row_from 5 25 n =
+      let first : first_row (chip_of c).volts.code (plan_at c n).voltage_stabilization_delay_us (plan_at c n).ref_clk ≡ row_from 5 25 n =
       λ i. code i ∷ (time i ++ ((codes (nth n 28)).1 r.0 i ∷ cut r.1.0 i ∷ [])) in
       λ i. joined (ring-row n o.0 i) (x.0 i) (x.1 i) (x.2 i) (first i)
       (((codes (nth n 30)).2 s.0).0 i ∷ whole i ∷ fraction i ∷ []) (peri-row (row_from 2 33 n) k.1.1.1.1.0 i)
@@ -251,7 +252,7 @@ module _ (n : List ℕ) (osc : whole_oscillators n ≡ true) (clk : whole_clocks
 
   -- of each chip: the row is that of the plan whose chip-specific part is read from it, which is of this chip
   chip-row : (chip : Chip) → whole_chip chip n ≡ true → (c : ChipConfig) → chip_at chip n ≡ Some c
-      → (plan_row (plan_at c n) ≡ n) × ((board_of c).chip ≡ chip)
+      → (plan_row (plan_at c n) ≡ n) × ((chip_of c).model ≡ chip)
   unfolding whole_chip is_part rtc_at chip_at
   chip-row Rp2040 e c read =
       let bs : List Bool = eqb (length n) 48 ∷ fit_from true n 31 (u32 ∷ u8 ∷ []) ∷ is_part n 43 rtc_limits ∷ [] in
@@ -280,12 +281,12 @@ tests chip n = whole_chip chip n ∷ whole_oscillators n ∷ whole_clocks n ∷ 
 
 -- a row that reads as a plan is the row of the plan's numbers, and the plan is for the chip asked for
 pub row_back : (chip : Chip) (n : List ℕ) (p : ClockConfig) → plan_numbered chip n ≡ Some p
-    → (plan_row p ≡ n) × ((board_of p.chip).chip ≡ chip)
+    → (plan_row p ≡ n) × ((chip_of p.chip).model ≡ chip)
 unfolding plan_numbered plan_at
 row_back chip n p e = go (whole_plan chip n) refl (chip_at chip n) refl
   where
     go : (b : Bool) → whole_plan chip n ≡ b → (read : Option ChipConfig) → chip_at chip n ≡ read
-        → (plan_row p ≡ n) × ((board_of p.chip).chip ≡ chip)
+        → (plan_row p ≡ n) × ((chip_of p.chip).model ≡ chip)
     go true f (Some c) g =
         let h = all_true (tests chip n) f in
         let same : plan_at c n ≡ p = ap (λ o. unwrap_or o (plan_at c n)) (rw (f, g) at e) in

@@ -12,7 +12,6 @@ use Rattle.std.proofs.lemmas.Bool.{and_parts}
 use Rattle.chip.specs.Voltage.{with_code}
 use Rattle.pll.specs.declared.PllConfig.{PllConfig}
 use Rattle.config.specs.declared.{RoscConfig.RoscConfig, PeriClkSrc.PeriClkSrc, AuxClkConfig.AuxClkConfig, RtcClkConfig.RtcClkConfig}
-use Rattle.config.specs.declared.{RefClkSrc.RefClkSrc, SysClkSrc.SysClkSrc}
 use Rattle.config.specs.Codes.{range_code, ref_code, sys_code, peri_aux, aux_code, range_from, ref_from, sys_source_from, peri_from}
 use Rattle.config.specs.Codes.{aux_from}
 use Rattle.settings.proofs.Decoded.{range-code, peri-code, aux-code}

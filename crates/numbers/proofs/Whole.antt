@@ -1,13 +1,12 @@
 -- A plan has at most 48 numbers, so a row of 48 holds every plan.
-use Rattle.std.specs.Prelude.{Option, Some, None, ◌≡◌, List, ℕ, ◌+◌, ◌≤◌, length, take, drop}
-use mathlib.Core.Path.{refl}
+use Rattle.std.specs.Prelude.{Option, Some, None, ◌≡◌, List, ℕ, ◌+◌, ◌≤◌, length, take, drop, refl}
 use native.Mathlib.Omega.{arith}
 use lib.{ListN.length-append, ListN.length-replicate, Seq.take-append_seam, Seq.sets-eq}
 use Rattle.base.specs.Placed.{Placed}
+use Rattle.config.specs.declared.ChipConfig.TheVariants.{Rp2040 as on2040, Rp235x as on235x}
 use Rattle.config.specs.declared.{RoscConfig.RoscConfig, XoscConfig.XoscConfig, ChipConfig.ChipConfig, ClockConfig.ClockConfig}
 use Rattle.numbers.specs.Row.{part_row, ring_on, crystal_on, pll_on, sys_pll_in, usb_pll_in, time_on, peri_on, aux_on, rtc_on}
 use Rattle.numbers.specs.Row.{oscillator_row, clock_row, rtc_numbers, plan_row}
-use Rattle.config.specs.declared.ChipConfig.TheVariants.{Rp2040 as on2040, Rp235x as on235x}
 
 -- the row of a part is as long as that of an absent one
 part-long : {A : Type 0} (size : ℕ) (on : A → List ℕ) → ((part : A) → length (on part) ≡ size) → (o : Option A)

@@ -4,11 +4,10 @@ use Rattle.std.specs.Option.{option_map_or}
 use Rattle.base.specs.{Choice.pick, Answer.Answer, Answer.value, Answer.refusal}
 use Rattle.pll.specs.declared.PllConfig.{PllConfig}
 use Rattle.margin.specs.declared.Margin.{Margin}
-use Rattle.chip.specs.declared.{Chip.Chip, Chip.TheVariants.Rp2040, Chip.TheVariants.Rp235x}
 use Rattle.chip.specs.Voltage.{code_of, bod_of, core_voltage_of}
-use Rattle.divider.specs.declared.GpoutDiv.{GpoutDiv}
-use Rattle.divider.specs.Gpout.{gpout_in}
+use Rattle.chip.specs.declared.Chip.{Chip, TheVariants.Rp2040, TheVariants.Rp235x}
 use Rattle.divider.specs.declared.GpoutDiv.TheVariants.{Rp2040 as on2040, Rp235x as on235x}
+use Rattle.divider.specs.{declared.GpoutDiv.GpoutDiv, Gpout.gpout_in}
 
 -- 2 ^ 48: a value has a number below it, refusal n has the number 2 ^ 48 + n
 abbrev pub refusals : ℕ

@@ -5,8 +5,7 @@ use Rattle.base.specs.{Answer.Answer, Choice.pick, Choice.bit}
 use Rattle.numbers.specs.Run.{state_in, is_runner, progress_number, Starts}
 use Rattle.numbers.specs.{Fields.nth, Fields.ten_at, Answers.answer_number, Answers.left_by, Answers.malformed}
 use Rattle.runner.specs.declared.Stepper.{Stepper}
-use Rattle.boards.specs.declared.Bench.{Bench}
-use Rattle.boards.specs.Bench.{board_at, bench_of, start_all_of}
+use Rattle.boards.specs.{declared.Bench.Bench, Bench.board_at, Bench.bench_of, Bench.start_all_of}
 
 -- board n as a runner's 15 numbers: position, lock polls, total, stopped mark, the kept length, which is the last of the 113, and
 -- the ten frequencies

@@ -1,7 +1,6 @@
 -- Inside: the number of a reply with the word of its step given, as the code reads it from the sheet.
 use Rattle.std.specs.Prelude.{ℕ}
-use Rattle.runner.specs.declared.Reply.{Reply}
-use Rattle.runner.specs.declared.Reply.TheVariants.{Done, Handed, Passed, Waiting}
+use Rattle.runner.specs.declared.Reply.{Reply, TheVariants.Done, TheVariants.Handed, TheVariants.Passed, TheVariants.Waiting}
 
 abbrev pub progress_with : ℕ → Reply → ℕ
 progress_with word Done = 0

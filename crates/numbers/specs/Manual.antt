@@ -1,10 +1,8 @@
 -- `manual_pll` with a voltage by its code (docs/FORMAT.md, Presets); none for a code that no voltage has.
 use Rattle.std.specs.Prelude.{Option, ℕ}
 use Rattle.base.specs.Answer.{Answer}
-use Rattle.chip.specs.declared.Chip.TheVariants.{Rp2040}
-use Rattle.chip.specs.Voltage.{core_voltage_of}
-use Rattle.config.specs.declared.ClockConfig.{ClockConfig}
-use Rattle.config.specs.Presets.{manual_plan}
+use Rattle.chip.specs.{declared.Chip.TheVariants.Rp2040, Voltage.core_voltage_of}
+use Rattle.config.specs.{declared.ClockConfig.ClockConfig, Presets.manual_plan}
 use Rattle.pll.specs.declared.PllConfig.{PllConfig}
 use Rattle.numbers.specs.Answers.{of_value}
 

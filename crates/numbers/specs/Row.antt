@@ -5,7 +5,7 @@ use Rattle.config.specs.declared.RoscConfig.{RoscConfig}
 use Rattle.config.specs.declared.{XoscConfig.XoscConfig, PeriClkSrc.PeriClkSrc, AuxClkConfig.AuxClkConfig, RtcClkConfig.RtcClkConfig}
 use Rattle.config.specs.declared.{RefClkConfig.RefClkConfig, SysClkSrc.SysClkSrc, ChipConfig.ChipConfig, ClockConfig.ClockConfig}
 use Rattle.pll.specs.declared.PllConfig.{PllConfig}
-use Rattle.config.specs.{Board.board_of, Codes.range_code, Codes.ref_code, Codes.sys_code, Codes.peri_aux, Codes.aux_code}
+use Rattle.config.specs.{ChipSettings.chip_of, Codes.range_code, Codes.ref_code, Codes.sys_code, Codes.peri_aux, Codes.aux_code}
 
 -- an optional part: the flag 1 and its numbers, of which there are this many, or zeros
 abbrev pub part_row : {A : Type 0} → ℕ → (A → List ℕ) → Option A → List ℕ
@@ -64,8 +64,8 @@ aux_on a = aux_code a.src ∷ a.div ∷ a.phase ∷ []
 
 unfoldable pub clock_row : ClockConfig → List ℕ
 clock_row p =
-    first_row (board_of p.chip).volts.code p.voltage_stabilization_delay_us p.ref_clk
-    ++ (sys_row p.sys_clk_src (board_of p.chip).whole (board_of p.chip).fraction
+    first_row (chip_of p.chip).volts.code p.voltage_stabilization_delay_us p.ref_clk
+    ++ (sys_row p.sys_clk_src (chip_of p.chip).whole (chip_of p.chip).fraction
     ++ (part_row 1 peri_on p.peri_clk_src ++ (part_row 3 aux_on p.usb_clk ++ part_row 3 aux_on p.adc_clk)))
 
 -- the RTC clock: source, whole part, fraction, phase

@@ -3,8 +3,7 @@ use Rattle.std.specs.Prelude.{Bool, ◌≡◌, List, ◌∷◌, ◌++◌, ℕ, e
 use Rattle.base.specs.{Choice.pick, Choice.bit, Answer.Answer}
 use Rattle.step.specs.Steps.{pack_of}
 use Rattle.runner.specs.declared.Reply.TheVariants.{Done, Handed, Passed, Waiting}
-use Rattle.runner.specs.declared.{State.State, Runner.Runner, Reply.Reply}
-use Rattle.runner.specs.Run.{advance_of, start_of}
+use Rattle.runner.specs.{declared.State.State, declared.Runner.Runner, declared.Reply.Reply, Run.advance_of, Run.start_of}
 use Rattle.numbers.specs.Answers.{answer_number, left_by, malformed}
 
 -- numbers 0 to 3: position, lock polls, total, stopped mark

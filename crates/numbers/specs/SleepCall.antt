@@ -2,8 +2,7 @@
 use Rattle.std.specs.Prelude.{Option, Some, None, ◌≡◌, Bool, ◌&&◌, ◌||◌, List, ℕ, leb, ltb, get_or}
 use lib.Seq.{sets}
 use Rattle.base.specs.{Choice.pick, Placed.past}
-use Rattle.sleep.specs.declared.{Slot.Slot, steps.Step.Step}
-use Rattle.sleep.specs.Sleep.{SleepOutcome}
+use Rattle.sleep.specs.{declared.Slot.Slot, declared.steps.Step.Step, Sleep.SleepOutcome}
 use Rattle.numbers.specs.Slots.{words_at, slots_in, slots_numbers, steps_numbers}
 use Rattle.numbers.specs.Answers.{answer_number, left_by, given_number, left_given}
 

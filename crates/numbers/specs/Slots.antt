@@ -2,10 +2,9 @@
 use Rattle.std.specs.Prelude.{List, [], ◌∷◌, ℕ, ◌+◌, eqb, flat_map}
 use Rattle.base.specs.Choice.{bit}
 use Rattle.numbers.specs.Fields.{nth}
-use Rattle.sleep.specs.declared.{Slot.Slot, steps.Step.Step}
 use Rattle.sleep.specs.declared.steps.Step.TheVariants.{Write, RingStable, CrystalStable, Locked}
+use Rattle.sleep.specs.{declared.Slot.Slot, declared.steps.Step.Step, Registers.number_of}
 use Rattle.step.specs.Clocks.{pll_number}
-use Rattle.sleep.specs.Registers.{number_of}
 
 -- ---- read
 

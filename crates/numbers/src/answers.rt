@@ -1,7 +1,6 @@
 // Encodes answers as 64-bit numbers: a value below 2 ^ 48, refusal n as 2 ^ 48 + n.
 ghost use Rattle.std.specs.Prelude.{◌≡◌, ◌+◌};
-ghost use Rattle.base.specs.Answer.{answer_of};
-ghost use Rattle.base.specs.Refusals.{number_of};
+ghost use Rattle.base.specs.{Answer.answer_of, Refusals.number_of};
 ghost use Rattle.numbers.specs.Answers.{refusals, answer_number, itself, setting_number, level_number, voltage_number, limit_number};
 ghost use Rattle.numbers.specs.Answers.{chip_numbered, divider_of, divider_numbered};
 

@@ -2,9 +2,7 @@
 mod run;
 
 ghost use Rattle.std.specs.Prelude.{◌≡◌, Some};
-ghost use Rattle.numbers.specs.Answers.{chip_numbered};
-ghost use Rattle.numbers.specs.Run.{run_number, run_leaves, StartCall};
-ghost use Rattle.numbers.specs.Access.{AccessCall};
+ghost use Rattle.numbers.specs.{Answers.chip_numbered, Run.run_number, Run.run_leaves, Run.StartCall, Access.AccessCall};
 
 use crate::answers;
 use chip::Chip;

@@ -2,8 +2,7 @@
 mod rows;
 
 ghost use Rattle.std.specs.Prelude.{◌≡◌};
-ghost use Rattle.base.specs.Placed.{Placed};
-ghost use Rattle.base.specs.Writing.{Puts};
+ghost use Rattle.base.specs.{Placed.Placed, Writing.Puts};
 ghost use Rattle.numbers.specs.Row.{oscillator_row, clock_row, rtc_numbers, plan_row};
 
 use base::Writer;
@@ -27,13 +26,13 @@ fn put_oscillators(row: &mut Writer<'_, u32>, ring: Option<RoscConfig>, crystal:
 fn put_clocks(row: &mut Writer<'_, u32>, plan: ClockConfig)
     ensures { Puts row.old (clock_row plan) row.new }
 {
-    let board = plan.chip.board();
+    let chip = plan.chip.settings();
     row.put_all(&rows::first(
-        board.volts.code,
+        chip.volts.code,
         plan.voltage_stabilization_delay_us,
         plan.ref_clk,
     ));
-    row.put_all(&rows::sys(plan.sys_clk_src, board.whole, board.fraction));
+    row.put_all(&rows::sys(plan.sys_clk_src, chip.whole, chip.fraction));
     row.put_all(&rows::peri(plan.peri_clk_src));
     row.put_all(&rows::aux(plan.usb_clk));
     row.put_all(&rows::aux(plan.adc_clk));

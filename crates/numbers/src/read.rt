@@ -11,7 +11,7 @@ use config::ClockConfig;
 pub fn plan_chip(plan: ClockConfig) -> u64
     ensures { result ≡ plan_chip plan }
 {
-    plan.chip.board().chip as u64
+    plan.chip.settings().model as u64
 }
 
 // Writes the numbers of a plan and answers its chip's number, or answers the refusal's number.

@@ -1,7 +1,6 @@
 // Sleep and wake (docs/SLEEP.md) over slots, words and steps that are given as numbers.
 ghost use Rattle.std.specs.Prelude.{◌≡◌, Some};
-ghost use Rattle.base.specs.Answer.{answer_of};
-ghost use Rattle.base.specs.Choice.{pick};
+ghost use Rattle.base.specs.{Answer.answer_of, Choice.pick};
 ghost use Rattle.sleep.specs.Sleep.{outcome, sleep_of, wake_of};
 ghost use Rattle.numbers.specs.SleepCall.{are_slots, asked_with, SlotsCall};
 

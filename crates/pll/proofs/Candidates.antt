@@ -1,18 +1,14 @@
 -- The list of candidates has each candidate once, in order.
-use mathlib.Core.{Path.◌≡◌, Path.refl, Path.sym, Path.ap, Path.◌∙◌, Logic.inl, Logic.inr, Logic.⊎_elim}
-use mathlib.Core.{List.map, List.flat_map, Bool.true, Bool.◌&&◌}
-use Prim.Native.Nat.{ℕ, zero, suc, ◌+◌, ◌*◌, ◌≤◌, ◌<◌}
+use Rattle.std.specs.Prelude.{◌≡◌, refl, map, true, ◌&&◌, ℕ, zero, suc, ◌+◌, ◌*◌, ◌≤◌, ◌<◌, leb}
+use mathlib.Core.{Path.sym, Path.ap, Path.◌∙◌, Logic.inl, Logic.inr, Logic.⊎_elim, List.flat_map}
 use native.Mathlib.{Omega.arith, Nat.eq-or-lt_of_le, Nat.div-one}
-use lib.Dec.{leb}
 use borrow.Author.Tests.{leb-true, le-leb}
 use Rattle.base.specs.Choice.{in_range}
 use Rattle.std.proofs.lemmas.Bool.{and_parts}
 use Rattle.base.proofs.Bools.{in-range}
 use Rattle.pll.specs.Ranges.{reference_min, feedback_min, feedback_max, vco_min, vco_max}
-use Rattle.pll.specs.Setting.{vco_of}
 use Rattle.pll.specs.Search.{falling, setting, settings, permitted, candidates}
-use Rattle.pll.specs.{Law.VcoPermits, Law.Candidate, Walk.key}
-use Rattle.pll.specs.declared.PllConfig.{PllConfig}
+use Rattle.pll.specs.{Setting.vco_of, Law.VcoPermits, Law.Candidate, Walk.key, declared.PllConfig.PllConfig}
 use Rattle.pll.proofs.Order.{Kind, Lists, UpTo, Only, lists-same, lists-falling, lists-keep}
 
 -- the settings of the search, and those with two dividers given

@@ -1,19 +1,14 @@
 -- The feedback dividers that the VCO permits are all the numbers between two ends, which divisions of the VCO range give.
-use mathlib.Core.{Path.◌≡◌, Path.refl, Path.sym, Path.ap, Path.subst, Path.◌∙◌, Logic.⊎_elim}
-use mathlib.Core.Bool.{true, false}
-use Prim.Native.Nat.{ℕ, zero, suc, max, ◌+◌, ◌*◌, ◌/◌, ◌≤◌, ◌<◌}
+use Rattle.std.specs.Prelude.{◌≡◌, refl, true, false, ℕ, zero, suc, max, ◌+◌, ◌*◌, ◌/◌, ◌≤◌, ◌<◌}
+use mathlib.Core.{Path.sym, Path.ap, Path.subst, Path.◌∙◌, Logic.⊎_elim}
 use Rattle.std.specs.Int.{div_ceil}
-use Rattle.std.proofs.lemmas.Grind.{div_ceil_times}
-use native.Mathlib.Omega.{arith}
-use native.Mathlib.Nat.{mul-le-mul_left, mul-div-le, lt-mul-div-succ, le-div_iff_mul-le, div-lt_iff_lt-mul, mul-add}
-use native.Mathlib.Nat.{mul-one, mul_comm, eq-or-lt_of_le}
-use native.Mathlib.Decide.{dec_le}
-use Rattle.base.specs.{Answer.Answer, Answer.value, Answer.refusal}
-use Rattle.std.proofs.lemmas.Bool.{false_from_ne_true}
+use Rattle.std.proofs.lemmas.{Grind.div_ceil_times, Bool.false_from_ne_true}
+use native.Mathlib.{Omega.arith, Nat.mul-le-mul_left, Nat.mul-div-le, Nat.lt-mul-div-succ, Nat.le-div_iff_mul-le}
+use native.Mathlib.{Nat.div-lt_iff_lt-mul, Nat.mul-add, Nat.mul-one, Nat.mul_comm, Nat.eq-or-lt_of_le, Decide.dec_le}
+use Rattle.base.specs.Answer.{Answer, value, refusal}
 use Rattle.pll.specs.Ranges.{reference_min, feedback_min, feedback_max, vco_min, vco_max}
-use Rattle.pll.specs.Search.{falling, rising, setting, permitted}
-use Rattle.pll.specs.Ends.{first_permitted, highest_of, lowest_of}
-use Rattle.pll.specs.Law.{VcoPermits, HighestPermitted, LowestPermitted}
+use Rattle.pll.specs.{Search.falling, Search.rising, Search.setting, Search.permitted, Ends.first_permitted, Ends.highest_of}
+use Rattle.pll.specs.{Ends.lowest_of, Law.VcoPermits, Law.HighestPermitted, Law.LowestPermitted}
 use Rattle.pll.proofs.Candidates.{a-candidate, candidate-permits, candidate-permitted, permitted-candidate}
 
 module _ (input : ℕ) where

@@ -1,16 +1,13 @@
 -- The search serves exactly the inputs that have a permitted feedback divider, and its settings are valid: both
 -- follow from `RightAnswer`.
-use mathlib.Core.{Path.◌≡◌, Path.refl, Path.sym, Path.ap, Path.subst, Path.◌∙◌, Logic.◌⊎◌, Logic.⊎_elim, Bool.true}
-use Prim.Native.Nat.{ℕ, ◌/◌, ◌≤◌, ◌<◌}
+use Rattle.std.specs.Prelude.{◌≡◌, refl, ◌⊎◌, true, ℕ, ◌/◌, ◌≤◌, ◌<◌}
+use mathlib.Core.{Path.sym, Path.ap, Path.subst, Path.◌∙◌, Logic.⊎_elim}
 use native.Mathlib.{Omega.arith, Nat.mul-le-mul_left, Nat.div-one}
 use Rattle.base.specs.Answer.{Answer, value, refusal}
 use Rattle.pll.specs.{Ranges.reference_min, Ranges.vco_max, Setting.reference_of, Setting.valid_of, Search.search_of}
-use Rattle.pll.specs.{Ends.highest_of, Ends.lowest_of, Law.VcoPermits, Law.Candidate, Law.RightAnswer}
-use Rattle.pll.specs.declared.PllConfig.{PllConfig}
-use Rattle.pll.proofs.Candidates.{vco-is, candidate-permits}
-use Rattle.pll.proofs.Ends.{Served, served, unserved, number, highest-none, lowest-none, highest-value, lowest-some}
-use Rattle.pll.proofs.Ends.{highest-right}
-use Rattle.pll.proofs.{Right.search-right, Valid.valid-is}
+use Rattle.pll.specs.{Ends.highest_of, Ends.lowest_of, Law.VcoPermits, Law.Candidate, Law.RightAnswer, declared.PllConfig.PllConfig}
+use Rattle.pll.proofs.Ends.{Served, served, unserved, number, highest-none, lowest-none, highest-value, lowest-some, highest-right}
+use Rattle.pll.proofs.{Candidates.vco-is, Candidates.candidate-permits, Right.search-right, Valid.valid-is}
 
 module _ (input target : ℕ) where
   pub search-finds : reference_min ≤ input → input ≤ 100000000 → (c : PllConfig) × (search_of input target ≡ value c)

@@ -1,11 +1,10 @@
 -- The setting with the lowest rank is the answer of `search_of`.
-use mathlib.Core.{Path.◌≡◌, Path.sym, Path.ap, Logic.⊎_elim}
-use Prim.Native.Nat.{ℕ, ◌-◌, ◌/◌, ◌%◌, ◌<◌}
+use Rattle.std.specs.Prelude.{◌≡◌, ℕ, ◌-◌, ◌/◌, ◌%◌, ◌<◌}
+use mathlib.Core.{Path.sym, Path.ap, Logic.⊎_elim}
 use native.Mathlib.Omega.{arith}
 use Rattle.base.specs.Answer.{Answer, value, refusal}
-use Rattle.pll.specs.{Search.search_of, Law.Candidate}
 use Rattle.pll.specs.Walk.{keys, no_rank, key, rank_of, setting_of, LowestRank}
-use Rattle.pll.specs.declared.PllConfig.{PllConfig}
+use Rattle.pll.specs.{Search.search_of, Law.Candidate, declared.PllConfig.PllConfig}
 use Rattle.pll.proofs.{Scores.rank_is, Scores.rank_below, Right.LowestOf, Right.search-lowest}
 
 module _ (input target r : ℕ) where

@@ -1,19 +1,17 @@
 -- The answer of the search is the nearest by whole hertz, and of equals the first: of settings with one whole-hertz
 -- output all or none have a remainder, so a setting with no remainder is also the nearest. The targets with one
 -- answer are contiguous.
-use mathlib.Core.{Path.◌≡◌, Path.sym, Path.ap, Path.subst, Path.◌∙◌, Logic.⊎_elim}
-use Prim.Native.Nat.{ℕ, ◌+◌, ◌*◌, ◌%◌, ◌≤◌, ◌<◌, ◌∣◌}
-use native.Mathlib.{Omega.arith, Decide.dec_le}
+use Rattle.std.specs.Prelude.{◌≡◌, ℕ, ◌+◌, ◌*◌, ◌%◌, ◌≤◌, ◌<◌}
+use mathlib.Core.{Path.sym, Path.ap, Path.subst, Path.◌∙◌, Logic.⊎_elim}
+use Prim.Native.Nat.{◌∣◌}
 use native.Mathlib.Nat.{mul-le-mul, mul-pos, mod-lt, div-add-mod', add-mul, mul_assoc, mul_right_comm, dvd-add_iff_right}
 use native.Mathlib.Nat.{dvd-mul_right, le_of_dvd, div-eq_of_eq-mul_left, eq-zero-or-pos, eq-or-lt_of_le, le_refl}
+use native.Mathlib.{Omega.arith, Decide.dec_le}
 use Rattle.base.specs.Answer.{value}
 use Rattle.pll.specs.{Setting.vco_of, Setting.posts_of, Setting.output_hz, Search.apart, Search.distance, Search.search_of}
-use Rattle.pll.specs.{Law.Candidate, Law.Exact, Walk.key}
-use Rattle.pll.specs.declared.PllConfig.{PllConfig}
-use Rattle.pll.specs.Near.{NearestOutput, SideBySide}
-use Rattle.pll.proofs.{Candidates.vco-is, Right.LowestOf, Right.search-lowest, Right.search-right}
-use Rattle.pll.proofs.Scores.{score-cases, rank_is, Lowest, lowest-chosen}
-use Rattle.pll.proofs.{Sizes.posts-most, Sizes.posts-some, Unique.right_unique}
+use Rattle.pll.specs.{Law.Candidate, Law.Exact, Walk.key, declared.PllConfig.PllConfig, Near.NearestOutput, Near.SideBySide}
+use Rattle.pll.proofs.{Candidates.vco-is, Right.LowestOf, Right.search-lowest, Right.search-right, Scores.score-cases}
+use Rattle.pll.proofs.{Scores.rank_is, Scores.Lowest, Scores.lowest-chosen, Sizes.posts-most, Sizes.posts-some, Unique.right_unique}
 
 -- a remainder below 49 whose product with at most 49 is a multiple of the input is 0
 no-remainder : (input a b r p : ℕ) → 5000000 ≤ input → r < 49 → 0 < p → p ≤ 49 → input * a ≡ input * b + r * p → r ≡ 0

@@ -1,17 +1,15 @@
 -- Of the settings with one feedback divider, the nearest to the target has one of the two post products next to the
 -- wanted one.
-use mathlib.Core.{Path.◌≡◌, Path.refl, Path.sym, Path.ap, Path.◌∙◌, Logic.inr, Logic.⊎_elim}
-use Prim.Native.Nat.{ℕ, suc, min, ◌+◌, ◌-◌, ◌*◌, ◌/◌, ◌%◌, ◌≤◌, ◌<◌}
-use native.Mathlib.Omega.{arith, min_cases}
-use native.Mathlib.Nat.{mul-le-mul_left, suc-mul, mul-suc, div-mul-le_self, le-div_iff_mul-le, div-lt_iff_lt-mul}
-use native.Mathlib.Nat.{div-eq_of_eq-mul_left, eq-or-lt_of_le}
-use Rattle.pll.specs.{Ranges.reference_min, Setting.posts_of, Search.apart, Search.setting}
-use Rattle.pll.specs.Law.{VcoPermits, Candidate}
-use Rattle.pll.specs.Walk.{keys, no_rank, score_of, key, rank_of, code_rank_of, product, PostCode, NearestPosts}
-use Rattle.pll.specs.Walk.{WantedProduct, LowestRank, CandidatesAt}
+use Rattle.std.specs.Prelude.{◌≡◌, refl, ℕ, suc, min, ◌+◌, ◌-◌, ◌*◌, ◌/◌, ◌%◌, ◌≤◌, ◌<◌}
+use mathlib.Core.{Path.sym, Path.ap, Path.◌∙◌, Logic.inr, Logic.⊎_elim}
+use native.Mathlib.{Omega.arith, Omega.min_cases, Nat.mul-le-mul_left, Nat.suc-mul, Nat.mul-suc, Nat.div-mul-le_self}
+use native.Mathlib.Nat.{le-div_iff_mul-le, div-lt_iff_lt-mul, div-eq_of_eq-mul_left, eq-or-lt_of_le}
+use Rattle.pll.specs.Walk.{keys, no_rank, score_of, key, rank_of, code_rank_of, product, PostCode, NearestPosts, WantedProduct}
+use Rattle.pll.specs.Walk.{LowestRank, CandidatesAt}
+use Rattle.pll.specs.{Ranges.reference_min, Setting.posts_of, Search.apart, Search.setting, Law.VcoPermits, Law.Candidate}
 use Rattle.pll.specs.declared.PllConfig.{PllConfig}
-use Rattle.pll.proofs.{Candidates.vco-is, Candidates.a-candidate, Sizes.posts-most, Sizes.posts-some}
 use Rattle.pll.proofs.Scores.{score-other, score-most, rank_is, rank_below}
+use Rattle.pll.proofs.{Candidates.vco-is, Candidates.a-candidate, Sizes.posts-most, Sizes.posts-some}
 
 -- a greater divisor gives a lower quotient, where the quotients are large
 gap : (v p d : ℕ) → 0 < p → p < d → d ≤ 49 → 2450 ≤ v → v / d < v / p

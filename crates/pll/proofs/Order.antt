@@ -1,12 +1,10 @@
 -- Lists that have each setting of a kind once and in order. The order is a number, `by`, that falls along the list:
 -- the key for the search, `list_key` for the lister.
-use mathlib.Core.{Path.◌≡◌, Path.refl, Path.sym, Path.ap, Logic.◌⊎◌, Logic.inl, Logic.inr, Logic.⊎_elim}
-use mathlib.Core.{List.List, List.[], List.◌∷◌, List.◌++◌, List.map, List.flat_map, Bool.Bool, Bool.true}
-use Prim.Native.Nat.{ℕ, zero, suc, ◌+◌, ◌≤◌, ◌<◌}
+use Rattle.std.specs.Prelude.{◌≡◌, refl, ◌⊎◌, List, [], ◌∷◌, ◌++◌, map, Bool, true, ℕ, zero, suc, ◌+◌, ◌≤◌, ◌<◌}
+use mathlib.Core.{Path.sym, Path.ap, Logic.inl, Logic.inr, Logic.⊎_elim, List.flat_map}
 use native.Mathlib.{Omega.arith, Nat.eq-or-lt_of_le}
 use Rattle.base.proofs.Bools.{either_way}
-use Rattle.pll.specs.Search.{falling, rising, keep}
-use Rattle.pll.specs.declared.PllConfig.{PllConfig}
+use Rattle.pll.specs.{Search.falling, Search.rising, Search.keep, declared.PllConfig.PllConfig}
 
 -- a kind of setting
 abbrev pub Kind : Type 1

@@ -1,18 +1,15 @@
 -- The answer of the search has the lowest rank, and so it is right by `RightAnswer` (specs/Law).
-use mathlib.Core.{Path.◌≡◌, Path.refl, Logic.◌⊎◌, Logic.inl, Logic.inr, Logic.⊎_elim, List.List, List.[], List.◌∷◌}
-use mathlib.Core.Bool.{true}
-use Prim.Native.Nat.{ℕ, ◌+◌, ◌-◌, ◌*◌, ◌≤◌, ◌<◌}
+use Rattle.std.specs.Prelude.{◌≡◌, refl, ◌⊎◌, List, [], ◌∷◌, true, ℕ, ◌+◌, ◌-◌, ◌*◌, ◌≤◌, ◌<◌, leb}
+use mathlib.Core.Logic.{inl, inr, ⊎_elim}
 use native.Mathlib.{Omega.arith, Nat.le_trans, Decide.dec_le}
-use lib.Dec.{leb}
 use borrow.Author.Tests.{leb-true, leb-false, eqb-true, eq-eqb}
-use Rattle.base.{specs.Answer.Answer, specs.Answer.value, specs.Answer.refusal, proofs.Bools.either_way}
-use Rattle.pll.specs.{Ranges.reference_min, Setting.vco_of, Setting.posts_of}
+use Rattle.base.specs.Answer.{Answer, value, refusal}
+use Rattle.base.proofs.Bools.{either_way}
 use Rattle.pll.specs.Search.{setting, distance, exact, keep, unless_nearer, nearest, first_or, candidates, search_of}
-use Rattle.pll.specs.{Law.VcoPermits, Law.Candidate, Law.RightAnswer, Walk.keys, Walk.key, Walk.rank_of}
-use Rattle.pll.specs.declared.PllConfig.{PllConfig}
-use Rattle.pll.proofs.Order.{Kind, Lists, lists-keep}
-use Rattle.pll.proofs.Candidates.{lists-candidates, a-candidate}
+use Rattle.pll.specs.{Ranges.reference_min, Setting.vco_of, Setting.posts_of, Law.VcoPermits, Law.Candidate, Law.RightAnswer}
+use Rattle.pll.specs.{Walk.keys, Walk.key, Walk.rank_of, declared.PllConfig.PllConfig}
 use Rattle.pll.proofs.Scores.{score-cases, score-exact, score-other, rank_is, Lowest, lowest-chosen}
+use Rattle.pll.proofs.{Order.Kind, Order.Lists, Order.lists-keep, Candidates.lists-candidates, Candidates.a-candidate}
 
 module _ (input target : ℕ) where
   -- the distance, and of equal distances the order, as one number

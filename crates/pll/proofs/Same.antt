@@ -1,10 +1,8 @@
 -- Settings with the same four dividers are the same.
-use mathlib.Core.{Path.◌≡◌, Path.refl, Bool.true, Bool.◌&&◌}
-use lib.Dec.{eqb}
+use Rattle.std.specs.Prelude.{◌≡◌, refl, true, ◌&&◌, eqb}
 use borrow.Author.Tests.{eqb-true, eq-eqb}
 use Rattle.std.proofs.lemmas.Bool.{and_parts}
-use Rattle.pll.specs.Setting.{same_setting}
-use Rattle.pll.specs.declared.PllConfig.{PllConfig}
+use Rattle.pll.specs.{Setting.same_setting, declared.PllConfig.PllConfig}
 
 pub same-path : (c d : PllConfig) → same_setting c d ≡ true → c ≡ d
 same-path c d e =

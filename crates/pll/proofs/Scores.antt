@@ -1,14 +1,11 @@
 -- The laws of the score, of the key (the order as one number) and of the rank.
-use mathlib.Core.{Path.◌≡◌, Path.refl, Logic.◌⊎◌, Logic.inl, Logic.inr, Logic.⊎_elim}
-use Prim.Native.Nat.{ℕ, ◌+◌, ◌-◌, ◌*◌, ◌/◌, ◌≤◌, ◌<◌}
+use Rattle.std.specs.Prelude.{◌≡◌, refl, ◌⊎◌, ℕ, ◌+◌, ◌-◌, ◌*◌, ◌/◌, ◌≤◌, ◌<◌, eqb}
+use mathlib.Core.Logic.{inl, inr, ⊎_elim}
 use native.Mathlib.{Omega.arith, Nat.div-le_self, Nat.le-div_iff_mul-le, Nat.div-lt_iff_lt-mul, Nat.div-mul-le_self, Nat.add-mul}
-use lib.Dec.{eqb}
 use borrow.Author.Tests.{eqb-true, eqb-false}
 use Rattle.base.proofs.Bools.{either_way}
-use Rattle.pll.specs.{Setting.vco_of, Setting.posts_of, Search.apart, Search.distance}
-use Rattle.pll.specs.Law.{Candidate, Exact, Before, Chosen}
-use Rattle.pll.specs.Walk.{keys, no_rank, score_of, key, rank_of}
-use Rattle.pll.specs.declared.PllConfig.{PllConfig}
+use Rattle.pll.specs.{Setting.vco_of, Setting.posts_of, Search.apart, Search.distance, Law.Candidate, Law.Exact, Law.Before}
+use Rattle.pll.specs.{Law.Chosen, Walk.keys, Walk.no_rank, Walk.score_of, Walk.key, Walk.rank_of, declared.PllConfig.PllConfig}
 
 module _ (v t d : ℕ) where
   -- a score is 0 with no remainder, else the distance and 1

@@ -1,10 +1,9 @@
 -- The steps of the walk down the feedback dividers: the two ends, the step to the next divider, and the whole walk.
-use mathlib.Core.{Path.◌≡◌, Path.refl, Path.◌∙◌, Logic.◌⊎◌, Logic.inl, Logic.inr, Logic.⊎_elim}
-use Prim.Native.Nat.{ℕ, min, ◌-◌, ◌≤◌, ◌<◌}
+use Rattle.std.specs.Prelude.{◌≡◌, refl, ◌⊎◌, ℕ, min, ◌-◌, ◌≤◌, ◌<◌}
+use mathlib.Core.{Path.◌∙◌, Logic.inl, Logic.inr, Logic.⊎_elim}
 use native.Mathlib.{Omega.arith, Omega.min_cases, Nat.eq-or-lt_of_le}
-use Rattle.pll.specs.Law.{HighestPermitted, LowestPermitted, Candidate}
 use Rattle.pll.specs.Walk.{keys, no_rank, rank_of, LowestRank, CandidatesAt, CandidatesTo}
-use Rattle.pll.specs.declared.PllConfig.{PllConfig}
+use Rattle.pll.specs.{Law.HighestPermitted, Law.LowestPermitted, Law.Candidate, declared.PllConfig.PllConfig}
 use Rattle.pll.proofs.{Candidates.candidate-permits, Scores.rank_is}
 
 module _ (input target fb : ℕ) where

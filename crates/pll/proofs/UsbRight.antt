@@ -1,22 +1,17 @@
 -- The first setting that fits is right by `UsbRight` (specs/UsbLaw).
-use mathlib.Core.{Path.◌≡◌, Path.refl, Path.sym, Path.ap, Path.subst, Logic.⊎_elim}
-use mathlib.Core.List.{List, [], ◌∷◌, ◌++◌, map, flat_map}
-use mathlib.Core.Bool.{Bool, true, false, ◌&&◌}
-use Prim.Native.Nat.{ℕ, zero, suc, ◌+◌, ◌*◌, ◌%◌}
+use Rattle.std.specs.Prelude.{◌≡◌, refl, List, [], ◌∷◌, ◌++◌, map, Bool, true, false, ◌&&◌, ℕ, zero, suc, ◌+◌, ◌*◌, ◌%◌, eqb}
+use mathlib.Core.{Path.sym, Path.ap, Path.subst, Logic.⊎_elim, List.flat_map}
 use native.Mathlib.{Omega.arith, Nat.mul-div_cancel, Numerals.add-one}
-use lib.Dec.{eqb}
 use borrow.Author.Tests.{eqb-true, eq-eqb}
 use Rattle.base.specs.Answer.{value, refusal}
 use Rattle.std.proofs.lemmas.Bool.{and_parts}
-use Rattle.pll.specs.{Ranges.feedback_max, Setting.vco_of, Setting.posts_of, Setting.output_hz, Setting.valid_of}
-use Rattle.pll.specs.{Search.rising, Search.settings, Search.keep, Search.first_or, Walk.key}
-use Rattle.pll.specs.{Usb.with_reference, Usb.usb_settings, Usb.usb_fits, Usb.usb_of, UsbLaw.UsbSetting, UsbLaw.UsbRight}
-use Rattle.pll.specs.UsbWalk.{NoneBelow, UsbRightAt}
+use Rattle.pll.specs.{Ranges.feedback_max, Setting.vco_of, Setting.posts_of, Setting.output_hz, Setting.valid_of, Search.rising}
+use Rattle.pll.specs.{Search.settings, Search.keep, Search.first_or, Walk.key, Usb.with_reference, Usb.usb_settings, Usb.usb_fits}
+use Rattle.pll.specs.{Usb.usb_of, UsbLaw.UsbSetting, UsbLaw.UsbRight, UsbWalk.NoneBelow, UsbWalk.UsbRightAt}
 use Rattle.pll.specs.declared.PllConfig.{PllConfig}
-use Rattle.pll.proofs.Candidates.{Posts, lists-settings}
 use Rattle.pll.proofs.Order.{Lists, UpTo, lists-keep, keep_append, keep-map}
-use Rattle.pll.proofs.{Scores.before-key, Sizes.posts-some, UsbSteps.usb-first, UsbSteps.usb-next, UsbSteps.usb-none}
-use Rattle.pll.proofs.Valid.{valid}
+use Rattle.pll.proofs.UsbSteps.{usb-first, usb-next, usb-none}
+use Rattle.pll.proofs.{Candidates.Posts, Candidates.lists-settings, Scores.before-key, Sizes.posts-some, Valid.valid}
 
 both : (a b : Bool) → a ≡ true → b ≡ true → (a && b) ≡ true
 both true b p q = q

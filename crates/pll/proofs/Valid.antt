@@ -1,8 +1,6 @@
 -- The ranges of a valid setting as inequalities, and the bounds of its output.
-use mathlib.Core.{Path.◌≡◌, Bool.true, Bool.◌&&◌}
-use Prim.Native.Nat.{ℕ, ◌≤◌}
+use Rattle.std.specs.Prelude.{◌≡◌, true, ◌&&◌, ℕ, ◌≤◌, leb}
 use native.Mathlib.{Nat.div-le_self, Omega.arith}
-use lib.Dec.{leb}
 use borrow.Author.Tests.{leb-true, le-leb}
 use Rattle.base.specs.Choice.{in_range}
 use Rattle.std.proofs.lemmas.Bool.{and_parts}

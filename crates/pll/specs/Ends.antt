@@ -1,6 +1,5 @@
 -- The highest and the lowest feedback divider that the search may take at an input, and the walk between them.
-use mathlib.Core.{Path.◌≡◌, Logic.◌⊎◌, List.List, List.[], List.◌∷◌}
-use Rattle.std.specs.Prelude.{ℕ, zero, suc, leb}
+use Rattle.std.specs.Prelude.{◌≡◌, ◌⊎◌, List, [], ◌∷◌, ℕ, zero, suc, leb}
 use Rattle.base.specs.{Choice.pick, Answer.Answer, Answer.value, Answer.refusal}
 use Rattle.pll.specs.{Ranges.feedback_max, Search.falling, Search.rising, Search.setting, Search.permitted}
 

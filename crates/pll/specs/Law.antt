@@ -1,10 +1,9 @@
 -- The right answer of the search (docs/PLL.md, Search), stated declaratively; `proofs/Right.antt` proves it of `search_of`.
-use mathlib.Core.{Path.◌≡◌, Logic.◌⊎◌, Logic.◌↔◌}
-use Rattle.std.specs.Prelude.{ℕ, ◌*◌, ◌≤◌, ◌<◌}
+use Rattle.std.specs.Prelude.{◌≡◌, ◌⊎◌, ◌↔◌, ℕ, ◌*◌, ◌≤◌, ◌<◌}
 use Rattle.base.specs.Answer.{Answer, value, refusal}
 use Rattle.pll.specs.Ranges.{reference_min, feedback_min, feedback_max, vco_min, vco_max}
-use Rattle.pll.specs.{Setting.vco_of, Setting.posts_of, Search.distance, Ends.lowest_of, Ends.highest_of, Ends.walked_of, Ends.Among}
-use Rattle.pll.specs.declared.PllConfig.{PllConfig}
+use Rattle.pll.specs.Ends.{lowest_of, highest_of, walked_of, Among}
+use Rattle.pll.specs.{Setting.vco_of, Setting.posts_of, Search.distance, declared.PllConfig.PllConfig}
 
 -- a VCO frequency of 750 to 1600 MHz
 pub record InVco (vco : ℕ) : Type 0 where

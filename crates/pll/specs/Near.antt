@@ -1,8 +1,7 @@
 -- The search by whole-hertz distance alone; `proofs/Near.antt` proves it of `search_of`.
 use Rattle.std.specs.Prelude.{◌≡◌, ℕ, ◌≤◌}
 use Rattle.base.specs.Answer.{value}
-use Rattle.pll.specs.{Search.distance, Search.search_of, Law.Candidate, Walk.key}
-use Rattle.pll.specs.declared.PllConfig.{PllConfig}
+use Rattle.pll.specs.{Search.distance, Search.search_of, Law.Candidate, Walk.key, declared.PllConfig.PllConfig}
 
 -- c is the nearest candidate by whole hertz, and of equally near ones the first in the order of the search
 pub record NearestOutput (input target : ℕ) (c : PllConfig) : Type 0 where

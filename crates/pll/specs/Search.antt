@@ -1,11 +1,10 @@
 -- The search for a setting (docs/PLL.md, Search): of all candidates in order, the first with no remainder, else the
 -- first that is nearest.
-use mathlib.Core.{List.List, List.[], List.◌∷◌, List.map, List.flat_map, Bool.Bool, Bool.◌&&◌}
-use Rattle.std.specs.Prelude.{ℕ, zero, suc, ◌+◌, ◌-◌, ◌*◌, leb, eqb}
+use Rattle.std.specs.Prelude.{List, [], ◌∷◌, map, Bool, ◌&&◌, ℕ, zero, suc, ◌+◌, ◌-◌, ◌*◌, leb, eqb}
+use mathlib.Core.List.{flat_map}
 use Rattle.base.specs.{Choice.pick, Choice.in_range, Answer.Answer, Answer.value, Answer.refusal}
 use Rattle.pll.specs.Ranges.{reference_min, feedback_min, feedback_max, vco_min, vco_max}
-use Rattle.pll.specs.Setting.{vco_of, posts_of, output_hz}
-use Rattle.pll.specs.declared.{PllConfig.PllConfig}
+use Rattle.pll.specs.{Setting.vco_of, Setting.posts_of, Setting.output_hz, declared.PllConfig.PllConfig}
 
 -- n, n - 1, .., 1
 unfoldable pub falling : ℕ → List ℕ

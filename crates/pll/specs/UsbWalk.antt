@@ -1,8 +1,7 @@
 -- Inside: the loop of the code over the reference dividers.
 use Rattle.std.specs.Prelude.{◌≡◌, ℕ, ◌<◌}
 use Rattle.base.specs.Answer.{Answer, value, refusal}
-use Rattle.pll.specs.{Law.Before, UsbLaw.UsbSetting}
-use Rattle.pll.specs.declared.PllConfig.{PllConfig}
+use Rattle.pll.specs.{Law.Before, UsbLaw.UsbSetting, declared.PllConfig.PllConfig}
 
 -- no setting has a reference divider below r
 abbrev pub NoneBelow : ℕ → ℕ → Type 0

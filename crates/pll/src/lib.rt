@@ -5,11 +5,9 @@ pub mod feedback;
 pub mod usb;
 mod walk;
 
-ghost use mathlib.Core.{Path.◌≡◌, Bool.true};
-ghost use Rattle.std.specs.Prelude.{◌*◌, ◌/◌, ◌^◌, ◌≤◌, ◌<◌, min};
+ghost use Rattle.std.specs.Prelude.{◌≡◌, true, ◌*◌, ◌/◌, ◌^◌, ◌≤◌, ◌<◌, min};
 ghost use Rattle.std.specs.{Option.SomeIff, Bool.then_some};
-ghost use Rattle.pll.specs.Setting.{posts_of, reference_of, vco_of, output_hz, dividers_of};
-ghost use Rattle.pll.specs.Setting.{valid_of, valid_hz, output_fits, output_of};
+ghost use Rattle.pll.specs.Setting.{posts_of, reference_of, vco_of, output_hz, dividers_of, valid_of, valid_hz, output_fits, output_of};
 ghost use Rattle.pll.specs.Search.{search_of};
 ghost use Rattle.base.specs.Answer.{answer_of};
 

@@ -1,7 +1,6 @@
 -- A plan is accepted where its refusal is none: the test for none, and what it says.
-use Rattle.std.specs.Prelude.{Option, Some, None}
+use Rattle.std.specs.Prelude.{Option, Some, None, true, false, ◌≡◌, refl}
 use Rattle.std.specs.Option.{is_none}
-use mathlib.Core.{Bool.true, Bool.false, Path.◌≡◌, Path.refl}
 
 pub some-held : {A : Type 0} (o : Option A) → (o ≡ None → ⊥) → is_none o ≡ false
 some-held (Some x) h = refl

@@ -1,29 +1,23 @@
 -- The plan that `plan_of` makes of a plan's settings has the same settings, and no larger multiplier or time.
-use Rattle.std.specs.Prelude.{Option, Some, None}
-use mathlib.Core.{Path.◌≡◌, Path.refl, Path.sym, Path.ap, Path.◌∙◌, Bool.false, List.List}
-use Prim.Native.Nat.{ℕ, ◌%◌, ◌^◌, ◌≤◌}
+use Rattle.std.specs.Prelude.{Option, Some, None, ◌≡◌, refl, false, List, ℕ, ◌%◌, ◌^◌, ◌≤◌, eqb}
+use mathlib.Core.Path.{sym, ap, ◌∙◌}
 use native.Mathlib.{Nat.mod-eq_of_lt, Omega.arith}
-use lib.Dec.{eqb}
 use borrow.Author.Tests.{ltb-false}
 use Rattle.base.proofs.Bools.{either_way}
 use Rattle.divider.specs.Delay.{settling_cycles, delay_of}
-use Rattle.config.specs.Board.{board_of, config_of}
+use Rattle.config.specs.ChipSettings.{chip_of, config_of}
 use Rattle.config.specs.declared.{ClockConfig.ClockConfig, XoscConfig.XoscConfig}
-use Rattle.settings.specs.declared.{Settings.Settings}
+use Rattle.settings.specs.{declared.Settings.Settings, Typed.Typed, Settings.crystal_of, Settings.ring_hz, Settings.settling_step}
+use Rattle.settings.specs.{Settings.settings_of, LeastPlan.xosc_for, LeastPlan.time_for, LeastPlan.plan_with, LeastPlan.plan_of}
 use Rattle.settings.proofs.Decoded.{config-back}
-use Rattle.settings.specs.Typed.{Typed}
-use Rattle.settings.specs.Settings.{crystal_of, ring_hz, settling_step, settings_of}
-use Rattle.refusals.specs.Rules.{startup_over, settling_over}
-use Rattle.refusals.specs.Refusals.{Accepted}
+use Rattle.refusals.specs.{Rules.startup_over, Rules.settling_over, Refusals.Accepted}
 use Rattle.refusals.proofs.Accepted.{accepted-by, whole-good}
 use lib.Seq.{take_all}
 use Rattle.step.specs.Sheet.{max_steps, encoded}
-use Rattle.sheet.specs.Steps.{steps_of}
-use Rattle.sheet.proofs.{Sheets.settings-back, Sheets.steps-formed, Sheets.steps-few}
-use Rattle.sheet.specs.Writer.{sheet_bytes}
-use Rattle.settings.specs.LeastPlan.{xosc_for, time_for, plan_with, plan_of}
-use Rattle.readback.specs.{Steps.steps_in, Steps.steps_read, Read.plan_in}
+use Rattle.sheet.specs.{Steps.steps_of, Writer.sheet_bytes}
+use Rattle.sheet.proofs.Sheets.{settings-back, steps-formed, steps-few}
 use Rattle.readback.specs.Law.{Gives, multiplier_in, multiplier_of, time_of, Back}
+use Rattle.readback.specs.{Steps.steps_in, Steps.steps_read, Read.plan_in}
 use Rattle.readback.proofs.{Numbers.smallest, Numbers.time-back, Decoded.steps-encoded, Fixed.settings-fixed}
 
 crystal-kept : (x : Option XoscConfig) → startup_over (crystal_of x) ≡ false
@@ -63,16 +57,16 @@ module _ (q : ClockConfig) (reading : ℕ) (ok : Accepted q reading) (t : Typed 
   abbrev mine : ClockConfig
   mine = plan_of (settings_of q reading)
 
-  settled-of : Settled reading (board_of q.chip).volts.code (time_of q) (ring_hz q.rosc)
+  settled-of : Settled reading (chip_of q.chip).volts.code (time_of q) (ring_hz q.rosc)
   settled-of = settled _ _ _ _ (accepted-by (settings_of q reading) reading ok 3)
 
   crystal-of : (crystal_of (xosc_for (crystal_of q.xosc)) ≡ crystal_of q.xosc)
       × (multiplier_in (xosc_for (crystal_of q.xosc)) ≤ multiplier_in q.xosc)
   crystal-of = crystal-kept q.xosc (accepted-by (settings_of q reading) reading ok 4)
 
-  chip-of : config_of (board_of q.chip) ≡ q.chip
+  chip-of : config_of (chip_of q.chip) ≡ q.chip
   chip-of =
-      let b = board_of q.chip in
+      let b = chip_of q.chip in
       config-back q.chip (whole-good _ b.whole (accepted-by (settings_of q reading) reading ok 9)).1 t.fraction
 
   -- A plan is the one with its own settings, crystal and time.

@@ -1,16 +1,14 @@
 -- Each position of a sheet has the step that `read_at` gives there, and the steps of a plan's sheet are the plan's steps.
-use mathlib.Core.{Path.◌≡◌, Path.refl, Path.sym, Path.ap, Path.◌∙◌, List.List, List.[], List.◌∷◌}
-use Prim.Native.Nat.{ℕ, zero, suc, ◌+◌, ◌*◌, ◌/◌, ◌≤◌, ◌<◌}
+use Rattle.std.specs.Prelude.{◌≡◌, refl, List, [], ◌∷◌, ℕ, zero, suc, ◌+◌, ◌*◌, ◌/◌, ◌≤◌, ◌<◌, length}
+use mathlib.Core.Path.{sym, ap, ◌∙◌}
 use native.Mathlib.{Decide.dec_lt, Nat.add-zero, Nat.zero-add, Omega.arith}
 use borrow.Author.Tests.{lt-ltb, le-ltb}
-use lib.{ListN.length, Seq.ext_get_or}
-use Rattle.step.specs.declared.Step.{Step}
-use Rattle.step.specs.declared.kind.Kind.TheVariants as kind
-use Rattle.step.specs.{Sheet.encoded, Sheet.AllFormed, Access.read_at}
+use lib.Seq.{ext_get_or}
+use Rattle.step.specs.{declared.Step.Step, Sheet.encoded, Sheet.AllFormed, Access.read_at}
 use Rattle.step.proofs.Sheets.{length-encoded, read-encoded}
-use Rattle.sheet.specs.Steps.{step0}
-use Rattle.sheet.specs.Read.{step_at}
+use Rattle.sheet.specs.{Steps.step0, Read.step_at}
 use Rattle.readback.specs.Steps.{step_or, steps_from, steps_in, taken_at, step_in}
+use Rattle.step.specs.declared.kind.Kind.TheVariants as kind
 
 pub length_from : (sheet : List ℕ) (i n : ℕ) → length (steps_from sheet i n) ≡ n
 length_from sheet i zero = refl

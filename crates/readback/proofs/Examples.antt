@@ -1,16 +1,13 @@
 -- The sheets of the crystal presets are read back to these presets with a settling time of 0.
-use mathlib.Core.Path.{◌≡◌}
-use Prim.Native.Nat.{ℕ}
+use Rattle.std.specs.Prelude.{◌≡◌, ℕ, Some}
 use Rattle.base.specs.Answer.{value}
 use Rattle.chip.specs.declared.Chip.TheVariants.{Rp2040, Rp235x}
-use Rattle.config.specs.declared.{ClockConfig.ClockConfig}
-use Rattle.std.specs.Prelude.{Some}
-use Rattle.config.specs.Presets.{crystal_plan}
+use Rattle.config.specs.{declared.ClockConfig.ClockConfig, Presets.crystal_plan}
 use Rattle.divider.specs.Delay.{startup_sum, cycles_per_us, settling_cycles}
 use Rattle.settings.specs.Settings.{settling_step, settings_of}
+use Rattle.settings.specs.LeastPlan.{multiplier_for, time_for, plan_with, plan_of}
 use Rattle.sheet.proofs.Examples.{crystal-steps, crystal-steps-235}
 use Rattle.sheet.specs.Writer.{sheet_bytes}
-use Rattle.settings.specs.LeastPlan.{multiplier_for, time_for, plan_with, plan_of}
 use Rattle.readback.specs.Read.{read_of}
 use Rattle.readback.proofs.Right.{written_read}
 

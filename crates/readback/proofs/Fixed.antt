@@ -1,27 +1,19 @@
 -- Truncation does not change the settings of an accepted plan.
-use Rattle.std.specs.Prelude.{Option, Some, None}
-use mathlib.Core.{Path.◌≡◌, Path.refl, Bool.false}
-use Prim.Native.Nat.{ℕ, ◌+◌, ◌%◌, ◌^◌, ◌≤◌, ◌<◌}
+use Rattle.std.specs.Prelude.{Option, Some, None, ◌≡◌, refl, false, ℕ, ◌+◌, ◌%◌, ◌^◌, ◌≤◌, ◌<◌}
 use native.Mathlib.{Nat.mod-eq_of_lt, Omega.arith}
 use borrow.Author.Tests.{ltb-false, not-false}
-use Rattle.pll.specs.Setting.{valid_of}
+use Rattle.pll.specs.{Setting.valid_of, declared.PllConfig.PllConfig}
 use Rattle.pll.proofs.Valid.{valid}
-use Rattle.config.specs.declared.RoscConfig.{RoscConfig}
-use Rattle.pll.specs.declared.PllConfig.{PllConfig}
-use Rattle.config.specs.declared.Board.{Board}
-use Rattle.config.specs.declared.{ClockConfig.ClockConfig, AuxClkConfig.AuxClkConfig}
-use Rattle.config.specs.declared.RtcClkConfig.{RtcClkConfig}
-use Rattle.config.specs.Board.{FractionFits}
-use Rattle.chip.specs.declared.{Chip.Chip, Chip.TheVariants.Rp2040, Chip.TheVariants.Rp235x}
-use Rattle.chip.specs.Chips.{facts_of}
-use Rattle.settings.specs.declared.Crystal.{Crystal}
-use Rattle.settings.specs.{Settings.ring_hz, Settings.settings_of, Frequencies.sources_of, Frequencies.frequencies_of}
-use Rattle.settings.specs.Typed.{RtcTyped, Typed}
-use Rattle.refusals.specs.Rules.{strengths_over, ring_divider_over, pll_invalid, sys_pll_invalid, usb_pll_invalid, whole_bad, rtc_bad}
-use Rattle.refusals.specs.Refusals.{Accepted}
+use Rattle.config.specs.declared.{RoscConfig.RoscConfig, ChipSettings.ChipSettings, ClockConfig.ClockConfig}
+use Rattle.config.specs.{declared.AuxClkConfig.AuxClkConfig, declared.RtcClkConfig.RtcClkConfig, ChipSettings.FractionFits}
+use Rattle.chip.specs.{declared.Chip.Chip, declared.Chip.TheVariants.Rp2040, declared.Chip.TheVariants.Rp235x, Chips.facts_of}
+use Rattle.settings.specs.{declared.Crystal.Crystal, Settings.ring_hz, Settings.settings_of, Frequencies.sources_of}
+use Rattle.settings.specs.{Frequencies.frequencies_of, Typed.RtcTyped, Typed.Typed}
+use Rattle.refusals.specs.Rules.{strengths_over, ring_divider_over, pll_invalid, sys_pll_invalid}
+use Rattle.refusals.specs.{Rules.usb_pll_invalid, Rules.whole_bad, Rules.rtc_bad, Refusals.Accepted}
 use Rattle.refusals.proofs.Accepted.{accepted-by, strengths-few, divider-good, whole-good, rtc-good}
 use Rattle.sheet.proofs.{Facts.AuxFits, Facts.aux-fits, Parts.ring-source}
-use Rattle.readback.specs.Cut.{cut_ring, cut_pll, cut_crystal, cut_aux, cut_rtc, cut_board, cut_settings}
+use Rattle.readback.specs.Cut.{cut_ring, cut_pll, cut_crystal, cut_aux, cut_rtc, cut_chip, cut_settings}
 
 fits : (w x : ℕ) → x < 2 ^ w → x % 2 ^ w ≡ x
 fits w x h = mod-eq_of_lt h
@@ -79,11 +71,11 @@ divider-wide Rp2040 = (omega arith, omega arith)
 divider-wide Rp235x = (omega arith, omega arith)
 
 -- The chip-specific part fits its types by the tests of acceptance and the bounds of the types.
-board-fixed : (b : Board) (source hz : ℕ) → FractionFits b → RtcTyped b.rtc → whole_bad (facts_of b.chip).top_whole b.whole ≡ false
-    → rtc_bad source hz b.rtc ≡ false → cut_board b ≡ b
-board-fixed b source hz t u w e =
-    let g = whole-good (facts_of b.chip).top_whole b.whole w in
-    let wide = divider-wide b.chip in
+chip-fixed : (b : ChipSettings) (source hz : ℕ) → FractionFits b → RtcTyped b.rtc → whole_bad (facts_of b.model).top_whole b.whole ≡ false
+    → rtc_bad source hz b.rtc ≡ false → cut_chip b ≡ b
+chip-fixed b source hz t u w e =
+    let g = whole-good (facts_of b.model).top_whole b.whole w in
+    let wide = divider-wide b.model in
     rw (fits 32 b.whole (omega arith), fits 16 b.fraction (omega arith), rtc-fixed source hz b.rtc u e)
 
 pub settings-fixed : (p : ClockConfig) (reading : ℕ) → Accepted p reading → Typed (settings_of p reading)
@@ -95,8 +87,8 @@ settings-fixed p reading ok t =
     let a = accepted-by s reading ok in
     let d = divider-good s.reference.div (a 7) in
     rw (
-      board-fixed s.board f.rtc_source f.rtc t.fraction t.rtc (a 9) (a 14),
-      ring-fixed (facts_of s.board.chip).pass s.rosc (rw (← ring-source s.rosc s.xosc) t.rosc) (a 1) (a 2),
+      chip-fixed s.chip f.rtc_source f.rtc t.fraction t.rtc (a 9) (a 14),
+      ring-fixed (facts_of s.chip.model).pass s.rosc (rw (← ring-source s.rosc s.xosc) t.rosc) (a 1) (a 2),
       crystal-fixed s.rosc s.xosc t.xosc (a 5) (a 6),
       fits 8 s.reference.div (omega arith),
       aux-fixed s.usb (aux-fits _ _ (a 12)),

@@ -1,20 +1,16 @@
 -- A call of a reader moves it on, and the steps that it has given so far are the first steps of the sheet.
-use Rattle.std.specs.Prelude.{Some, None, Result, Ok, Err}
+use Rattle.std.specs.Prelude.{Some, None, Result, Ok, Err, ◌≡◌, refl, List, [], ◌∷◌, ◌++◌, ℕ, suc, ◌+◌, ◌/◌, ◌≤◌, ◌<◌, length, take}
 use Rattle.std.specs.Result.{result_unwrap_or}
-use Rattle.base.specs.declared.refusal.Refusal.{Refusal}
-use mathlib.Core.{Path.◌≡◌, Path.refl, Path.sym, Path.ap, Path.◌∙◌, List.List, List.[], List.◌∷◌, List.◌++◌}
-use Prim.Native.Nat.{ℕ, suc, ◌+◌, ◌/◌, ◌≤◌, ◌<◌}
+use Rattle.base.specs.{declared.refusal.Refusal.Refusal, Answer.answer_in}
+use mathlib.Core.Path.{sym, ap, ◌∙◌}
 use native.Mathlib.{Decide.dec_lt, Omega.arith}
-use lib.{ListN.length, ListN.take, ListN.length-take, Seq.take-suc, Seq.take_all}
+use lib.{ListN.length-take, Seq.take-suc, Seq.take_all}
 use borrow.Author.Tests.{lt-ltb, le-ltb}
-use Rattle.base.specs.Answer.{answer_in}
-use Rattle.step.specs.declared.Step.{Step}
-use Rattle.step.specs.declared.kind.Kind.TheVariants as kind
-use Rattle.step.specs.Sheet.{max_steps}
+use Rattle.step.specs.{declared.Step.Step, Sheet.max_steps}
 use Rattle.sheet.specs.Steps.{step0}
-use Rattle.readback.specs.declared.Reader.{Reader}
-use Rattle.readback.specs.Steps.{step_in, steps_in, taken_at, MovesOn, steps_read}
+use Rattle.readback.specs.{declared.Reader.Reader, Steps.step_in, Steps.steps_in, Steps.taken_at, Steps.MovesOn, Steps.steps_read}
 use Rattle.readback.proofs.Decoded.{length_from, step_taken}
+use Rattle.step.specs.declared.kind.Kind.TheVariants as kind
 
 -- A call at the end gives nothing, and the reader stays.
 pub finds_none : (r : Reader) → answer_in None ≡ taken_at r.sheet.now r.at → MovesOn r None r

@@ -1,18 +1,14 @@
 -- The settings of a sheet consist of its parts, each read from the steps after the previous one.
-use Rattle.std.specs.Prelude.{Option, Some}
-use mathlib.Core.{Path.◌≡◌, Path.refl, Path.◌∙◌, List.List}
-use Prim.Native.Nat.{ℕ}
-use lib.ListN.{drop}
-use Rattle.config.specs.declared.{Board.Board}
-use Rattle.config.specs.Board.{board_of}
+use Rattle.std.specs.Prelude.{Option, Some, ◌≡◌, refl, List, ℕ, drop}
+use mathlib.Core.Path.{◌∙◌}
+use Rattle.config.specs.{declared.ChipSettings.ChipSettings, ChipSettings.chip_of, Codes.chip_from}
 use Rattle.settings.specs.declared.{Crystal.Crystal, Settings.Settings}
 use Rattle.step.specs.declared.Step.{Step}
 use Rattle.sheet.specs.Read.{Part, part, ◌then◌, step_at, read_pll, past_tick, read_rtc, settings_from}
-use Rattle.chip.specs.declared.{Chip.Chip, Chip.TheVariants.Rp2040, Chip.TheVariants.Rp235x}
-use Rattle.config.specs.Codes.{chip_from}
+use Rattle.chip.specs.declared.Chip.{Chip, TheVariants.Rp2040, TheVariants.Rp235x}
 use Rattle.readback.specs.Steps.{value_in, rest_in}
-use Rattle.readback.specs.Parse.{cut_part, ticks, chip_taken, ring_taken, voltage_taken, crystal_taken, ref_taken}
-use Rattle.readback.specs.Parse.{sys_taken, peri_taken, usb_taken, adc_taken}
+use Rattle.readback.specs.Parse.{cut_part, ticks, chip_taken, ring_taken, voltage_taken, crystal_taken, ref_taken, sys_taken}
+use Rattle.readback.specs.Parse.{peri_taken, usb_taken, adc_taken}
 
 then_is : {A B : Type 0} (p : Part A) (f : A → List Step → B) → (p then f) ≡ f (value_in p) (rest_in p)
 then_is (part a rest) f = refl
@@ -51,9 +47,9 @@ past-tick Rp2040 xs = refl
 past-tick Rp235x xs = refl
 
 -- The chip-specific part of the plan in common fields.
-abbrev pub board_there : ℕ → List Step → Board
-board_there reading xs =
-    board_of
+abbrev pub chip_there : ℕ → List Step → ChipSettings
+chip_there reading xs =
+    chip_of
     (chip_from (value_in (chip_taken xs)) (value_in (voltage_taken reading xs)).code
     (value_in (sys_taken reading xs)).whole (value_in (sys_taken reading xs)).fraction
     (read_rtc (rest_in (adc_taken reading xs))))
@@ -62,7 +58,7 @@ board_there reading xs =
 pub settings-there : (reading : ℕ) (xs : List Step)
     → ◌≡◌ {A = Settings} (settings_from reading xs)
     (record {
-      board = board_there reading xs;
+      chip = chip_there reading xs;
       rosc = value_in (ring_taken xs);
       xosc = value_in (crystal_taken reading xs);
       settling = (value_in (voltage_taken reading xs)).settling;

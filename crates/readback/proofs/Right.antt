@@ -1,39 +1,31 @@
 -- The answer of the code is the one that the law states, and by `readback-one` no other answer meets the law.
-use Rattle.std.specs.Prelude.{Option, Some, None}
-use mathlib.Core.{Path.◌≡◌, Path.refl, Path.sym, Path.ap, Path.◌∙◌, Bool.Bool, Bool.true, Bool.false, List.List, List.◌++◌}
-use Prim.Native.Nat.{ℕ, ◌/◌, ◌%◌, ◌^◌, ◌≤◌, ◌<◌}
+use Rattle.std.specs.Prelude.{Option, Some, None, ◌≡◌, refl, Bool, true, false, List, ◌++◌, ℕ, ◌/◌, ◌%◌, ◌^◌, ◌≤◌, ◌<◌, length}
+use Rattle.std.specs.Prelude.{get_or, ltb}
+use mathlib.Core.Path.{sym, ap, ◌∙◌}
 use native.Mathlib.{Nat.mod-lt, Omega.arith}
-use lib.{Pow.pow_pos, ListN.length, ListN.get_or, Dec.ltb}
+use lib.Pow.{pow_pos}
 use borrow.Author.Tests.{ltb-true, ltb-false, le-leb}
-use Rattle.base.{specs.Choice.pick, specs.Answer.Answer, specs.Answer.value, proofs.Bools.either_way}
+use Rattle.base.specs.{Choice.pick, Answer.Answer, Answer.value}
+use Rattle.base.proofs.Bools.{either_way}
 use Rattle.std.proofs.lemmas.Bool.{and_parts}
-use Rattle.text.proofs.Same.{same_true}
-use Rattle.text.proofs.Same.{same_refl}
-use Rattle.readback.proofs.Canonical.{plan-in, gives-in, back_in}
-use Rattle.readback.proofs.{Accepting.none-held, Unique.readback-one}
-use Rattle.config.specs.declared.{ClockConfig.ClockConfig, RoscConfig.RoscConfig}
-use Rattle.config.specs.declared.RtcClkConfig.{RtcClkConfig}
-use Rattle.chip.specs.declared.{Chip.Chip, Chip.TheVariants.Rp2040, Chip.TheVariants.Rp235x}
-use Rattle.chip.specs.Chips.{facts_of}
-use Rattle.config.specs.{Board.board_of, Board.FractionFits, Codes.chip_from}
-use Rattle.settings.specs.declared.Crystal.{Crystal}
-use Rattle.settings.specs.declared.Settings.{Settings}
-use Rattle.settings.specs.{Settings.crystal_of, Settings.ring_hz, Settings.settings_of, Frequencies.sources_of}
-use Rattle.settings.specs.Typed.{RtcTyped, Typed}
+use Rattle.text.proofs.Same.{same_true, same_refl}
+use Rattle.readback.proofs.{Canonical.plan-in, Canonical.gives-in, Canonical.back_in, Accepting.none-held, Unique.readback-one}
+use Rattle.config.specs.declared.{ClockConfig.ClockConfig, RoscConfig.RoscConfig, RtcClkConfig.RtcClkConfig}
+use Rattle.config.specs.{ChipSettings.chip_of, ChipSettings.FractionFits, Codes.chip_from}
+use Rattle.chip.specs.{declared.Chip.Chip, declared.Chip.TheVariants.Rp2040, declared.Chip.TheVariants.Rp235x, Chips.facts_of}
+use Rattle.settings.specs.Settings.{crystal_of, ring_hz, settings_of}
+use Rattle.settings.specs.{declared.Crystal.Crystal, declared.Settings.Settings, Frequencies.sources_of, Typed.RtcTyped}
+use Rattle.settings.specs.{Typed.Typed, LeastPlan.xosc_for, LeastPlan.plan_of}
 use Rattle.refusals.proofs.Accepted.{accepted-by}
 use Rattle.sheet.proofs.{Parts.ring-source, Demand3.same-sheets}
 use Rattle.refusals.specs.Refusals.{Accepted}
-use Rattle.step.specs.declared.Step.{Step}
-use Rattle.step.proofs.Sheets.{length-encoded}
-use Rattle.sheet.specs.Steps.{mark_steps, head_part, steps_of}
-use Rattle.step.specs.{Sheet.encoded, Steps.pack_of, Layout.widths, Bytes.bytes8}
 use Rattle.step.specs.Kinds.{kinds, kind_of, is}
-use Rattle.step.specs.declared.kind.Kind.TheVariants as kind
-use Rattle.sheet.specs.{Writer.sheet_bytes, Writer.refusal_in}
-use Rattle.readback.specs.Cut.{cut_ring, cut_crystal, cut_rtc, cut_settings}
-use Rattle.settings.specs.LeastPlan.{xosc_for, plan_of}
+use Rattle.step.specs.{declared.Step.Step, Sheet.encoded, Steps.pack_of, Layout.widths, Bytes.bytes8}
+use Rattle.step.proofs.Sheets.{length-encoded}
+use Rattle.sheet.specs.{Steps.mark_steps, Steps.head_part, Steps.steps_of, Writer.sheet_bytes, Writer.refusal_in}
 use Rattle.readback.specs.Law.{chip_in, top_reading, Gives, ReadBack, over, none, back}
-use Rattle.readback.specs.Read.{plan_in, gives, read_of}
+use Rattle.readback.specs.{Cut.cut_ring, Cut.cut_crystal, Cut.cut_rtc, Cut.cut_settings, Read.plan_in, Read.gives, Read.read_of}
+use Rattle.step.specs.declared.kind.Kind.TheVariants as kind
 
 -- Truncated numbers fit their types.
 few : (w x : ℕ) → x % 2 ^ w < 2 ^ w
@@ -53,14 +45,14 @@ rtc-typed (Some r) = few 8 r.div_frac
 rtc-typed None = tt
 
 chip-typed : (chip : Chip) (code whole fraction : ℕ) (o : Option RtcClkConfig)
-    → let b = board_of (chip_from chip code whole (fraction % (facts_of chip).scale) (cut_rtc o)) in FractionFits b × RtcTyped b.rtc
+    → let b = chip_of (chip_from chip code whole (fraction % (facts_of chip).scale) (cut_rtc o)) in FractionFits b × RtcTyped b.rtc
 chip-typed Rp2040 code whole fraction o = (few 8 fraction, rtc-typed o)
 chip-typed Rp235x code whole fraction o = (few 16 fraction, tt)
 
 plan-typed : (s : Settings) (reading : ℕ) → Typed (settings_of (plan_of (cut_settings s)) reading)
 unfolding plan_of cut_settings
 plan-typed s reading =
-    let chip = chip-typed s.board.chip _ _ _ s.board.rtc in
+    let chip = chip-typed s.chip.model _ _ _ s.chip.rtc in
     record {
       rosc = rw (ring-source (cut_ring s.rosc) (crystal_of (xosc_for (cut_crystal s.xosc)))) (ring-typed s.rosc);
       xosc = crystal-typed (cut_ring s.rosc) s.xosc;
@@ -129,12 +121,12 @@ mark-there chip ys =
     let xs : List Step = mark_steps chip ++ (head_part chip ++ ys) in
     rw (le-leb 8 (length (encoded xs)) (omega (arith, length-encoded xs, one-step chip ys)), first_kind chip ys) (by-mark chip)
 
-chip-there : (reading : ℕ) (s : Settings) → chip_in (encoded (steps_of reading s)) ≡ s.board.chip
+chip-there : (reading : ℕ) (s : Settings) → chip_in (encoded (steps_of reading s)) ≡ s.chip.model
 unfolding steps_of
-chip-there reading s = mark-there s.board.chip _
+chip-there reading s = mark-there s.chip.model _
 
 top-there : {sheet : List ℕ} {reading : ℕ} {q : ClockConfig} → Gives sheet reading q
-    → top_reading sheet ≡ (facts_of (board_of q.chip).chip).top_reading
+    → top_reading sheet ≡ (facts_of (chip_of q.chip).model).top_reading
 unfolding top_reading sheet_bytes
 top-there {sheet} {reading} {q} g =
     ap (λ (xs : List ℕ). (facts_of (chip_in xs)).top_reading) (sym g.bytes)
@@ -144,7 +136,7 @@ top-there {sheet} {reading} {q} g =
 in_reach : {sheet : List ℕ} {reading : ℕ} {q : ClockConfig} → Gives sheet reading q → reading ≤ top_reading sheet
 in_reach {sheet} {reading} {q} g =
     let s : Settings = settings_of q reading in
-    rw (top-there g) (ltb-false (facts_of s.board.chip).top_reading reading (accepted-by s reading g.accepted 18))
+    rw (top-there g) (ltb-false (facts_of s.chip.model).top_reading reading (accepted-by s reading g.accepted 18))
 
 -- The sheet of an accepted plan is read back to the smallest plan with its settings.
 pub written_read : (q : ClockConfig) (reading : ℕ) → Typed (settings_of q reading) → Accepted q reading

@@ -1,18 +1,15 @@
 -- The steps that a reader gives one after another are the steps of the sheet.
-use Rattle.std.specs.Prelude.{None}
-use mathlib.Core.{Path.◌≡◌, Path.refl, Path.ap, Path.◌∙◌, List.List, List.◌∷◌}
-use Prim.Native.Nat.{ℕ, zero, suc, ◌+◌, ◌/◌, ◌≤◌, ◌<◌}
-use native.Mathlib.{Omega.arith}
-use lib.{ListN.length, ListN.take, ListN.drop, Seq.drop-cons, Seq.take_all}
+use Rattle.std.specs.Prelude.{None, ◌≡◌, refl, List, ◌∷◌, ℕ, zero, suc, ◌+◌, ◌/◌, ◌≤◌, ◌<◌, length, take, drop}
+use mathlib.Core.Path.{ap, ◌∙◌}
+use native.Mathlib.Omega.{arith}
+use lib.Seq.{drop-cons, take_all}
 use borrow.Author.Tests.{lt-ltb, le-ltb}
 use denote.Ref.{Bor}
 use Rattle.step.specs.declared.Step.{Step}
-use Rattle.step.specs.declared.kind.Kind.TheVariants as kind
-use Rattle.sheet.specs.Steps.{step0}
-use Rattle.sheet.specs.Read.{step_at}
-use Rattle.readback.specs.declared.Reader.{Reader}
-use Rattle.readback.specs.Steps.{steps_in, taken_at, next_step, moved, nexts}
+use Rattle.sheet.specs.{Steps.step0, Read.step_at}
+use Rattle.readback.specs.{declared.Reader.Reader, Steps.steps_in, Steps.taken_at, Steps.next_step, Steps.moved, Steps.nexts}
 use Rattle.readback.proofs.Decoded.{length_from, step_past}
+use Rattle.step.specs.declared.kind.Kind.TheVariants as kind
 
 module _ (s : Bor (List ℕ)) where
   abbrev pub reader_at : ℕ → Reader

@@ -1,16 +1,13 @@
 -- The law of reading back allows exactly one answer.
-use Rattle.std.specs.Prelude.{Option, Some, None}
-use mathlib.Core.{Path.◌≡◌, Path.refl, Path.sym, Path.ap, Path.◌∙◌, List.List}
-use Prim.Native.Nat.{ℕ}
+use Rattle.std.specs.Prelude.{Option, Some, None, ◌≡◌, refl, List, ℕ}
+use mathlib.Core.Path.{sym, ap, ◌∙◌}
 use native.Mathlib.Omega.{arith}
 use Rattle.base.specs.Answer.{Answer, value}
 use Rattle.config.specs.declared.{ClockConfig.ClockConfig, XoscConfig.XoscConfig}
 use Rattle.pll.specs.declared.PllConfig.{PllConfig}
-use Rattle.settings.specs.declared.{Crystal.Crystal}
-use Rattle.settings.specs.declared.Settings.{Settings}
 use Rattle.settings.specs.Settings.{crystal_of, settings_of}
+use Rattle.settings.specs.{declared.Crystal.Crystal, declared.Settings.Settings, LeastPlan.plan_with}
 use Rattle.sheet.proofs.Demand3.{same-sheets}
-use Rattle.settings.specs.LeastPlan.{plan_with}
 use Rattle.readback.proofs.Canonical.{planned}
 use Rattle.readback.specs.Law.{multiplier_in, time_of, Back, ReadBack, over, none, back}
 

@@ -1,16 +1,13 @@
 -- A number over 255 is not a voltage code, and neither is 255, so clamping to 255 does not change the decoded voltage.
-use mathlib.Core.{Path.◌≡◌, Path.refl, Path.sym, Path.◌∙◌}
-use Prim.Native.Nat.{ℕ, min}
+use Rattle.std.specs.Prelude.{◌≡◌, refl, ℕ, min, ltb, Result, Ok, Err}
+use mathlib.Core.Path.{sym, ◌∙◌}
 use native.Mathlib.Omega.{arith}
-use lib.Dec.{ltb}
 use borrow.Author.Tests.{ltb-true, ltb-false}
-use Rattle.chip.specs.declared.Chip.{Chip}
-use Rattle.std.specs.Prelude.{Result, Ok, Err}
+use Rattle.chip.specs.{declared.Chip.Chip, Voltage.VoltageOf, Voltage.core_voltage_of}
 use Rattle.std.specs.Result.{result_unwrap_or}
-use Rattle.base.specs.declared.refusal.Refusal.{Refusal}
-use Rattle.base.{specs.Answer.answer_of, proofs.Bools.either_way}
+use Rattle.base.specs.{declared.refusal.Refusal.Refusal, Answer.answer_of}
+use Rattle.base.proofs.Bools.{either_way}
 use Rattle.config.specs.Codes.{value_or}
-use Rattle.chip.specs.Voltage.{VoltageOf, core_voltage_of}
 use Rattle.chip.proofs.Codes.{no_code}
 
 pub least-code : (chip : Chip) (code : ℕ) → core_voltage_of chip (min code 255) ≡ core_voltage_of chip code

@@ -1,13 +1,9 @@
 -- Settings with each number truncated to its type. The settings of an accepted plan do not change.
-use Rattle.std.specs.Prelude.{Option, Some, None}
-use Rattle.std.specs.Prelude.{ℕ, ◌%◌, ◌^◌}
-use Rattle.config.specs.declared.RoscConfig.{RoscConfig}
+use Rattle.std.specs.Prelude.{Option, Some, None, ℕ, ◌%◌, ◌^◌}
+use Rattle.config.specs.declared.{RoscConfig.RoscConfig, RefClkConfig.RefClkConfig, AuxClkConfig.AuxClkConfig}
+use Rattle.config.specs.declared.{RtcClkConfig.RtcClkConfig, ChipSettings.ChipSettings}
 use Rattle.pll.specs.declared.PllConfig.{PllConfig}
-use Rattle.config.specs.declared.{RefClkConfig.RefClkConfig, AuxClkConfig.AuxClkConfig}
-use Rattle.config.specs.declared.RtcClkConfig.{RtcClkConfig}
-use Rattle.config.specs.declared.Board.{Board}
-use Rattle.settings.specs.declared.Crystal.{Crystal}
-use Rattle.settings.specs.declared.Settings.{Settings}
+use Rattle.settings.specs.declared.{Crystal.Crystal, Settings.Settings}
 
 -- The low 8, 16 and 32 bits of a number, for u8, u16 and u32.
 abbrev pub byte : ℕ → ℕ
@@ -74,14 +70,14 @@ cut_rtc None = None
 abbrev pub cut_ref : RefClkConfig → RefClkConfig
 cut_ref c = record { src = c.src; div = byte c.div }
 
-abbrev pub cut_board : Board → Board
-cut_board b =
-    record { chip = b.chip; volts = b.volts; whole = word b.whole; fraction = half b.fraction; rtc = cut_rtc b.rtc }
+abbrev pub cut_chip : ChipSettings → ChipSettings
+cut_chip c =
+    record { model = c.model; volts = c.volts; whole = word c.whole; fraction = half c.fraction; rtc = cut_rtc c.rtc }
 
 unfoldable pub cut_settings : Settings → Settings
 cut_settings s =
     record {
-      board = cut_board s.board;
+      chip = cut_chip s.chip;
       rosc = cut_ring s.rosc;
       xosc = cut_crystal s.xosc;
       settling = s.settling;

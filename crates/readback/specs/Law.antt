@@ -1,19 +1,14 @@
 -- The answer of reading a sheet back, stated declaratively (docs/FORMAT.md, Reading a sheet back). The law allows exactly one
 -- answer, as `readback-one` shows.
-use Rattle.std.specs.Prelude.{Option, Some, None}
-use mathlib.Core.{Path.◌≡◌, Bool.◌&&◌, List.List}
-use Rattle.std.specs.Prelude.{ℕ, ◌/◌, ◌≤◌, ◌<◌}
-use lib.{ListN.length, ListN.get_or, Dec.leb}
+use Rattle.std.specs.Prelude.{Option, Some, None, ◌≡◌, ◌&&◌, List, ℕ, ◌/◌, ◌≤◌, ◌<◌, length, get_or, leb}
 use Rattle.base.specs.{Choice.pick, Answer.Answer, Answer.value, Answer.refusal}
-use Rattle.chip.specs.declared.{Chip.Chip, Chip.TheVariants.Rp2040, Chip.TheVariants.Rp235x}
-use Rattle.chip.specs.Chips.{facts_of}
+use Rattle.chip.specs.{declared.Chip.Chip, declared.Chip.TheVariants.Rp2040, declared.Chip.TheVariants.Rp235x, Chips.facts_of}
 use Rattle.step.specs.Kinds.{kind_of, is}
-use Rattle.step.specs.declared.kind.Kind.TheVariants as kind
-use Rattle.config.specs.declared.{ClockConfig.ClockConfig, XoscConfig.XoscConfig}
-use Rattle.config.specs.Board.{board_of}
+use Rattle.config.specs.{declared.ClockConfig.ClockConfig, declared.XoscConfig.XoscConfig, ChipSettings.chip_of}
 use Rattle.settings.specs.{Settings.settling_time, Settings.settings_of, Typed.Typed}
 use Rattle.refusals.specs.Refusals.{Accepted}
 use Rattle.sheet.specs.Writer.{sheet_bytes}
+use Rattle.step.specs.declared.kind.Kind.TheVariants as kind
 
 -- The chip of a sheet: a first step of kind 38 means the RP235x, anything else the RP2040. A step has 8 bytes, and its kind is
 -- the first six bits of the first byte, whatever bits follow.
@@ -40,7 +35,7 @@ multiplier_of p = multiplier_in p.xosc
 
 -- The settling time of a plan, given or the voltage's default.
 abbrev pub time_of : ClockConfig → ℕ
-time_of p = settling_time p.voltage_stabilization_delay_us (board_of p.chip).volts.settling_us
+time_of p = settling_time p.voltage_stabilization_delay_us (chip_of p.chip).volts.settling_us
 
 -- The plan that is answered gives the bytes, with the smallest multiplier and the smallest time of all plans that do. Its time is
 -- given, and it is 0 where there is no settling step.

@@ -1,23 +1,17 @@
 -- Inside: the parts of a sheet as the code reads them: a truncated value, and the steps after the part.
-use Rattle.std.specs.Prelude.{Option, Some}
-use Rattle.config.specs.declared.RoscConfig.{RoscConfig}
-use Rattle.config.specs.declared.PeriClkSrc.{PeriClkSrc}
-use Rattle.config.specs.declared.AuxClkConfig.{AuxClkConfig}
-use mathlib.Core.{Path.◌≡◌, List.List}
-use Rattle.std.specs.Prelude.{ℕ, ◌-◌, drop}
-use Rattle.chip.specs.declared.{Chip.Chip, Chip.TheVariants.Rp2040, Chip.TheVariants.Rp235x}
+use Rattle.std.specs.Prelude.{Option, Some, ◌≡◌, List, ℕ, ◌-◌, drop}
+use Rattle.config.specs.declared.{RoscConfig.RoscConfig, PeriClkSrc.PeriClkSrc, AuxClkConfig.AuxClkConfig}
+use Rattle.config.specs.{declared.RefClkConfig.RefClkConfig, Codes.range_from}
+use Rattle.chip.specs.{declared.Chip.Chip, declared.Chip.TheVariants.Rp2040, declared.Chip.TheVariants.Rp235x, Chips.facts_of}
 use Rattle.pll.specs.declared.PllConfig.{PllConfig}
-use Rattle.config.specs.declared.RefClkConfig.{RefClkConfig}
 use Rattle.settings.specs.declared.Crystal.{Crystal}
-use Rattle.chip.specs.Chips.{facts_of}
-use Rattle.step.specs.declared.kind.Kind.TheVariants as kind
-use Rattle.readback.specs.{Steps.value_in, Steps.rest_in}
+use Rattle.readback.specs.Steps.{value_in, rest_in}
 use Rattle.readback.specs.declared.{oscillators.Voltage.Voltage as VoltageRead, clocks.Sys.Sys as SysRead}
 use denote.Ref.{Bor}
 use Rattle.step.specs.declared.Step.{Step}
-use Rattle.config.specs.Codes.{range_from}
 use Rattle.sheet.specs.Read.{Part, part, Voltage, Sys, read_chip, read_ring, read_voltage, read_crystal, read_ref, past_tick}
 use Rattle.sheet.specs.Read.{read_sys, read_peri, read_aux}
+use Rattle.step.specs.declared.kind.Kind.TheVariants as kind
 
 -- A part with its value truncated.
 abbrev pub cut_part : {A : Type 0} → (A → A) → Part A → Part A

@@ -1,16 +1,11 @@
 -- The steps of a sheet's bytes, one for each eight bytes, and the readers that take them.
-use Rattle.std.specs.Prelude.{List, [], ◌∷◌, ℕ, zero, suc, ◌+◌, ◌-◌, ◌*◌, ◌/◌, ◌≡◌, Option, Some, None, Result}
+use Rattle.std.specs.Prelude.{List, [], ◌∷◌, ℕ, zero, suc, ◌+◌, ◌-◌, ◌*◌, ◌/◌, ◌≡◌, Option, Some, None, Result, length, take, ltb}
 use Rattle.std.specs.Iterator.{Count, at_most}
-use lib.{ListN.length, ListN.take, Dec.ltb}
-use Rattle.base.specs.{Answer.Answer, Answer.value, Answer.refusal, Answer.answer_in, Choice.pick}
-use Rattle.base.specs.declared.refusal.Refusal.{Refusal}
-use Rattle.step.specs.declared.Step.{Step}
-use Rattle.step.specs.declared.kind.Kind.TheVariants as kind
-use Rattle.step.specs.Access.{read_at}
-use Rattle.sheet.specs.Steps.{step0}
-use Rattle.step.specs.Sheet.{max_steps}
-use Rattle.sheet.specs.Read.{Part, part, step_at}
+use Rattle.base.specs.{Answer.Answer, Answer.value, Answer.refusal, Answer.answer_in, Choice.pick, declared.refusal.Refusal.Refusal}
+use Rattle.step.specs.{declared.Step.Step, Access.read_at, Sheet.max_steps}
+use Rattle.sheet.specs.{Steps.step0, Read.Part, Read.part, Read.step_at}
 use Rattle.readback.specs.declared.Reader.{Reader}
+use Rattle.step.specs.declared.kind.Kind.TheVariants as kind
 
 -- The step of an answer; a refusal gives a step of kind 0, which no sheet has.
 abbrev pub step_or : Answer Step → Step

@@ -1,16 +1,16 @@
 // Reads the clocks and the chip-specific part of a plan from the steps of a sheet.
 ghost use Rattle.std.specs.Prelude.{◌≡◌};
-ghost use Rattle.config.specs.{Board.board_of, Codes.chip_from};
+ghost use Rattle.config.specs.{ChipSettings.chip_of, Codes.chip_from};
 ghost use Rattle.sheet.specs.Read.{read_ref, read_sys, read_peri, read_aux, read_rtc};
-ghost use Rattle.readback.specs.Cut.{cut_ref, cut_aux, cut_rtc, cut_board};
-ghost use Rattle.readback.specs.Parse.{Reads, ticks, sys_at};
+ghost use Rattle.readback.specs.{Cut.cut_ref, Cut.cut_aux, Cut.cut_rtc, Cut.cut_chip, Parse.Reads, Parse.ticks, Parse.sys_at};
 
 use crate::codes;
 use crate::held::{ahead, past};
 use chip::Chip;
 use chip::voltage::{CoreVoltage, CoreVoltage235, Voltage};
 use config::{
-    AuxClkConfig, AuxClkSrc, Board, PeriClkSrc, RefClkConfig, RefClkSrc, RtcClkConfig, SysClkSrc,
+    AuxClkConfig, AuxClkSrc, ChipSettings, PeriClkSrc, RefClkConfig, RefClkSrc, RtcClkConfig,
+    SysClkSrc,
 };
 use step::{Kind, Step};
 
@@ -111,8 +111,8 @@ fn read_rtc(s: &[Step]) -> Option<RtcClkConfig>
 
 // The chip-specific part in common fields. The steps start with the RTC part where the chip has one.
 #[tactic(auto, using(crate::proofs::Voltages::decodes))]
-pub(crate) fn read_board(s: &[Step], chip: Chip, code: u64, sys: Sys) -> Board
-    ensures { result ≡ cut_board (board_of (chip_from chip code sys.whole sys.fraction (read_rtc s.now))) }
+pub(crate) fn read_chip_settings(s: &[Step], chip: Chip, code: u64, sys: Sys) -> ChipSettings
+    ensures { result ≡ cut_chip (chip_of (chip_from chip code sys.whole sys.fraction (read_rtc s.now))) }
 {
     let (volts, rtc) = match chip {
         Chip::Rp2040 => (
@@ -124,8 +124,8 @@ pub(crate) fn read_board(s: &[Step], chip: Chip, code: u64, sys: Sys) -> Board
             None,
         ),
     };
-    Board {
-        chip,
+    ChipSettings {
+        model: chip,
         volts,
         whole: codes::cut32(sys.whole),
         fraction: codes::cut16(sys.fraction),

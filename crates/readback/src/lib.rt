@@ -10,8 +10,7 @@ mod parse;
 ghost use Rattle.std.specs.Prelude.{◌≡◌};
 ghost use Rattle.base.specs.Answer.{answer_of, answer_in};
 ghost use Rattle.readback.specs.Steps.{taken_at, left_in, MovesOn, steps_read};
-ghost use Rattle.readback.specs.Law.{chip_in, top_reading};
-ghost use Rattle.readback.specs.Read.{gives, read_of};
+ghost use Rattle.readback.specs.{Law.chip_in, Law.top_reading, Read.gives, Read.read_of};
 
 use crate::held::NO_STEP;
 use base::Refusal;

@@ -24,7 +24,7 @@ pub(crate) fn settings_in(steps: &[Step], reading: u8) -> Settings
     let (usb, rest) = clocks::read_aux(rest, Kind::UsbDivider);
     let (adc, rest) = clocks::read_aux(rest, Kind::AdcDivider);
     Settings {
-        board: clocks::read_board(rest, on, voltage.code, sys),
+        chip: clocks::read_chip_settings(rest, on, voltage.code, sys),
         rosc,
         xosc,
         settling: voltage.settling,

@@ -1,16 +1,11 @@
 -- For accepted settings each test is false; the bounds that these tests give follow.
-use mathlib.Core.{Path.◌≡◌, Path.refl, Bool.Bool, Bool.true, Bool.false, Bool.◌||◌, List.List, List.[], List.◌∷◌}
-use Rattle.std.specs.Prelude.{Some, None}
-use Prim.Native.Nat.{ℕ, ◌≤◌, ◌<◌}
-use lib.Dec.{eqb, leb, ltb}
+use Rattle.std.specs.Prelude.{◌≡◌, refl, Bool, true, false, ◌||◌, List, [], ◌∷◌, Some, None, ℕ, ◌≤◌, ◌<◌, eqb, leb, ltb}
 use borrow.Author.Tests.{leb-false, ltb-false, not-false}
-use Rattle.base.specs.declared.refusal.Refusal.{Refusal}
-use Rattle.base.specs.{Choice.pick, Choice.in_range, Refusals.number_of}
+use Rattle.base.specs.{declared.refusal.Refusal.Refusal, Choice.pick, Choice.in_range, Refusals.number_of}
 use Rattle.std.proofs.lemmas.Bool.{or_parts}
 use Rattle.base.proofs.Bools.{either_way, in-range}
 use Rattle.config.specs.declared.{DriveStrength.DriveStrength, RtcClkConfig.RtcClkConfig}
-use Rattle.settings.specs.declared.Settings.{Settings}
-use Rattle.settings.specs.Frequencies.{frequencies_of}
+use Rattle.settings.specs.{declared.Settings.Settings, Frequencies.frequencies_of}
 use Rattle.refusals.specs.Rules.{strength_over, divider_bad, reference_bad, whole_bad, rtc_bad}
 use Rattle.refusals.specs.Refusals.{tests_of, first, refusal_of}
 

@@ -1,18 +1,14 @@
 -- The default plan is refused with 8 at every reading that its chip can have, as its reference clock has 0 Hz.
-use Rattle.std.specs.Prelude.{Option, Some, None}
-use mathlib.Core.{Path.◌≡◌, Path.refl, Bool.Bool, Bool.true, Bool.false}
-use Prim.Native.Nat.{ℕ, ◌≤◌}
-use lib.Dec.{eqb}
+use Rattle.std.specs.Prelude.{Option, Some, None, ◌≡◌, refl, Bool, true, false, ℕ, ◌≤◌, eqb}
 use borrow.Author.Tests.{le-ltb}
-use Rattle.base.specs.declared.refusal.Refusal.TheVariants as why
 use Rattle.base.specs.Choice.{pick}
-use Rattle.chip.specs.declared.{Chip.Chip, Chip.TheVariants.Rp2040, Chip.TheVariants.Rp235x}
-use Rattle.chip.specs.Chips.{facts_of}
+use Rattle.chip.specs.{declared.Chip.Chip, declared.Chip.TheVariants.Rp2040, declared.Chip.TheVariants.Rp235x, Chips.facts_of}
 use Rattle.config.specs.Presets.{default_plan}
 use Rattle.settings.specs.{Settings.settling_step, Settings.settings_of, Frequencies.sources_of, Frequencies.ref_hz}
 use Rattle.refusals.specs.Rules.{strengths_over, ring_divider_over, settling_over, startup_over, sys_pll_invalid, usb_pll_invalid}
 use Rattle.refusals.specs.Rules.{divider_bad, reference_bad}
 use Rattle.refusals.specs.Refusals.{refusal_of}
+use Rattle.base.specs.declared.refusal.Refusal.TheVariants as why
 
 calmly : (b : Bool) → settling_over (pick {A = Option ℕ} b None None) ≡ false
 unfolding settling_over

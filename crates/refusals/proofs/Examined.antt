@@ -1,10 +1,7 @@
 -- What the answer of `examine` says: a refusal is that of the settings, and frequencies are theirs, which are accepted.
-use mathlib.Core.Path.{◌≡◌, refl}
-use Prim.Native.Nat.{ℕ}
-use Rattle.std.specs.Prelude.{Option, Some, None, Ok, Err}
+use Rattle.std.specs.Prelude.{◌≡◌, refl, ℕ, Option, Some, None, Ok, Err}
 use Rattle.base.specs.declared.refusal.Refusal.{Refusal}
-use Rattle.settings.specs.declared.{Settings.Settings, Frequencies.Frequencies}
-use Rattle.settings.specs.Frequencies.{frequencies_of}
+use Rattle.settings.specs.{declared.Settings.Settings, declared.Frequencies.Frequencies, Frequencies.frequencies_of}
 use Rattle.refusals.specs.Refusals.{refusal_of, unless_refused, examined_of}
 
 module _ (s : Settings) (reading : ℕ) where

@@ -1,23 +1,19 @@
 -- A plan with the PLLs that the searches find is never refused with 5 or 6, and its USB clock has 48 MHz.
-use mathlib.Core.{Path.◌≡◌, Path.refl, Path.sym, Path.subst, Path.ap, Bool.Bool, Bool.true, Bool.false, Bool.◌&&◌, Bool.◌||◌}
-use mathlib.Core.List.{List, [], ◌∷◌}
-use Rattle.std.specs.Prelude.{Some}
-use Prim.Native.Nat.{ℕ}
-use lib.Dec.{eqb}
+use Rattle.std.specs.Prelude.{◌≡◌, refl, Bool, true, false, ◌&&◌, ◌||◌, List, [], ◌∷◌, Some, ℕ, eqb}
+use mathlib.Core.Path.{sym, subst, ap}
 use borrow.Author.Tests.{eq-eqb}
-use Rattle.base.specs.declared.refusal.Refusal.{Refusal}
-use Rattle.base.specs.declared.refusal.Refusal.TheVariants as why
-use Rattle.base.{specs.Answer.value, specs.Refusals.number_of, proofs.Bools.either_way}
+use Rattle.base.specs.{declared.refusal.Refusal.Refusal, Answer.value, Refusals.number_of}
+use Rattle.base.proofs.Bools.{either_way}
 use Rattle.chip.specs.declared.Chip.{Chip}
 use Rattle.pll.specs.Setting.{valid_of}
 use Rattle.pll.proofs.{Inputs.found-valid, UsbRight.usb-found, UsbRight.usb-output}
-use Rattle.config.specs.declared.{RoscRange.RoscRange, ClockConfig.ClockConfig}
 use Rattle.config.specs.Presets.{ring_config, feeding_both, from_plls, system_voltage, system_plan_from}
+use Rattle.config.specs.declared.{RoscRange.RoscRange, ClockConfig.ClockConfig}
 use Rattle.config.proofs.Systems.{Found, system-from-found}
-use Rattle.settings.specs.declared.Settings.{Settings}
-use Rattle.settings.specs.{Settings.settings_of, Frequencies.pll_hz, Frequencies.sources_of, Frequencies.frequencies_of}
-use Rattle.refusals.specs.Rules.{sys_pll_invalid, usb_pll_invalid}
-use Rattle.refusals.specs.Refusals.{tests_of, first, refusal_of}
+use Rattle.settings.specs.Frequencies.{pll_hz, sources_of, frequencies_of}
+use Rattle.settings.specs.{declared.Settings.Settings, Settings.settings_of}
+use Rattle.refusals.specs.{Rules.sys_pll_invalid, Rules.usb_pll_invalid, Refusals.tests_of, Refusals.first, Refusals.refusal_of}
+use Rattle.base.specs.declared.refusal.Refusal.TheVariants as why
 
 -- A test of this refusal holds.
 abbrev holds_for : Refusal → List (Refusal × Bool) → Bool

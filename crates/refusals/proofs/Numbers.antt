@@ -1,20 +1,15 @@
 -- The refusal of settings is 18 exactly where the reading is over the chip's greatest; otherwise there is none or one of 1 to 14.
-use mathlib.Core.{Path.◌≡◌, Bool.Bool, Bool.true, Bool.false, List.List, List.[], List.◌∷◌}
-use Rattle.std.specs.Prelude.{Some}
-use Prim.Native.Nat.{ℕ, ◌≤◌, ◌<◌}
+use Rattle.std.specs.Prelude.{◌≡◌, Bool, true, false, List, [], ◌∷◌, Some, ℕ, ◌≤◌, ◌<◌, drop}
 use native.Mathlib.{Omega.arith, Decide.dec_le}
-use lib.ListN.{drop}
 use borrow.Author.Tests.{lt-ltb, le-ltb}
-use Rattle.base.specs.declared.refusal.Refusal.{Refusal}
-use Rattle.base.specs.declared.refusal.Refusal.TheVariants as why
-use Rattle.base.specs.Refusals.{number_of}
+use Rattle.base.specs.{declared.refusal.Refusal.Refusal, Refusals.number_of}
 use Rattle.chip.specs.Chips.{facts_of}
-use Rattle.settings.specs.declared.Settings.{Settings}
-use Rattle.settings.specs.Frequencies.{frequencies_of}
+use Rattle.settings.specs.{declared.Settings.Settings, Frequencies.frequencies_of}
 use Rattle.refusals.specs.Refusals.{tests_of, first, refusal_of}
+use Rattle.base.specs.declared.refusal.Refusal.TheVariants as why
 
 abbrev pub top : Settings → ℕ
-top s = (facts_of s.board.chip).top_reading
+top s = (facts_of s.chip.model).top_reading
 
 pub record Numbered (s : Settings) (reading : ℕ) : Type 0 where
   pub over : top s < reading → refusal_of s reading ≡ Some why.VoltageReading

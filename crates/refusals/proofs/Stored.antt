@@ -1,17 +1,12 @@
 -- Every frequency that the sheet of an accepted plan stores fits in 32 bits, and the RTC's in 16.
-use Rattle.std.specs.Prelude.{Option, Some, None}
-use mathlib.Core.{Path.◌≡◌, Bool.false, List.List, List.[], List.◌∷◌}
-use Prim.Native.Nat.{ℕ, ◌≤◌}
+use Rattle.std.specs.Prelude.{Option, Some, None, ◌≡◌, false, List, [], ◌∷◌, ℕ, ◌≤◌}
 use native.Mathlib.Omega.{arith}
-use Rattle.chip.specs.declared.{Chip.Chip, Chip.TheVariants.Rp2040, Chip.TheVariants.Rp235x}
-use Rattle.chip.specs.Chips.{facts_of}
+use Rattle.chip.specs.{declared.Chip.Chip, declared.Chip.TheVariants.Rp2040, declared.Chip.TheVariants.Rp235x, Chips.facts_of}
 use Rattle.config.specs.declared.RtcClkConfig.{RtcClkConfig}
-use Rattle.settings.specs.declared.{Sources.Sources, Settings.Settings, Frequencies.Frequencies}
 use Rattle.settings.specs.Frequencies.{rtc_hz, sources_in, ref_in, sys_in, frequencies_of, tenth_of, stored_of, ten_of}
-use Rattle.settings.specs.Typed.{Typed}
+use Rattle.settings.specs.{declared.Sources.Sources, declared.Settings.Settings, declared.Frequencies.Frequencies, Typed.Typed}
 use Rattle.settings.proofs.Small.{Hz, AllHz, sources-hz, ref-small, sys-small, peri-small, aux-small}
-use Rattle.refusals.specs.Rules.{rtc_bad}
-use Rattle.refusals.specs.Refusals.{refusal_of}
+use Rattle.refusals.specs.{Rules.rtc_bad, Refusals.refusal_of}
 use Rattle.refusals.proofs.Accepted.{accepted-by, whole-good, rtc-good}
 
 -- The frequency of an accepted RTC fits in 16 bits.
@@ -33,8 +28,8 @@ stored s reading t e =
     let a = accepted-by s reading e in
     let h = sources-hz s t in
     let r : Hz (ref_in s) = ref-small (sources_in s) h s.reference in
-    let whole = whole-good (facts_of s.board.chip).top_whole s.board.whole (a 9) in
-    let y : Hz (sys_in s) = sys-small (sources_in s) h s.board (ref_in s) s.sys r whole.0 in
+    let whole = whole-good (facts_of s.chip.model).top_whole s.chip.whole (a 9) in
+    let y : Hz (sys_in s) = sys-small (sources_in s) h s.chip (ref_in s) s.sys r whole.0 in
     record {
       sources = h;
       reference = r;
@@ -42,7 +37,7 @@ stored s reading t e =
       peri = peri-small (sources_in s) h (sys_in s) s.peri y;
       usb = aux-small (sources_in s) h s.usb;
       adc = aux-small (sources_in s) h s.adc;
-      rtc = rtc-small (frequencies_of s).rtc_source (sources_in s) s.board.rtc (a 14);
+      rtc = rtc-small (frequencies_of s).rtc_source (sources_in s) s.chip.rtc (a 14);
     }
 
 abbrev pub EachHz : List ℕ → Type 0
@@ -58,7 +53,7 @@ unfolding stored_of
 stored-small s reading t e =
     let h = stored s reading t e in
     let f = h.sources in
-    let tenth = tenth-small s.board.chip (frequencies_of s).rtc (omega (arith, h.rtc)) in
+    let tenth = tenth-small s.chip.model (frequencies_of s).rtc (omega (arith, h.rtc)) in
     (f.rosc, (f.xosc, (f.pll-sys, (f.pll-usb, (h.reference, (h.sys, (h.peri, (h.usb, (h.adc, tenth)))))))))
 
 pub ten-small : (s : Settings) (reading : ℕ) → Typed s → refusal_of s reading ≡ None → EachHz (ten_of s)

@@ -1,15 +1,12 @@
 -- The tests of refusals 2, 3, 4 and 9 are equal to the conditions that docs/FORMAT.md, Refusals, states for a plan.
-use mathlib.Core.{Path.◌≡◌, Path.refl, Path.sym, Bool.◌||◌, Bool.◌&&◌, Bool.not}
-use Prim.Native.Nat.{ℕ, zero, suc, ◌+◌, ◌-◌, ◌/◌, ◌≤◌, ◌<◌}
+use Rattle.std.specs.Prelude.{◌≡◌, refl, ◌||◌, ◌&&◌, not, ℕ, zero, suc, ◌+◌, ◌-◌, ◌/◌, ◌≤◌, ◌<◌, ltb, eqb, Some}
+use mathlib.Core.Path.{sym}
 use native.Mathlib.{Omega.arith, Decide.dec_le}
-use lib.Dec.{ltb, eqb}
 use borrow.Author.Tests.{eqb-true, lt-ltb, le-ltb, le-leb, ne_eqb}
 use Rattle.base.proofs.Bools.{either_way}
-use Rattle.chip.specs.declared.Chip.TheVariants.{Rp2040, Rp235x}
-use Rattle.chip.specs.Chips.{facts_of}
+use Rattle.chip.specs.{declared.Chip.TheVariants.Rp2040, declared.Chip.TheVariants.Rp235x, Chips.facts_of}
 use Rattle.divider.specs.Delay.{startup_sum, delay_of, settling_cycles}
-use Rattle.config.specs.declared.{XoscConfig.XoscConfig}
-use Rattle.std.specs.Prelude.{Some}
+use Rattle.config.specs.declared.XoscConfig.{XoscConfig}
 use Rattle.settings.specs.Settings.{crystal_of, settling_step}
 use Rattle.refusals.specs.Rules.{settling_over, startup_over, whole_bad}
 

@@ -1,34 +1,32 @@
 -- The refusals of settings at a reading: a test for each, in the order of docs/FORMAT.md, Refusals.
-use mathlib.Core.{Path.◌≡◌, List.List, List.[], List.◌∷◌, Bool.Bool}
-use Rattle.std.specs.Prelude.{Option, Some, None, Result, Ok, Err, ℕ, ltb, eqb}
-use Rattle.base.specs.declared.refusal.Refusal.{Refusal}
-use Rattle.base.specs.declared.refusal.Refusal.TheVariants as why
-use Rattle.base.specs.Choice.{pick}
+use Rattle.std.specs.Prelude.{◌≡◌, List, [], ◌∷◌, Bool, Option, Some, None, Result, Ok, Err, ℕ, ltb, eqb}
+use Rattle.base.specs.{declared.refusal.Refusal.Refusal, Choice.pick}
 use Rattle.chip.specs.Chips.{facts_of}
 use Rattle.config.specs.declared.ClockConfig.{ClockConfig}
-use Rattle.settings.specs.declared.{Settings.Settings, Frequencies.Frequencies}
-use Rattle.settings.specs.{Settings.settings_of, Frequencies.frequencies_of}
+use Rattle.settings.specs.{declared.Settings.Settings, declared.Frequencies.Frequencies, Settings.settings_of}
+use Rattle.settings.specs.Frequencies.{frequencies_of}
 use Rattle.refusals.specs.Rules.{strengths_over, ring_divider_over, settling_over, startup_over, sys_pll_invalid, usb_pll_invalid}
 use Rattle.refusals.specs.Rules.{divider_bad, reference_bad, whole_bad, peri_bad, aux_bad, rtc_bad}
+use Rattle.base.specs.declared.refusal.Refusal.TheVariants as why
 
 -- VoltageReading, 18, is for a reading over the chip's greatest, 15 or 31; then 1 to 14 follow in rising order.
 abbrev pub tests_of : Settings → Frequencies → ℕ → List (Refusal × Bool)
 tests_of s f reading =
-    (why.VoltageReading, ltb (facts_of s.board.chip).top_reading reading)
+    (why.VoltageReading, ltb (facts_of s.chip.model).top_reading reading)
     ∷ (why.DriveStrength, strengths_over s.rosc)
-    ∷ (why.RingDivider, ring_divider_over (facts_of s.board.chip).pass s.rosc)
+    ∷ (why.RingDivider, ring_divider_over (facts_of s.chip.model).pass s.rosc)
     ∷ (why.SettlingTime, settling_over s.settling)
     ∷ (why.StartupDelay, startup_over s.xosc)
     ∷ (why.SysPll, sys_pll_invalid s.xosc)
     ∷ (why.UsbPll, usb_pll_invalid s.xosc)
     ∷ (why.RefDivider, divider_bad s.reference.div)
     ∷ (why.RefClock, reference_bad f.reference)
-    ∷ (why.SysDivider, whole_bad (facts_of s.board.chip).top_whole s.board.whole)
+    ∷ (why.SysDivider, whole_bad (facts_of s.chip.model).top_whole s.chip.whole)
     ∷ (why.SysClock, eqb f.sys 0)
     ∷ (why.PeriClock, peri_bad f.peri s.peri)
     ∷ (why.UsbClock, aux_bad f.usb_source s.usb)
     ∷ (why.AdcClock, aux_bad f.adc_source s.adc)
-    ∷ (why.RtcClock, rtc_bad f.rtc_source f.rtc s.board.rtc)
+    ∷ (why.RtcClock, rtc_bad f.rtc_source f.rtc s.chip.rtc)
     ∷ []
 
 -- The refusal of the first test that holds.

@@ -1,12 +1,10 @@
 -- The rules of refusals 1 to 9 and 11 to 14, one test for each (docs/FORMAT.md, Refusals). Absent parts pass.
 use Rattle.std.specs.Prelude.{Option, Some, None, Bool, false, ◌||◌, not, ℕ, ◌+◌, ltb, leb, eqb}
-use Rattle.config.specs.declared.RoscConfig.{RoscConfig}
+use Rattle.config.specs.declared.{RoscConfig.RoscConfig, DriveStrength.DriveStrength, PeriClkSrc.PeriClkSrc}
+use Rattle.config.specs.declared.{AuxClkConfig.AuxClkConfig, RtcClkConfig.RtcClkConfig}
 use Rattle.base.specs.Choice.{in_range}
-use Rattle.pll.specs.Setting.{valid_of}
-use Rattle.config.specs.declared.{DriveStrength.DriveStrength}
-use Rattle.pll.specs.declared.PllConfig.{PllConfig}
-use Rattle.config.specs.declared.{PeriClkSrc.PeriClkSrc, AuxClkConfig.AuxClkConfig, RtcClkConfig.RtcClkConfig}
-use Rattle.settings.specs.declared.{Crystal.Crystal}
+use Rattle.pll.specs.{Setting.valid_of, declared.PllConfig.PllConfig}
+use Rattle.settings.specs.declared.Crystal.{Crystal}
 
 abbrev pub strength_over : DriveStrength → Bool
 strength_over g =

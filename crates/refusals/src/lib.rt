@@ -4,10 +4,8 @@
 mod rules;
 
 ghost use Rattle.std.specs.Prelude.{◌≡◌, ℕ, Option, Some};
-ghost use Rattle.config.specs.declared.RoscConfig.{RoscConfig};
-ghost use Rattle.settings.specs.Frequencies.{pll_hz, sources_of, frequencies_of};
-ghost use Rattle.config.specs.Board.{FractionFits};
-ghost use Rattle.settings.specs.Typed.{Typed};
+ghost use Rattle.config.specs.{declared.RoscConfig.RoscConfig, ChipSettings.FractionFits};
+ghost use Rattle.settings.specs.{Frequencies.pll_hz, Frequencies.sources_of, Frequencies.frequencies_of, Typed.Typed};
 ghost use Rattle.refusals.specs.Rules.{pll_invalid, sys_pll_invalid, usb_pll_invalid};
 ghost use Rattle.refusals.specs.Refusals.{refusal_of, examined_of};
 ghost use Rattle.base.specs.Choice.{pick};
@@ -50,7 +48,7 @@ fn refused_if(test: bool, why: Refusal, rest: Option<Refusal>) -> Option<Refusal
 fn refusal_of(s: Settings, f: Frequencies, reading: u8) -> Option<Refusal>
     ensures { f ≡ frequencies_of s → result ≡ refusal_of s reading }
 {
-    let on = s.board.chip.facts();
+    let on = s.chip.model.facts();
     let over = on.top_reading < reading;
     let strengths = rules::strengths_over(s.rosc);
     let ring_divider = rules::ring_divider_over(on.pass, s.rosc);
@@ -59,11 +57,11 @@ fn refusal_of(s: Settings, f: Frequencies, reading: u8) -> Option<Refusal>
     let (sys_pll, usb_pll) = plls_invalid(s.xosc, f.sources);
     let divider = rules::divider_bad(s.reference.div);
     let reference = rules::reference_bad(f.reference);
-    let whole = rules::whole_bad(on.top_whole, s.board.whole);
+    let whole = rules::whole_bad(on.top_whole, s.chip.whole);
     let peri = rules::peri_bad(f.peri, s.peri);
     let usb = rules::aux_bad(f.usb_source, s.usb);
     let adc = rules::aux_bad(f.adc_source, s.adc);
-    let rtc = rules::rtc_bad(f.rtc_source, f.rtc, s.board.rtc);
+    let rtc = rules::rtc_bad(f.rtc_source, f.rtc, s.chip.rtc);
     // The tests go from the last to the first, so that an earlier one overrides. A return at each refusal
     // takes more instructions for each sheet (docs/SPEED.md, What was tried).
     let n = refused_if(rtc, Refusal::RtcClock, None);
@@ -85,7 +83,7 @@ fn refusal_of(s: Settings, f: Frequencies, reading: u8) -> Option<Refusal>
 
 // Tests settings at a reading and answers their frequencies; 18, then 1 to 14. The contract carries the types' bounds.
 pub fn examine(s: Settings, reading: u8) -> Result<Frequencies, Refusal>
-    ensures { (result ≡ examined_of s reading) × (FractionFits s.board → Typed s) }
+    ensures { (result ≡ examined_of s reading) × (FractionFits s.chip → Typed s) }
 {
     let frequencies = settings::frequencies_of(s);
     match refusal_of(s, frequencies, reading) {

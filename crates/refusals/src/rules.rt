@@ -1,8 +1,7 @@
 // The rules of the refusals: one test for each number. Absent parts pass.
 ghost use Rattle.std.specs.Prelude.{◌≡◌};
-ghost use Rattle.refusals.specs.Rules.{strength_over, strengths_over, ring_divider_over, settling_over};
-ghost use Rattle.refusals.specs.Rules.{startup_over};
-ghost use Rattle.refusals.specs.Rules.{divider_bad, reference_bad, whole_bad, peri_bad, aux_bad, rtc_bad};
+ghost use Rattle.refusals.specs.Rules.{strength_over, strengths_over, ring_divider_over, settling_over, startup_over, divider_bad};
+ghost use Rattle.refusals.specs.Rules.{reference_bad, whole_bad, peri_bad, aux_bad, rtc_bad};
 
 use config::{AuxClkConfig, DriveStrength, PeriClkSrc, RoscConfig, RtcClkConfig};
 use settings::Crystal;

@@ -1,29 +1,20 @@
 -- The register access of each kind of step: the column "what it does" of docs/FORMAT.md, Kinds of steps, as an
 -- address, a mask and a value.
-use mathlib.Core.{Bool.Bool, Bool.◌&&◌, Bool.not, List.List}
-use Rattle.std.specs.Prelude.{ℕ, ◌+◌, ◌*◌, ◌%◌, ◌^◌}
-use lib.Dec.{leb}
+use Rattle.std.specs.Prelude.{Bool, ◌&&◌, not, List, ℕ, ◌+◌, ◌*◌, ◌%◌, ◌^◌, leb}
 use Rattle.base.specs.{Answer.Answer, Answer.value, Answer.refusal, Choice.pick}
-use Rattle.chip.specs.declared.{Chip.Chip, Chip.TheVariants.Rp2040, Chip.TheVariants.Rp235x}
-use Rattle.step.specs.declared.Step.{Step}
-use Rattle.step.specs.Access.{read_at}
-use Rattle.step.specs.Kinds.{kind_number, known, is}
-use Rattle.step.specs.declared.kind.Kind.{Kind}
+use Rattle.chip.specs.declared.Chip.{Chip, TheVariants.Rp2040, TheVariants.Rp235x}
+use Rattle.step.specs.{declared.Step.Step, Access.read_at, Kinds.kind_number, Kinds.known, Kinds.is, declared.kind.Kind.Kind}
+use Rattle.registers.specs.declared.Access.{Access}
+use Rattle.registers.specs.Map.{RESET, RESET_DONE, CLK_REF_CTRL, CLK_REF_DIV, CLK_REF_SELECTED, CLK_SYS_CTRL, CLK_SYS_DIV}
+use Rattle.registers.specs.Map.{CLK_SYS_SELECTED, CLK_PERI_CTRL, CLK_USB_CTRL, CLK_USB_DIV, CLK_ADC_CTRL, CLK_ADC_DIV, CLK_RTC_CTRL}
+use Rattle.registers.specs.Map.{CLK_RTC_DIV, CLK_SYS_RESUS_CTRL, XOSC_CTRL, XOSC_STATUS, XOSC_STARTUP, ROSC_CTRL, ROSC_FREQA}
+use Rattle.registers.specs.Map.{ROSC_FREQB, ROSC_DIV, PLL_CS, PLL_PWR, PLL_FBDIV_INT, PLL_PRIM, VREG, BOD, WATCHDOG_TICK}
+use Rattle.registers.specs.Map.{POWMAN_VREG, POWMAN_BOD, TIMER0_CTRL, TIMER0_CYCLES, WATCHDOG_CTRL, WATCHDOG_CYCLES, field, bits}
+use Rattle.registers.specs.Map.{whole, BLOCKS, REF_SRC, SYS_SRC, AUXSRC, ENABLE, PHASE, INT, STRENGTHS, FREQ_PASSWORD, RING_DIV}
+use Rattle.registers.specs.Map.{FREQ_RANGE, OSCILLATOR_ON, CRYSTAL_RANGE, DELAY, STABLE, LOCK, REFDIV, FBDIV, POSTDIV1, POSTDIV2}
+use Rattle.registers.specs.Map.{PD, DSMPD, POSTDIVPD, VCOPD, VSEL, VSEL_235, BOD_EN, POWMAN_PASSWORD, CYCLES, TICK_ENABLE}
+use Rattle.registers.specs.Map.{TICKS_ENABLE}
 use Rattle.step.specs.declared.kind.Kind.TheVariants as kind
-use Rattle.registers.specs.declared.{Access.Access}
-use Rattle.registers.specs.Map.{RESET, RESET_DONE, CLK_REF_CTRL, CLK_REF_DIV, CLK_REF_SELECTED, CLK_SYS_CTRL}
-use Rattle.registers.specs.Map.{CLK_SYS_DIV, CLK_SYS_SELECTED}
-use Rattle.registers.specs.Map.{CLK_PERI_CTRL, CLK_USB_CTRL, CLK_USB_DIV, CLK_ADC_CTRL, CLK_ADC_DIV, CLK_RTC_CTRL}
-use Rattle.registers.specs.Map.{CLK_RTC_DIV, CLK_SYS_RESUS_CTRL}
-use Rattle.registers.specs.Map.{XOSC_CTRL, XOSC_STATUS, XOSC_STARTUP, ROSC_CTRL, ROSC_FREQA, ROSC_FREQB, ROSC_DIV}
-use Rattle.registers.specs.Map.{PLL_CS, PLL_PWR, PLL_FBDIV_INT, PLL_PRIM}
-use Rattle.registers.specs.Map.{VREG, BOD, WATCHDOG_TICK, POWMAN_VREG, POWMAN_BOD, TIMER0_CTRL, TIMER0_CYCLES}
-use Rattle.registers.specs.Map.{WATCHDOG_CTRL, WATCHDOG_CYCLES}
-use Rattle.registers.specs.Map.{field, bits, whole, BLOCKS, REF_SRC, SYS_SRC, AUXSRC, ENABLE, PHASE, INT, STRENGTHS}
-use Rattle.registers.specs.Map.{FREQ_PASSWORD, RING_DIV, FREQ_RANGE}
-use Rattle.registers.specs.Map.{OSCILLATOR_ON, CRYSTAL_RANGE, DELAY, STABLE, LOCK, REFDIV, FBDIV, POSTDIV1, POSTDIV2}
-use Rattle.registers.specs.Map.{PD, DSMPD, POSTDIVPD, VCOPD}
-use Rattle.registers.specs.Map.{VSEL, VSEL_235, BOD_EN, POWMAN_PASSWORD, CYCLES, TICK_ENABLE, TICKS_ENABLE}
 
 -- no access
 abbrev pub nothing : Access

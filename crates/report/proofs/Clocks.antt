@@ -1,13 +1,11 @@
 -- The lines of the clocks of a list, and how a loop over the list comes from one clock to the next.
-use mathlib.Core.{Path.◌≡◌, Path.ap, List.List, List.[], List.◌∷◌, List.◌++◌}
-use Rattle.std.proofs.Common.{ℕ, ◌+◌, ◌<◌, ◌≤◌}
-use lib.ListN.{length, get_or, drop, drop_of_length-le}
-use Rattle.std.proofs.lemmas.List.{at_drop_more}
+use Rattle.std.specs.Prelude.{◌≡◌, List, [], ◌∷◌, ◌++◌, length, get_or, drop}
+use mathlib.Core.Path.{ap}
+use Rattle.std.proofs.{Common.ℕ, Common.◌+◌, Common.◌<◌, Common.◌≤◌, lemmas.List.at_drop_more}
+use lib.ListN.{drop_of_length-le}
 use Rattle.base.proofs.Writing.{put_more, put_none}
-use Rattle.step.specs.declared.clock.Clock.{Clock}
-use Rattle.step.specs.Clocks.{clock_number, clock_name}
-use Rattle.runner.specs.declared.Runner.{Runner}
-use Rattle.runner.specs.Run.{freq_of}
+use Rattle.step.specs.{declared.clock.Clock.Clock, Clocks.clock_number, Clocks.clock_name}
+use Rattle.runner.specs.{declared.Runner.Runner, Run.freq_of}
 use Rattle.report.specs.Lines.{line_of}
 
 abbrev pub clock_line : Runner → Clock → List ℕ

@@ -82,8 +82,8 @@ report-most input = go (report-cases input)
     go (inl e) = rw e (omega (arith, refused-most 1 24 (omega arith)))
     go (inr r) =
         let s = settings_of r.plan reading in
-        let mask : ℕ = release_mask s.board.chip s.peri s.usb s.adc s.board.rtc in
-        let few : ones mask ≤ 25 = ones-le 25 mask (omega (arith, (masks s.board.chip).2)) in
+        let mask : ℕ = release_mask s.chip.model s.peri s.usb s.adc s.chip.rtc in
+        let few : ones mask ≤ 25 = ones-le 25 mask (omega (arith, (masks s.chip.model).2)) in
         let each = each_append (ten_of s) (ones mask ∷ [])
         (ten-small s reading r.served.typed r.served.accepted) (omega arith, tt) in
         rw r.lines (omega (arith, lines-most report_names (printed_numbers s) each))

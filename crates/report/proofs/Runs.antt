@@ -1,22 +1,19 @@
 -- A run, call by call; after the run of the sheet of an accepted plan the numbers are those of the report.
-use Rattle.std.specs.Prelude.{true, List, [], ◌∷◌, ◌++◌, map, ◌≡◌, ℕ, zero, suc, ◌-◌, ◌/◌, ◌≤◌, ◌<◌, length, take, replicate, Result}
-use mathlib.Core.Path.{refl, sym, ap, ◌∙◌}
+use Rattle.std.specs.Prelude.{true, List, [], ◌∷◌, ◌++◌, map, ◌≡◌, ℕ, zero, suc, ◌-◌, ◌/◌, ◌≤◌, ◌<◌, length, take, replicate}
+use Rattle.std.specs.Prelude.{Result, refl}
+use mathlib.Core.Path.{sym, ap, ◌∙◌}
 use native.Mathlib.{Numerals.add-one, Omega.arith}
 use lib.{ListN.length-map, Seq.take-append_seam}
-use Rattle.base.specs.Answer.{Answer, answer_of}
-use Rattle.step.specs.declared.Step.{Step}
-use Rattle.step.specs.Kinds.{is}
+use Rattle.base.specs.{Answer.Answer, Answer.answer_of, declared.refusal.Refusal.Refusal}
+use Rattle.step.specs.{declared.Step.Step, Kinds.is}
 use Rattle.step.proofs.{Numbers.is-true, Sheets.length-encoded}
 use Rattle.config.specs.declared.ClockConfig.{ClockConfig}
-use Rattle.settings.specs.declared.Settings.{Settings}
-use Rattle.settings.specs.{Settings.settings_of, Frequencies.ten_of, Typed.Typed}
+use Rattle.settings.specs.{declared.Settings.Settings, Settings.settings_of, Frequencies.ten_of, Typed.Typed}
 use Rattle.refusals.specs.Refusals.{Accepted}
 use Rattle.sheet.specs.{Steps.release_mask, Steps.clocks_part, Steps.steps_of, Writer.sheet_bytes}
-use Rattle.base.specs.declared.refusal.Refusal.{Refusal}
-use Rattle.runner.specs.declared.{Runner.Runner, Reply.Reply}
+use Rattle.runner.specs.Run.{Outcome, outcome, fresh, is_wait, advance_of, StartOutcome, started_with, start_of}
+use Rattle.runner.specs.{declared.Runner.Runner, declared.Reply.Reply, Calls.answers, Calls.ready_answer}
 use Rattle.base.proofs.Bools.{either_way}
-use Rattle.runner.specs.Run.{Outcome, outcome, fresh, is_wait, advance_of, Begun, started_with, start_of}
-use Rattle.runner.specs.Calls.{answers, ready_answer}
 use Rattle.bring_up.specs.Up.{plan_steps}
 use Rattle.bring_up.proofs.Run.{sheet-starts, sheet-answers, sheet-run}
 use Rattle.report.specs.Report.{printed_numbers}
@@ -50,7 +47,7 @@ releases-append [] ys mask = refl
 releases-append (x ∷ xs) ys mask = releases-append xs ys (released_in x mask)
 
 last-release : (reading : ℕ) (s : Settings) (mask : ℕ)
-    → releases (steps_of reading s) mask ≡ release_mask s.board.chip s.peri s.usb s.adc s.board.rtc
+    → releases (steps_of reading s) mask ≡ release_mask s.chip.model s.peri s.usb s.adc s.chip.rtc
 unfolding steps_of clocks_part released_in
 last-release reading s mask = simp releases-append
 
@@ -82,7 +79,7 @@ answers-first sheet (suc n) r =
 -- the sheet of an accepted plan at any reading: after one call for each step the numbers are those of the report
 module _ (p : ClockConfig) (r : ℕ) (ok : Accepted p r) (t : Typed (settings_of p r)) where
   started : (start_of fresh (sheet_bytes p r)).next ≡ started_with (sheet_bytes p r)
-  started = ap (λ (x : Begun Runner). x.next) (sheet-starts p r fresh)
+  started = ap (λ (x : StartOutcome Runner). x.next) (sheet-starts p r fresh)
 
   all-answers : answers (started_with (sheet_bytes p r)) (sheet_bytes p r) (replicate (length (plan_steps p r)) true)
       ≡ map ready_answer (plan_steps p r)

@@ -1,21 +1,18 @@
 -- The `system_freq` plan of every target is accepted at reading 11.
-use Rattle.std.specs.Prelude.{Bool, true, false, not, ◌≡◌, ℕ, eqb, ltb, Some}
-use mathlib.Core.Path.{refl, ap, ◌∙◌}
+use Rattle.std.specs.Prelude.{Bool, true, false, not, ◌≡◌, ℕ, eqb, ltb, Some, refl}
+use mathlib.Core.Path.{ap, ◌∙◌}
 use native.Mathlib.Omega.{arith}
 use Rattle.base.specs.{Choice.pick, Answer.value}
 use Rattle.base.proofs.Bools.{either_way}
 use Rattle.chip.specs.declared.voltage.CoreVoltage.TheVariants.{V1_10, V1_15}
 use Rattle.chip.specs.declared.{voltage.CoreVoltage.CoreVoltage, Chip.TheVariants.Rp2040}
-use Rattle.config.specs.declared.{RoscRange.TheVariants.Medium, ClockConfig.ClockConfig}
-use Rattle.divider.specs.{Clock.divided_hz, Delay.startup_sum, Delay.cycles_per_us, Delay.settling_cycles}
-use Rattle.pll.specs.declared.PllConfig.{PllConfig}
-use Rattle.pll.specs.{Setting.valid_of, Search.setting}
-use Rattle.pll.proofs.{Inputs.found-valid, Inputs.search-finds, UsbPreset.usb-preset}
-use Rattle.config.specs.Board.{board_of}
 use Rattle.config.specs.Presets.{ring_config, feeding, from_plls, crystal_plan, system_voltage, system_plan_from, system_plan}
-use Rattle.settings.specs.declared.Settings.{Settings}
+use Rattle.config.specs.{declared.RoscRange.TheVariants.Medium, declared.ClockConfig.ClockConfig, ChipSettings.chip_of}
+use Rattle.divider.specs.{Clock.divided_hz, Delay.startup_sum, Delay.cycles_per_us, Delay.settling_cycles}
+use Rattle.pll.specs.{declared.PllConfig.PllConfig, Setting.valid_of, Search.setting}
+use Rattle.pll.proofs.{Inputs.found-valid, Inputs.search-finds, UsbPreset.usb-preset}
 use Rattle.settings.specs.Frequencies.{pll_hz, sources_of, ref_hz, sys_hz, sys_in}
-use Rattle.settings.specs.{Settings.settling_step, Settings.settings_of, Typed.Typed}
+use Rattle.settings.specs.{declared.Settings.Settings, Settings.settling_step, Settings.settings_of, Typed.Typed}
 use Rattle.settings.proofs.Plls.{pll_silent}
 use Rattle.refusals.specs.Rules.{strengths_over, ring_divider_over, settling_over, startup_over, sys_pll_invalid, usb_pll_invalid}
 use Rattle.refusals.specs.Rules.{divider_bad, reference_bad, whole_bad, peri_bad, aux_bad, rtc_bad}
@@ -54,7 +51,7 @@ settles false c = refl
 -- the plan of a target is one of the RP2040, is accepted at the reading, and its numbers fit their types
 pub record Served (hz : ℕ) (p : ClockConfig) : Type 0 where
   pub planned : system_plan Rp2040 hz ≡ value p
-  pub on : (board_of p.chip).chip ≡ Rp2040
+  pub on : (chip_of p.chip).model ≡ Rp2040
   pub accepted : Accepted p reading
   pub typed : Typed (settings_of p reading)
 
@@ -88,7 +85,7 @@ system-accepted hz =
     ))
 
 -- so the plan of every target is one of the RP2040
-pub on-rp2040 : (hz : ℕ) (p : ClockConfig) → system_plan Rp2040 hz ≡ value p → (board_of p.chip).chip ≡ Rp2040
+pub on-rp2040 : (hz : ℕ) (p : ClockConfig) → system_plan Rp2040 hz ≡ value p → (chip_of p.chip).model ≡ Rp2040
 on-rp2040 hz p e =
     let served = system-accepted hz in
     let is : p ≡ served.0 = let other = served.1.planned in cc in

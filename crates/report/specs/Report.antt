@@ -1,14 +1,11 @@
 -- The whole output of the program `clocks` for its input (docs/PROGRAMS.md, Program clocks).
 use Rattle.std.specs.Prelude.{Option, Some, None, List, [], ◌∷◌, ◌++◌, ℕ}
 use lib.Count.{ones}
-use Rattle.base.specs.declared.refusal.Refusal.{Refusal}
-use Rattle.base.specs.{Answer.Answer, Answer.value, Answer.refusal, Refusals.number_of}
+use Rattle.base.specs.{declared.refusal.Refusal.Refusal, Answer.Answer, Answer.value, Answer.refusal, Refusals.number_of}
 use Rattle.text.specs.{Words.line_number_of, Reply.refused_line}
 use Rattle.chip.specs.declared.Chip.TheVariants.{Rp2040}
-use Rattle.config.specs.declared.ClockConfig.{ClockConfig}
-use Rattle.config.specs.Presets.{system_plan}
-use Rattle.settings.specs.declared.Settings.{Settings}
-use Rattle.settings.specs.{Settings.settings_of, Frequencies.ten_of}
+use Rattle.config.specs.{declared.ClockConfig.ClockConfig, Presets.system_plan}
+use Rattle.settings.specs.{declared.Settings.Settings, Settings.settings_of, Frequencies.ten_of}
 use Rattle.sheet.specs.{Steps.release_mask, Writer.refusal_in}
 use Rattle.report.specs.Lines.{lines_of, report_names}
 
@@ -18,7 +15,7 @@ reading = 11
 
 -- the stored values of the sheet, then the count of ones in the last release mask
 abbrev pub printed_numbers : Settings → List ℕ
-printed_numbers s = ten_of s ++ (ones (release_mask s.board.chip s.peri s.usb s.adc s.board.rtc) ∷ [])
+printed_numbers s = ten_of s ++ (ones (release_mask s.chip.model s.peri s.usb s.adc s.chip.rtc) ∷ [])
 
 -- the line of a refusal, or these lines where there is none
 abbrev pub unless_refused : Option Refusal → List ℕ → List ℕ

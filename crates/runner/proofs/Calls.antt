@@ -1,27 +1,18 @@
 -- The rules of a call by cases: each test picks one equation of `turn_of`, and a property of all outcomes holds of
 -- every call.
-use mathlib.Core.{Bool.Bool, Bool.true, Bool.false, Bool.◌||◌, Bool.not, List.List, Path.◌≡◌, Path.refl}
-use Prim.Native.Nat.{ℕ, ◌+◌, ◌*◌, ◌<◌, ◌≤◌}
+use Rattle.std.specs.Prelude.{Bool, true, false, ◌||◌, not, List, ◌≡◌, refl, ℕ, ◌+◌, ◌*◌, ◌<◌, ◌≤◌, ltb, leb, length, take, min}
 use borrow.Author.Tests.{le-leb, lt-leb, ltb-false}
 use native.Mathlib.Omega.{arith}
-use lib.{Dec.ltb, Dec.leb, ListN.length, ListN.take}
 use Rattle.base.specs.{Answer.Answer, Answer.value, Answer.refusal, Choice.pick}
-use Rattle.std.proofs.lemmas.Bool.{or_parts}
-use Rattle.step.specs.declared.Step.{Step}
-use Rattle.step.specs.Kinds.{is}
-use Rattle.step.specs.declared.kind.Kind.{Kind}
-use Rattle.step.specs.declared.kind.Kind.TheVariants as kind
-use Rattle.step.specs.{Access.read_at, Sheet.max_steps, Sheet.max_bytes}
+use Rattle.std.proofs.{lemmas.Bool.or_parts, Common.rules, lemmas.Bool.Decides.nat_tests}
+use Rattle.step.specs.Sheet.{max_steps, max_bytes}
+use Rattle.step.specs.{declared.Step.Step, Kinds.is, declared.kind.Kind.Kind, Access.read_at, Size.bad_size}
 use Rattle.step.proofs.Sizes.{size_fits}
-use Rattle.runner.specs.declared.State.{State}
-use Rattle.runner.specs.declared.Reply.TheVariants.{Done, Handed, Passed}
-use Rattle.runner.specs.Run.{Outcome, outcome, moved_on, polled, waits, is_wait, one_more, unready}
-use Rattle.runner.specs.Run.{take_step, take_read, outside, onward_of, turn_of}
-use Rattle.std.specs.Prelude.{min}
-use Rattle.std.proofs.Common.{rules}
-use Rattle.std.proofs.lemmas.Bool.Decides.{nat_tests}
+use Rattle.runner.specs.Run.{Outcome, outcome, moved_on, polled, waits, is_wait, one_more, unready, take_step, take_read, outside}
+use Rattle.runner.specs.Run.{onward_of, turn_of}
+use Rattle.runner.specs.declared.{State.State, Reply.TheVariants.Done, Reply.TheVariants.Handed, Reply.TheVariants.Passed}
 use Rattle.text.specs.Ascii.{same}
-use Rattle.step.specs.Size.{bad_size}
+use Rattle.step.specs.declared.kind.Kind.TheVariants as kind
 
 module _ (s : State) (len : ℕ) (o : outside s len ≡ false) where
   ranged : ((ltb max_steps s.position || ltb 999999 s.lock_polls) ≡ false) × (bad_size len ≡ false)
@@ -35,6 +26,9 @@ module _ (s : State) (len : ℕ) (o : outside s len ≡ false) where
 
   pub len_fits : len ≤ max_bytes
   len_fits = size_fits len ranged.1
+
+-- what holds of a call whose numbers are in range
+pub ruleset ranges = (inside, len_fits)
 
 module _ (s : State) (sheet : List ℕ) (ready : Bool) where
   pub onward-done : length sheet ≤ 8 * s.position → outcome (value Done) s ≡ onward_of s sheet ready
@@ -91,3 +85,6 @@ module _ (P : Outcome State → Type 0) (s : State) (len : ℕ) (kept sheet : Li
 pub one_more_is : (total : ℕ) → total < 4294967296 → min (total + 1) 4294967295 ≡ one_more total
 unfolding one_more
 one_more_is total h = search (rules, nat_tests)
+
+-- tests on numbers, and the count of polls
+pub ruleset counting = (nat_tests, one_more_is)

@@ -1,20 +1,15 @@
 -- A runner that answers done stays as it is, and answers done at every later call.
-use mathlib.Core.{Bool.Bool, Bool.true, Bool.false, Bool.not, List.List, Logic.◌⊎◌, Logic.inl, Logic.inr}
-use mathlib.Core.Path.{◌≡◌, refl}
-use Prim.Native.Nat.{ℕ, ◌+◌, ◌*◌}
-use lib.{Dec.ltb, Dec.leb, ListN.length, ListN.take}
+use Rattle.std.specs.Prelude.{Bool, true, false, not, List, ◌⊎◌, ◌≡◌, refl, ℕ, ◌+◌, ◌*◌, ltb, leb, length, take}
+use mathlib.Core.Logic.{inl, inr}
 use Rattle.base.specs.{Answer.Answer, Answer.value, Answer.refusal, Choice.pick}
-use Rattle.step.specs.declared.Step.{Step}
-use Rattle.step.specs.Kinds.{is}
-use Rattle.step.specs.declared.kind.Kind.TheVariants as kind
-use Rattle.step.specs.Access.{read_at}
-use Rattle.runner.specs.declared.{State.State, Runner.Runner}
-use Rattle.runner.specs.declared.Reply.{Reply}
+use Rattle.step.specs.{declared.Step.Step, Kinds.is, Access.read_at}
 use Rattle.runner.specs.declared.Reply.TheVariants.{Done, Handed, Passed, Waiting}
-use Rattle.runner.specs.Run.{Outcome, outcome, is_wait, unready, take_step}
-use Rattle.runner.specs.Run.{take_read, outside, onward_of, turn_of, stepper_of, advance_of}
+use Rattle.runner.specs.Run.{Outcome, outcome, is_wait, unready, take_step, take_read, outside, onward_of, turn_of, stepper_of}
+use Rattle.runner.specs.Run.{advance_of}
+use Rattle.runner.specs.declared.{State.State, Runner.Runner, Reply.Reply}
 use Rattle.text.specs.Ascii.{same}
 use Rattle.runner.proofs.Calls.{both}
+use Rattle.step.specs.declared.kind.Kind.TheVariants as kind
 
 abbrev NotDone : Answer Reply → Type 0
 NotDone (value Done) = ⊥

@@ -1,23 +1,19 @@
 -- The answer of a call on a runner within a sheet of well-formed steps: done past the last step, else the rule of the step.
-use Prim.Native.Nat.{ℕ, ◌+◌, ◌*◌, ◌%◌, ◌≤◌, ◌<◌}
+use Rattle.std.specs.Prelude.{ℕ, ◌+◌, ◌*◌, ◌%◌, ◌≤◌, ◌<◌, Bool, true, false, List, ◌≡◌, refl, length}
 use native.Mathlib.Omega.{arith}
-use mathlib.Core.{Bool.Bool, Bool.true, Bool.false, List.List, Path.◌≡◌, Path.refl, Path.sym, Path.◌∙◌}
+use mathlib.Core.Path.{sym, ◌∙◌}
 use borrow.Author.Tests.{lt-ltb, le-ltb, eq-eqb}
-use lib.ListN.{length}
-use Rattle.base.{specs.Answer.value, proofs.Bools.either_way}
-use Rattle.step.specs.declared.Step.{Step}
-use Rattle.step.specs.Kinds.{is}
-use Rattle.step.specs.declared.kind.Kind.TheVariants as kind
-use Rattle.step.specs.{Access.read_at, Sheet.max_steps, Sheet.max_bytes}
-use Rattle.runner.specs.declared.{State.State, Runner.Runner}
+use Rattle.base.specs.Answer.{value}
+use Rattle.base.proofs.Bools.{either_way}
+use Rattle.step.specs.{declared.Step.Step, Kinds.is, Access.read_at, Sheet.max_steps, Sheet.max_bytes, Size.bad_size}
 use Rattle.runner.specs.declared.Reply.TheVariants.{Done, Handed, Passed, Waiting}
-use Rattle.runner.specs.Run.{Outcome, outcome, is_wait, one_more, moved_on, unready}
-use Rattle.runner.specs.Run.{take_step, take_read, outside, padded, with_stepper, started_with, onward_of, turn_of}
-use Rattle.runner.specs.Run.{stored_by, joined, in_runner, stepper_of, advance_of}
-use Rattle.step.specs.Size.{bad_size}
+use Rattle.runner.specs.Run.{Outcome, outcome, is_wait, one_more, moved_on, unready, take_step, take_read, outside, padded}
+use Rattle.runner.specs.Run.{with_stepper, started_with, onward_of, turn_of, stored_by, joined, in_runner, stepper_of, advance_of}
+use Rattle.runner.specs.declared.{State.State, Runner.Runner}
 use Rattle.step.proofs.Numbers.{is-true}
 use Rattle.text.proofs.Same.{same_refl}
 use Rattle.runner.proofs.{Starts.kept-sheet, Calls.onward-done, Calls.onward-read, Calls.call-goes}
+use Rattle.step.specs.declared.kind.Kind.TheVariants as kind
 
 abbrev pub going : ℕ → ℕ → ℕ → State
 going p polls total = record { position = p; lock_polls = polls; total = total; stopped = false }

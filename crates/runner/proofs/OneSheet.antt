@@ -1,13 +1,11 @@
 -- A runner follows only the sheet that it was started with: any other sheet is refused and changes nothing.
-use mathlib.Core.{Bool.Bool, Bool.false, List.List, List.[], List.◌∷◌}
-use mathlib.Core.Path.{◌≡◌, refl, sym, ap, ◌∙◌}
-use Prim.Native.Nat.{ℕ}
-use lib.ListN.{take}
-use Rattle.base.{specs.Answer.refusal, proofs.Bools.either_way}
-use Rattle.runner.specs.declared.Runner.{Runner}
-use Rattle.text.specs.Ascii.{same}
+use Rattle.std.specs.Prelude.{Bool, false, List, [], ◌∷◌, ◌≡◌, refl, ℕ, take}
+use mathlib.Core.Path.{sym, ap, ◌∙◌}
+use Rattle.base.specs.Answer.{refusal}
+use Rattle.base.proofs.Bools.{either_way}
 use Rattle.runner.specs.Run.{outcome, outside, turn_of, stepper_of, started_with, advance_of}
-use Rattle.runner.specs.Calls.{after, Call, call, after_calls, flags_of}
+use Rattle.runner.specs.{declared.Runner.Runner, Calls.after, Calls.Call, Calls.call, Calls.after_calls, Calls.flags_of}
+use Rattle.text.specs.Ascii.{same}
 use Rattle.text.proofs.Same.{same_true}
 use Rattle.runner.proofs.Starts.{kept-sheet}
 

@@ -1,26 +1,22 @@
 -- After any calls, a started runner refuses any other sheet with 27, or with 22 once it is stopped.
-use mathlib.Core.{Bool.Bool, Bool.true, Bool.false, Bool.not, List.List, List.[], List.◌∷◌}
-use mathlib.Core.Path.{◌≡◌, refl}
-use Prim.Native.Nat.{ℕ, ◌+◌, ◌*◌, ◌%◌, ◌≤◌, ◌<◌}
+use Rattle.std.specs.Prelude.{Bool, true, false, not, List, [], ◌∷◌, ◌≡◌, refl, ℕ, ◌+◌, ◌*◌, ◌%◌, ◌≤◌, ◌<◌, eqb, ltb, leb, length}
+use Rattle.std.specs.Prelude.{take}
 use native.Mathlib.Omega.{arith}
 use borrow.Author.Tests.{leb-false, ltb-true, eqb-true, le-ltb, not-false}
-use lib.{Dec.eqb, Dec.ltb, Dec.leb, ListN.length, ListN.take, ListN.length-take}
-use Rattle.base.{specs.Answer.Answer, specs.Answer.value, specs.Answer.refusal, specs.Choice.pick, proofs.Bools.either_way}
+use lib.ListN.{length-take}
+use Rattle.base.specs.{Answer.Answer, Answer.value, Answer.refusal, Choice.pick}
+use Rattle.base.proofs.Bools.{either_way}
 use Rattle.std.proofs.lemmas.Bool.{or_parts}
-use Rattle.step.specs.declared.Step.{Step}
-use Rattle.step.specs.Kinds.{is}
-use Rattle.step.specs.declared.kind.Kind.{Kind}
-use Rattle.step.specs.declared.kind.Kind.TheVariants as kind
-use Rattle.step.specs.{Access.read_at, Sheet.max_steps, Sheet.max_bytes}
+use Rattle.step.specs.Sheet.{max_steps, max_bytes}
+use Rattle.step.specs.{declared.Step.Step, Kinds.is, declared.kind.Kind.Kind, Access.read_at, Size.bad_size}
 use Rattle.text.specs.Ascii.{same}
 use Rattle.text.proofs.Same.{same_length}
-use Rattle.runner.specs.declared.{State.State, Runner.Runner}
-use Rattle.runner.specs.Run.{Outcome, outcome, unready, is_wait, take_step, take_read, outside, onward_of, turn_of}
-use Rattle.runner.specs.Run.{stepper_of, padded, started_with, advance_of}
-use Rattle.runner.specs.Calls.{Call, call, after_calls}
-use Rattle.step.specs.Size.{bad_size}
+use Rattle.runner.specs.Run.{Outcome, outcome, unready, is_wait, take_step, take_read, outside, onward_of, turn_of, stepper_of}
+use Rattle.runner.specs.Run.{padded, started_with, advance_of}
+use Rattle.runner.specs.{declared.State.State, declared.Runner.Runner, Calls.Call, Calls.call, Calls.after_calls}
 use Rattle.runner.proofs.{Calls.both, Starts.kept-sheet, Untouched.stopped-stays, OneSheet.other-refused}
 use Rattle.step.proofs.Sizes.{size_fits}
+use Rattle.step.specs.declared.kind.Kind.TheVariants as kind
 
 either : {A : Type 0} (P : A → Type 0) (b : Bool) (x y : A) → (b ≡ true → P x) → (b ≡ false → P y) → P (pick b x y)
 either P true x y p q = p refl

@@ -1,21 +1,17 @@
 -- A runner that was started with a sheet of well-formed steps, with every call ready, answers each step in order and
 -- then done.
-use mathlib.Core.{Bool.true, List.List, List.[], List.◌∷◌, List.◌++◌, List.map}
-use mathlib.Core.Path.{◌≡◌, ap, ◌∙◌}
-use Prim.Native.Nat.{ℕ, suc, ◌+◌, ◌*◌, ◌≤◌, ◌<◌}
+use Rattle.std.specs.Prelude.{true, List, [], ◌∷◌, ◌++◌, map, ◌≡◌, ℕ, suc, ◌+◌, ◌*◌, ◌≤◌, ◌<◌, length, get_or, replicate}
+use mathlib.Core.Path.{ap, ◌∙◌}
 use native.Mathlib.{Nat.add-zero, Nat.zero-add, Numerals.add-one, Omega.arith}
-use lib.ListN.{length, get_or, replicate}
-use Rattle.base.{specs.Answer.Answer, specs.Answer.value, proofs.Bools.either_way}
-use Rattle.step.specs.declared.Step.{Step}
-use Rattle.step.specs.declared.kind.Kind.TheVariants as kind
-use Rattle.step.specs.{Access.read_at, Sheet.max_steps, Sheet.encoded, Sheet.AllFormed}
+use Rattle.base.specs.Answer.{Answer, value}
+use Rattle.base.proofs.Bools.{either_way}
+use Rattle.step.specs.{declared.Step.Step, Access.read_at, Sheet.max_steps, Sheet.encoded, Sheet.AllFormed}
 use Rattle.step.proofs.Sheets.{length-encoded, read-encoded}
-use Rattle.runner.specs.declared.Runner.{Runner}
-use Rattle.runner.specs.declared.Reply.{Reply}
-use Rattle.runner.specs.declared.Reply.TheVariants.{Done}
 use Rattle.runner.specs.Run.{Outcome, outcome, is_wait, take_step, stored_by, freqs_after, started_with, advance_of}
 use Rattle.runner.specs.Calls.{answers, after, ready_answer, stores_of, ready_state, ready_at}
+use Rattle.runner.specs.declared.{Runner.Runner, Reply.Reply, Reply.TheVariants.Done}
 use Rattle.runner.proofs.Going.{wait-stores, done_at, step-at}
+use Rattle.step.specs.declared.kind.Kind.TheVariants as kind
 
 -- a ready call at a step
 takes : (step : Step) (p : ℕ) → take_step (ready_state p) step true ≡ outcome (ready_answer step) (ready_state (p + 1))

@@ -1,14 +1,11 @@
 -- The runner after a start: unchanged after a refusal, else fresh with the padded sheet.
-use mathlib.Core.{Bool.true, Bool.false, List.List, List.◌++◌, Path.◌≡◌, Path.refl, Path.sym, Path.ap, Path.◌∙◌}
-use Prim.Native.Nat.{ℕ, ◌+◌, ◌-◌, ◌≤◌}
+use Rattle.std.specs.Prelude.{true, false, List, ◌++◌, ◌≡◌, refl, ℕ, ◌+◌, ◌-◌, ◌≤◌, length, take, drop, replicate}
+use mathlib.Core.Path.{sym, ap, ◌∙◌}
 use native.Mathlib.Omega.{arith}
-use lib.ListN.{length, take, drop, replicate, replicate-append-replicate, length-replicate}
-use lib.Seq.{take-length, drop-append_seam, take-append_seam}
-use Rattle.base.specs.{Answer.value, Answer.refusal}
-use Rattle.step.specs.Sheet.{max_bytes}
-use Rattle.runner.specs.declared.{Runner.Runner}
-use Rattle.runner.specs.Run.{padded, started_with, start_of, outcome}
-use Rattle.step.specs.Size.{bad_size}
+use lib.{ListN.replicate-append-replicate, ListN.length-replicate, Seq.take-length, Seq.drop-append_seam, Seq.take-append_seam}
+use Rattle.base.specs.Answer.{value, refusal}
+use Rattle.step.specs.{Sheet.max_bytes, Size.bad_size}
+use Rattle.runner.specs.{declared.Runner.Runner, Run.padded, Run.started_with, Run.start_of, Run.outcome}
 
 module _ (r : Runner) (sheet : List ℕ) where
   pub start-refused : bad_size (length sheet) ≡ true → outcome (refusal 20) r ≡ start_of r sheet

@@ -1,13 +1,11 @@
 -- Inside: calls over one sheet, one for each ready flag, and the expected answers where all flags are ready.
-use Rattle.std.specs.Prelude.{ℕ}
-use mathlib.Core.{Bool.Bool, Bool.true, Bool.false, Logic.◌⊎◌, Path.◌≡◌, List.List, List.[], List.◌∷◌}
+use Rattle.std.specs.Prelude.{ℕ, Bool, true, false, ◌⊎◌, ◌≡◌, List, [], ◌∷◌}
 use Rattle.base.specs.{Answer.Answer, Answer.value, Answer.refusal, Choice.pick}
 use Rattle.step.specs.declared.Step.{Step}
-use Rattle.runner.specs.declared.{State.State, Stepper.Stepper, Runner.Runner}
-use Rattle.text.specs.Ascii.{same}
-use Rattle.runner.specs.declared.Reply.{Reply}
 use Rattle.runner.specs.declared.Reply.TheVariants.{Handed, Passed}
 use Rattle.runner.specs.Run.{Outcome, is_wait, polled, stored_by, with_stepper, started_with, advance_of}
+use Rattle.runner.specs.declared.{State.State, Stepper.Stepper, Runner.Runner, Reply.Reply}
+use Rattle.text.specs.Ascii.{same}
 
 -- the answers of the calls
 abbrev pub answers : Runner → List ℕ → List Bool → List (Answer Reply)

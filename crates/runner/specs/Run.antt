@@ -1,18 +1,14 @@
 -- The runner (docs/FORMAT.md, Runner): the answer of a start and of each call, and the runner after it, for every
 -- runner, sheet and ready flag.
-use Rattle.std.specs.Prelude.{ℕ, ◌+◌, ◌-◌, ◌*◌}
-use mathlib.Core.{Bool.Bool, Bool.true, Bool.false, Bool.◌||◌, Bool.not, List.List, List.◌++◌}
-use lib.{Dec.ltb, Dec.leb, ListN.length, ListN.get_or, ListN.set, ListN.take, ListN.replicate}
+use Rattle.std.specs.Prelude.{ℕ, ◌+◌, ◌-◌, ◌*◌, Bool, true, false, ◌||◌, not, List, ◌++◌, ltb, leb, length, get_or, set, take}
+use Rattle.std.specs.Prelude.{replicate}
 use Rattle.base.specs.{Answer.Answer, Answer.value, Answer.refusal, Choice.pick}
 use Rattle.text.specs.Ascii.{same}
-use Rattle.step.specs.declared.Step.{Step}
-use Rattle.step.specs.Kinds.{is}
-use Rattle.step.specs.declared.kind.Kind.{Kind}
-use Rattle.step.specs.declared.kind.Kind.TheVariants as kind
-use Rattle.step.specs.{Access.read_at, Sheet.max_steps, Sheet.max_bytes, Steps.WellFormed}
-use Rattle.step.specs.Size.{bad_size}
-use Rattle.runner.specs.declared.{Reply.Reply, State.State, Stepper.Stepper, Runner.Runner}
+use Rattle.step.specs.Sheet.{max_steps, max_bytes}
+use Rattle.step.specs.{declared.Step.Step, Kinds.is, declared.kind.Kind.Kind, Access.read_at, Steps.WellFormed, Size.bad_size}
 use Rattle.runner.specs.declared.Reply.TheVariants.{Done, Handed, Passed, Waiting}
+use Rattle.runner.specs.declared.{Reply.Reply, State.State, Stepper.Stepper, Runner.Runner}
+use Rattle.step.specs.declared.kind.Kind.TheVariants as kind
 
 -- the answer of a call or a start, and the state, stepper, runner or bench after it
 pub record Leaves (P A : Type 0) : Type 0 where
@@ -23,8 +19,8 @@ abbrev pub Outcome : Type 0 → Type 0
 Outcome A = Leaves Reply A
 
 -- a start that is not refused answers nothing more
-abbrev pub Begun : Type 0 → Type 0
-Begun A = Leaves Unit A
+abbrev pub StartOutcome : Type 0 → Type 0
+StartOutcome A = Leaves Unit A
 
 abbrev pub outcome : {P A : Type 0} → Answer P → A → Leaves P A
 outcome a x = record { answer = a; next = x }
@@ -152,5 +148,5 @@ started_with sheet = record { kept = padded sheet; len = length sheet; stepper =
 
 -- a start: refusal 20 for a length that no sheet has, which changes nothing; else a fresh runner with the sheet,
 -- whatever it was before
-unfoldable pub start_of : Runner → List ℕ → Begun Runner
+unfoldable pub start_of : Runner → List ℕ → StartOutcome Runner
 start_of r sheet = pick (bad_size (length sheet)) (outcome (refusal 20) r) (outcome (value tt) (started_with sheet))

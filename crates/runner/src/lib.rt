@@ -6,11 +6,9 @@ mod stepping;
 
 ghost use Rattle.std.specs.Prelude.{◌≡◌, ◌≤◌, length};
 ghost use Rattle.base.specs.Answer.{answer_of};
-ghost use Rattle.step.specs.Sheet.{max_bytes};
-ghost use Rattle.step.specs.Clocks.{clock_number};
+ghost use Rattle.step.specs.{Sheet.max_bytes, Clocks.clock_number};
 ghost use Rattle.text.specs.Ascii.{same};
-ghost use Rattle.runner.specs.Run.{outcome, turn_of, stepper_of, advance_of, start_of};
-ghost use Rattle.runner.specs.Run.{fresh_stepper, fresh, freq_of, padded};
+ghost use Rattle.runner.specs.Run.{outcome, turn_of, stepper_of, advance_of, start_of, fresh_stepper, fresh, freq_of, padded};
 
 use base::Refusal;
 pub use step::Clock;
@@ -62,7 +60,7 @@ pub enum Reply {
 impl State {
     // One call on the state with a kept sheet; refuses with 21, 22, 27 or 20, in this order,
     // and with 22 at the lock timeout.
-    #[tactic(auto, using(crate::proofs::Calls::inside, crate::proofs::Calls::len_fits), unfolding(crate::specs::Run::turn_of, crate::specs::Run::outside))]
+    #[tactic(auto, using(crate::proofs::Calls::ranges), unfolding(crate::specs::Run::turn_of, crate::specs::Run::outside))]
     pub fn turn(&mut self, kept: Kept<'_>, sheet: &[u8], ready: bool) -> Result<Reply, Refusal>
         ensures { outcome (answer_of result) self.new ≡ turn_of self.old kept.entry.len kept.entry.bytes.now sheet.now ready }
     {

@@ -1,8 +1,7 @@
 // One step: the step at the position, and the state and the frequencies after it.
 ghost use Rattle.std.specs.Prelude.{◌≡◌, ◌<◌, ◌≤◌, length};
 ghost use Rattle.base.specs.Answer.{answer_of};
-ghost use Rattle.step.specs.Sheet.{max_steps};
-ghost use Rattle.step.specs.Steps.{WellFormed};
+ghost use Rattle.step.specs.{Sheet.max_steps, Steps.WellFormed};
 ghost use Rattle.runner.specs.Run.{outcome, is_wait, unready, take_step, onward_of, stored_by};
 
 use crate::{Reply, State};
@@ -22,7 +21,7 @@ fn is_wait(of: Kind) -> bool
 // A state comes from C with any numbers, so its bounds are no ghost field: `turn` tests them, and these methods ask for them.
 impl State {
     // A wait that is not ready: waiting, or at the last lock poll refusal 22, which stops the runner.
-    #[tactic(auto, using(std::proofs::lemmas::Bool::Decides::nat_tests, crate::proofs::Calls::one_more_is), unfolding(crate::specs::Run::unready))]
+    #[tactic(auto, using(crate::proofs::Calls::counting), unfolding(crate::specs::Run::unready))]
     fn wait_unready(&mut self, wait: Kind) -> Result<Reply, Refusal>
         requires { self.old.lock_polls < 1000000 }
         ensures { outcome (answer_of result) self.new ≡ unready self.old wait }
@@ -59,7 +58,7 @@ impl State {
 
     // Answers done past the last step, else takes the step, or refuses with 20 where it cannot be read. The caller
     // applies a store.
-    #[tactic(auto, using(std::proofs::lemmas::Bool::Decides::nat_tests), unfolding(crate::specs::Run::onward_of, crate::specs::Run::take_read))]
+    #[tactic(auto, using(crate::proofs::Calls::counting), unfolding(crate::specs::Run::onward_of, crate::specs::Run::take_read))]
     pub(crate) fn onward(&mut self, sheet: &[u8], ready: bool) -> Result<Reply, Refusal>
         requires { (self.old.position ≤ max_steps) × (self.old.lock_polls < 1000000) }
         ensures { outcome (answer_of result) self.new ≡ onward_of self.old sheet.now ready }
@@ -73,7 +72,7 @@ impl State {
 }
 
 // A store that is handed out sets the frequency of its clock; any other step changes nothing.
-#[tactic(auto, using(std::proofs::lemmas::Bool::Decides::nat_tests, crate::proofs::Steps::store_fits), unfolding(crate::specs::Run::stored_by))]
+#[tactic(auto, using(crate::proofs::Steps::storing), unfolding(crate::specs::Run::stored_by))]
 pub(crate) fn store(step: Step, freqs: &mut [u32])
     requires formed { WellFormed step }
     requires ten { length freqs.old ≡ 10 }

@@ -1,19 +1,15 @@
 -- Each code of a range or a source decodes to the range or the source that it was made of, and is at most the last one's.
-use Rattle.std.specs.Prelude.{Option, Some, None}
-use mathlib.Core.{Path.◌≡◌, Path.refl}
-use Prim.Native.Nat.{ℕ, ◌+◌, ◌%◌, ◌≤◌, ◌<◌}
+use Rattle.std.specs.Prelude.{Option, Some, None, ◌≡◌, refl, ℕ, ◌+◌, ◌%◌, ◌≤◌, ◌<◌, eqb}
 use native.Mathlib.{Nat.mod-eq_of_lt, Omega.arith}
-use lib.Dec.{eqb}
 use borrow.Author.Tests.{eqb-true, eqb-false}
 use Rattle.base.proofs.Bools.{either_way}
-use Rattle.chip.specs.declared.Chip.TheVariants.{Rp2040, Rp235x}
-use Rattle.chip.specs.Chips.{facts_of}
+use Rattle.chip.specs.{declared.Chip.TheVariants.Rp2040, declared.Chip.TheVariants.Rp235x, Chips.facts_of}
 use Rattle.chip.proofs.Codes.{core-voltage-code, code-small, bod-small}
+use Rattle.config.specs.ChipSettings.{chip_of, config_of, FractionFits}
+use Rattle.config.specs.Codes.{range_code, ref_code, sys_code, peri_aux, aux_code, chip_from, range_from, ref_from, sys_source_from}
+use Rattle.config.specs.Codes.{peri_from, aux_from, div_from}
 use Rattle.config.specs.declared.{RoscRange.RoscRange, RefClkSrc.RefClkSrc, SysClkSrc.SysClkSrc, PeriClkSrc.PeriClkSrc}
 use Rattle.config.specs.declared.{AuxClkSrc.AuxClkSrc, AuxClkConfig.AuxClkConfig, ChipConfig.ChipConfig}
-use Rattle.config.specs.Board.{board_of, config_of, FractionFits}
-use Rattle.config.specs.Codes.{range_code, ref_code, sys_code, peri_aux, aux_code, chip_from}
-use Rattle.config.specs.Codes.{range_from, ref_from, sys_source_from, peri_from, aux_from, div_from}
 
 pub range-code : (x : RoscRange) → (range_from (range_code x) ≡ x) × (range_code x ≤ 3)
 range-code RoscRange.Low = (refl, omega arith)
@@ -46,22 +42,22 @@ aux-code AuxClkSrc.PllSys = (refl, omega arith)
 aux-code AuxClkSrc.Rosc = (refl, omega arith)
 aux-code AuxClkSrc.Xosc = (refl, omega arith)
 
--- The chip-specific part of a plan is read back from the board's numbers: its voltage code is known.
+-- The chip-specific part of a plan is read back from the numbers of its settings: its voltage code is known.
 pub chip-back : (c : ChipConfig)
-    → chip_from (board_of c).chip (board_of c).volts.code (board_of c).whole (board_of c).fraction (board_of c).rtc ≡ c
+    → chip_from (chip_of c).model (chip_of c).volts.code (chip_of c).whole (chip_of c).fraction (chip_of c).rtc ≡ c
 chip-back (ChipConfig.Rp2040 c) = rw (core-voltage-code Rp2040 c.core_voltage)
 chip-back (ChipConfig.Rp235x c) = rw (core-voltage-code Rp235x c.core_voltage)
 
 -- So is that part itself, where the divider fits the chip's bits.
-pub config-back : (c : ChipConfig) → (board_of c).whole ≤ (facts_of (board_of c).chip).top_whole → FractionFits (board_of c)
-    → config_of (board_of c) ≡ c
+pub config-back : (c : ChipConfig) → (chip_of c).whole ≤ (facts_of (chip_of c).model).top_whole → FractionFits (chip_of c)
+    → config_of (chip_of c) ≡ c
 config-back c few fits =
-    let inside : (board_of c).whole < (facts_of (board_of c).chip).top_whole + 1 = omega arith in
+    let inside : (chip_of c).whole < (facts_of (chip_of c).model).top_whole + 1 = omega arith in
     rw (mod-eq_of_lt inside, mod-eq_of_lt fits) (chip-back c)
 
-pub board-small : (c : ChipConfig) → ((board_of c).volts.code < 16) × ((board_of c).volts.brownout < 16)
-board-small (ChipConfig.Rp2040 c) = (code-small Rp2040 c.core_voltage, bod-small Rp2040 c.core_voltage)
-board-small (ChipConfig.Rp235x c) = (code-small Rp235x c.core_voltage, bod-small Rp235x c.core_voltage)
+pub volts-small : (c : ChipConfig) → ((chip_of c).volts.code < 16) × ((chip_of c).volts.brownout < 16)
+volts-small (ChipConfig.Rp2040 c) = (code-small Rp2040 c.core_voltage, bod-small Rp2040 c.core_voltage)
+volts-small (ChipConfig.Rp235x c) = (code-small Rp235x c.core_voltage, bod-small Rp235x c.core_voltage)
 
 -- A divider from 1 to 4 is read back from its two bits.
 abbrev pub Small : ℕ → Type 0

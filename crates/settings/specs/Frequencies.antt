@@ -1,18 +1,14 @@
 -- The frequency of each clock in Hz, 0 where it is absent (docs/FORMAT.md, Frequencies and delays).
 -- These are the ten values that a sheet stores.
 use Rattle.std.specs.Prelude.{Option, Some, None, ℕ, ◌/◌, List, [], ◌∷◌, ◌++◌}
-use Rattle.config.specs.declared.RoscConfig.{RoscConfig}
-use Rattle.chip.specs.declared.{Chip.Chip, Chip.TheVariants.Rp2040, Chip.TheVariants.Rp235x}
-use Rattle.chip.specs.Chips.{facts_of}
+use Rattle.config.specs.declared.{RoscConfig.RoscConfig, RefClkSrc.RefClkSrc, SysClkSrc.SysClkSrc, PeriClkSrc.PeriClkSrc}
+use Rattle.config.specs.declared.{RefClkConfig.RefClkConfig, ChipSettings.ChipSettings, AuxClkSrc.AuxClkSrc}
+use Rattle.config.specs.declared.{AuxClkConfig.AuxClkConfig, RtcClkConfig.RtcClkConfig}
+use Rattle.chip.specs.{declared.Chip.Chip, declared.Chip.TheVariants.Rp2040, declared.Chip.TheVariants.Rp235x, Chips.facts_of}
 use Rattle.divider.specs.Clock.{divided_hz}
-use Rattle.pll.specs.Setting.{valid_hz}
-use Rattle.config.specs.declared.{RefClkSrc.RefClkSrc, SysClkSrc.SysClkSrc}
-use Rattle.pll.specs.declared.PllConfig.{PllConfig}
-use Rattle.config.specs.declared.{PeriClkSrc.PeriClkSrc, RefClkConfig.RefClkConfig, Board.Board}
-use Rattle.config.specs.declared.{AuxClkSrc.AuxClkSrc, AuxClkConfig.AuxClkConfig, RtcClkConfig.RtcClkConfig}
+use Rattle.pll.specs.{Setting.valid_hz, declared.PllConfig.PllConfig}
 use Rattle.settings.specs.declared.{Crystal.Crystal, Settings.Settings, Sources.Sources}
-use Rattle.settings.specs.declared.Frequencies.{Frequencies}
-use Rattle.settings.specs.Settings.{ring_hz}
+use Rattle.settings.specs.{declared.Frequencies.Frequencies, Settings.ring_hz}
 
 -- An invalid PLL counts as 0 Hz; this value reaches no sheet, as the plan is refused with 5 or 6.
 unfoldable pub pll_hz : ℕ → Option PllConfig → ℕ
@@ -48,8 +44,8 @@ sys_source f reference SysClkSrc.Rosc = f.rosc
 sys_source f reference SysClkSrc.Xosc = f.xosc
 
 -- Source × scale / (whole × scale + fraction), with scale 256 on the RP2040 and 65536 on the RP235x.
-unfoldable pub sys_hz : Board → Sources → ℕ → SysClkSrc → ℕ
-sys_hz b f reference src = divided_hz (facts_of b.chip).scale (sys_source f reference src) b.whole b.fraction
+unfoldable pub sys_hz : ChipSettings → Sources → ℕ → SysClkSrc → ℕ
+sys_hz c f reference src = divided_hz (facts_of c.model).scale (sys_source f reference src) c.whole c.fraction
 
 abbrev pub peri_source : Sources → ℕ → PeriClkSrc → ℕ
 peri_source f system PeriClkSrc.Sys = system
@@ -98,7 +94,7 @@ abbrev pub ref_in : Settings → ℕ
 ref_in s = ref_hz (sources_in s) s.reference
 
 abbrev pub sys_in : Settings → ℕ
-sys_in s = sys_hz s.board (sources_in s) (ref_in s) s.sys
+sys_in s = sys_hz s.chip (sources_in s) (ref_in s) s.sys
 
 abbrev pub frequencies_of : Settings → Frequencies
 frequencies_of s =
@@ -109,10 +105,10 @@ frequencies_of s =
       peri = peri_hz (sources_in s) (sys_in s) s.peri;
       usb = aux_hz (sources_in s) s.usb;
       adc = aux_hz (sources_in s) s.adc;
-      rtc = rtc_hz (sources_in s) s.board.rtc;
+      rtc = rtc_hz (sources_in s) s.chip.rtc;
       usb_source = aux_source_in (sources_in s) s.usb;
       adc_source = aux_source_in (sources_in s) s.adc;
-      rtc_source = rtc_source_in (sources_in s) s.board.rtc;
+      rtc_source = rtc_source_in (sources_in s) s.chip.rtc;
     }
 
 -- The nine frequencies that a sheet of either chip stores, in the order of the clock numbers.
@@ -136,7 +132,7 @@ tenth_of Rp235x hz = []
 
 -- All values that a sheet stores, in the order of its stores.
 unfoldable pub stored_of : Settings → List ℕ
-stored_of s = nine_of (frequencies_of s) ++ tenth_of s.board.chip (frequencies_of s).rtc
+stored_of s = nine_of (frequencies_of s) ++ tenth_of s.chip.model (frequencies_of s).rtc
 
 -- The ten frequencies that a fresh runner holds after the sheet; the RTC of an RP235x has 0 Hz.
 unfoldable pub ten_of : Settings → List ℕ

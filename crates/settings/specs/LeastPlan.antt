@@ -1,12 +1,8 @@
 -- The plan with these settings whose delay multiplier and settling time are the smallest (docs/FORMAT.md, Reading a sheet back).
 use Rattle.std.specs.Prelude.{Option, Some, None, ℕ, ◌+◌, ◌-◌, ◌*◌, ◌/◌, ◌%◌, ◌^◌}
 use Rattle.divider.specs.Delay.{cycles_per_us}
-use Rattle.config.specs.declared.XoscConfig.{XoscConfig}
-use Rattle.config.specs.declared.{ClockConfig.ClockConfig}
-use Rattle.config.specs.Board.{config_of}
-use Rattle.settings.specs.declared.Crystal.{Crystal}
-use Rattle.settings.specs.declared.Settings.{Settings}
-use Rattle.settings.specs.Settings.{ring_hz}
+use Rattle.config.specs.{declared.XoscConfig.XoscConfig, declared.ClockConfig.ClockConfig, ChipSettings.config_of}
+use Rattle.settings.specs.{declared.Crystal.Crystal, declared.Settings.Settings, Settings.ring_hz}
 
 -- The smallest multiplier is (256 × delay − 128) over the crystal's kHz, rounded up; it is 0 for a delay of 0.
 unfoldable pub multiplier_for : ℕ → ℕ → ℕ
@@ -33,7 +29,7 @@ time_for hz None = 0
 abbrev pub plan_with : Settings → Option XoscConfig → Option ℕ → ClockConfig
 plan_with s x time =
     record {
-      chip = config_of s.board;
+      chip = config_of s.chip;
       rosc = s.rosc;
       xosc = x;
       ref_clk = s.reference;

@@ -3,9 +3,8 @@
 use Rattle.std.specs.Prelude.{Option, Some, None, ℕ, eqb}
 use Rattle.base.specs.Choice.{pick}
 use Rattle.divider.specs.Delay.{delay_of, settling_cycles}
-use Rattle.config.specs.declared.{RoscConfig.RoscConfig, XoscConfig.XoscConfig}
-use Rattle.config.specs.declared.ClockConfig.{ClockConfig}
-use Rattle.config.specs.Board.{board_of}
+use Rattle.config.specs.declared.{RoscConfig.RoscConfig, XoscConfig.XoscConfig, ClockConfig.ClockConfig}
+use Rattle.config.specs.ChipSettings.{chip_of}
 use Rattle.settings.specs.declared.{Crystal.Crystal, Settings.Settings}
 
 -- The delay multiplier counts only through the startup delay.
@@ -30,16 +29,16 @@ unfoldable pub settling_step : ℕ → ℕ → ℕ → ℕ → Option ℕ
 settling_step reading code time hz =
     pick (eqb code reading) None (pick (eqb time 0) None (Some (settling_cycles time hz)))
 
--- The board has the chip-specific part in common fields; all other parts are the plan's own.
+-- `chip` has the chip-specific part in common fields; all other parts are the plan's own.
 abbrev pub settings_of : ClockConfig → ℕ → Settings
 settings_of p reading =
-    let b = board_of p.chip in
-    let time = settling_time p.voltage_stabilization_delay_us b.volts.settling_us in
+    let c = chip_of p.chip in
+    let time = settling_time p.voltage_stabilization_delay_us c.volts.settling_us in
     record {
-      board = b;
+      chip = c;
       rosc = p.rosc;
       xosc = crystal_of p.xosc;
-      settling = settling_step reading b.volts.code time (ring_hz p.rosc);
+      settling = settling_step reading c.volts.code time (ring_hz p.rosc);
       reference = p.ref_clk;
       sys = p.sys_clk_src;
       peri = p.peri_clk_src;

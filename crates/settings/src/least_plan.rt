@@ -1,8 +1,7 @@
 // The plan with these settings whose delay multiplier and settling time are the smallest (docs/FORMAT.md, Reading a sheet back).
 ghost use Rattle.std.specs.Prelude.{◌≡◌, ◌/◌, ◌%◌, ◌^◌};
 ghost use Rattle.divider.specs.Delay.{cycles_per_us};
-ghost use Rattle.settings.specs.Settings.{ring_hz};
-ghost use Rattle.settings.specs.LeastPlan.{multiplier_for, xosc_for, time_for, plan_of};
+ghost use Rattle.settings.specs.{Settings.ring_hz, LeastPlan.multiplier_for, LeastPlan.xosc_for, LeastPlan.time_for, LeastPlan.plan_of};
 
 use crate::{Crystal, Settings};
 use config::{ClockConfig, RoscConfig, XoscConfig};
@@ -55,7 +54,7 @@ pub fn plan_of(s: Settings) -> ClockConfig
     ensures { result ≡ plan_of s }
 {
     ClockConfig {
-        chip: s.board.config(),
+        chip: s.chip.config(),
         rosc: s.rosc,
         xosc: xosc_for(s.xosc),
         ref_clk: s.reference,

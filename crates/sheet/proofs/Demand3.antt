@@ -1,22 +1,17 @@
 -- Demand 3 is shown for the definitions, then for any two calls of the writer from its contract alone. The settings of an
 -- accepted plan are read back from its steps, and its steps from its bytes.
-use Rattle.std.specs.Prelude.{Option, Some, None, Result}
-use Rattle.base.specs.declared.refusal.Refusal.{Refusal}
-use mathlib.Core.{Path.◌≡◌, Path.refl, Path.sym, Path.ap, Path.◌∙◌, Logic.◌↔◌, List.List, List.◌++◌}
-use Prim.Native.Nat.{ℕ, ◌≤◌, ◌<◌}
+use Rattle.std.specs.Prelude.{Option, Some, None, Result, ◌≡◌, refl, ◌↔◌, List, ◌++◌, ℕ, ◌≤◌, ◌<◌, length, drop, get_or}
+use Rattle.base.specs.{declared.refusal.Refusal.Refusal, Answer.Answer, Answer.value, Answer.refusal, Answer.answer_of}
+use mathlib.Core.Path.{sym, ap, ◌∙◌}
 use native.Mathlib.{Omega.arith, Nat.lt_of_not-le, Decide.dec_le}
-use lib.{ListN.length, ListN.drop, ListN.get_or, ListN.get_or-append, Seq.ext_get_or}
-use Rattle.base.specs.Answer.{Answer, value, refusal, answer_of}
+use lib.{ListN.get_or-append, Seq.ext_get_or}
 use Rattle.step.specs.Sheet.{encoded}
 use Rattle.step.proofs.Sheets.{encoded-injective}
-use Rattle.config.specs.declared.ClockConfig.{ClockConfig}
-use Rattle.config.specs.Board.{board_of}
-use Rattle.settings.specs.declared.Settings.{Settings}
-use Rattle.settings.specs.{Settings.settings_of, Typed.Typed}
+use Rattle.config.specs.{declared.ClockConfig.ClockConfig, ChipSettings.chip_of}
+use Rattle.settings.specs.{declared.Settings.Settings, Settings.settings_of, Typed.Typed}
 use Rattle.refusals.specs.Refusals.{Accepted}
-use Rattle.sheet.specs.Steps.{steps_of}
-use Rattle.sheet.specs.{Read.settings_from, Writer.sheet_bytes, Writer.refusal_in, Writer.init_answer, Writer.InitCall}
-use Rattle.sheet.specs.Demand3.{SameUpTo, Demand3}
+use Rattle.sheet.specs.Writer.{sheet_bytes, refusal_in, init_answer, InitCall}
+use Rattle.sheet.specs.{Steps.steps_of, Read.settings_from, Demand3.SameUpTo, Demand3.Demand3}
 use Rattle.sheet.proofs.{Sheets.settings-back, Sheets.steps-formed, Ends.accepted, Ends.refused-answer, Ends.short-answer}
 
 -- Two accepted plans have equal bytes exactly when their settings are equal.
@@ -37,9 +32,9 @@ same-sheets p q reading tp tq ep eq = (
 -- So the bytes of a sheet determine its chip.
 pub one-chip : (p q : ClockConfig) (reading : ℕ) → Typed (settings_of p reading) → Typed (settings_of q reading)
     → refusal_in p reading ≡ None → refusal_in q reading ≡ None
-    → sheet_bytes p reading ≡ sheet_bytes q reading → (board_of p.chip).chip ≡ (board_of q.chip).chip
+    → sheet_bytes p reading ≡ sheet_bytes q reading → (chip_of p.chip).model ≡ (chip_of q.chip).model
 one-chip p q reading tp tq ep eq e =
-    ap (λ (s : Settings). s.board.chip) ((same-sheets p q reading tp tq ep eq).0 e)
+    ap (λ (s : Settings). s.chip.model) ((same-sheets p q reading tp tq ep eq).0 e)
 
 -- ---- calls of the writer
 

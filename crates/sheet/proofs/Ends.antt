@@ -1,29 +1,23 @@
 -- The collected words of an accepted plan are ready to be copied, and each of the writer's three ends meets its contract.
-use Rattle.base.specs.{Answer.value, Answer.refusal, Refusals.number_of}
-use Rattle.base.specs.declared.refusal.Refusal.{Refusal}
-use mathlib.Core.{Path.◌≡◌, Path.refl, Path.sym, Path.ap, Path.◌∙◌}
-use mathlib.Core.List.{List, [], ◌++◌, map}
-use Prim.Native.Nat.{ℕ, ◌*◌, ◌≤◌, ◌<◌}
-use lib.ListN.{length, take, drop, replicate, length-map}
+use Rattle.std.specs.Prelude.{◌≡◌, refl, List, [], ◌++◌, map, ℕ, ◌*◌, ◌≤◌, ◌<◌, length, take, drop, replicate, Some, Result, Ok}
+use Rattle.std.specs.Prelude.{Err}
+use Rattle.base.specs.{Answer.value, Answer.refusal, Refusals.number_of, declared.refusal.Refusal.Refusal}
+use mathlib.Core.Path.{sym, ap, ◌∙◌}
+use lib.ListN.{length-map}
 use borrow.Author.Tests.{lt-ltb, le-ltb, leb-true, leb-false}
 use native.Mathlib.Omega.{arith}
-use Rattle.std.specs.Prelude.{Some, Result, Ok, Err}
-use Rattle.step.specs.declared.Step.{Step}
-use Rattle.step.specs.{Bytes.turned_of, Bytes.bytes_of, Sheet.max_steps, Sheet.max_bytes, Sheet.encoded}
+use Rattle.step.specs.{declared.Step.Step, Bytes.turned_of, Bytes.bytes_of, Sheet.max_steps, Sheet.max_bytes, Sheet.encoded}
 use Rattle.step.specs.Access.{room_for, copy_of, copied}
 use Rattle.step.proofs.Sheets.{length-encoded}
-use Rattle.config.specs.declared.ClockConfig.{ClockConfig}
-use Rattle.settings.specs.{Settings.settings_of, Frequencies.frequencies_of, Typed.Typed}
-use Rattle.settings.specs.declared.Settings.{Settings}
-use Rattle.config.specs.Board.{FractionFits}
+use Rattle.config.specs.{declared.ClockConfig.ClockConfig, ChipSettings.FractionFits}
+use Rattle.settings.specs.{Settings.settings_of, Frequencies.frequencies_of, Typed.Typed, declared.Settings.Settings}
 use Rattle.settings.specs.declared.Frequencies.{Frequencies}
 use Rattle.base.proofs.Bools.{either_way}
 use Rattle.refusals.proofs.Examined.{examined-refused, examined-accepted}
 use Rattle.refusals.specs.Refusals.{refusal_of, examined_of, Accepted}
-use Rattle.sheet.specs.{Steps.steps_of, Gather.Gathered, Gather.held, Gather.word_of, Gather.pushes}
-use Rattle.sheet.proofs.Sheets.{steps-few}
 use Rattle.sheet.specs.Writer.{sheet_bytes, refusal_in, init_answer, init_buffer, InitCall}
-use Rattle.sheet.proofs.Gathering.{Holds, holds-pushes, turned-back}
+use Rattle.sheet.specs.{Steps.steps_of, Gather.Gathered, Gather.held, Gather.word_of, Gather.pushes}
+use Rattle.sheet.proofs.{Sheets.steps-few, Gathering.Holds, Gathering.holds-pushes, Gathering.turned-back}
 
 -- The words in use, byte-swapped as they are copied, have these bytes.
 pub record Ready (g : Gathered) (bytes : List ℕ) : Type 0 where
@@ -81,7 +75,7 @@ pub record Looked (p : ClockConfig) (reading : ℕ) (s : Settings) (f : Frequenc
 -- What is known of settings that `examine` answered.
 abbrev pub Told : ClockConfig → ℕ → Settings → Result Frequencies Refusal → Type 0
 Told p reading s r =
-    ((s ≡ settings_of p reading) × FractionFits s.board) × ((r ≡ examined_of s reading) × (FractionFits s.board → Typed s))
+    ((s ≡ settings_of p reading) × FractionFits s.chip) × ((r ≡ examined_of s reading) × (FractionFits s.chip → Typed s))
 
 pub looked : (p : ClockConfig) (reading : ℕ) {s : Settings} {f : Frequencies} → Told p reading s (Ok f) → Looked p reading s f
 looked p reading {s} {f} t =
@@ -94,11 +88,11 @@ looked p reading {s} {f} t =
     }
 
 -- The facts about a plan that `examine` refused.
-pub record Turned (p : ClockConfig) (reading : ℕ) (reason : Refusal) : Type 0 where
+pub record Rejected (p : ClockConfig) (reading : ℕ) (reason : Refusal) : Type 0 where
   pub reason_is : refusal_in p reading ≡ Some reason
   pub typed : Typed (settings_of p reading)
 
-pub turned : (p : ClockConfig) (reading : ℕ) {s : Settings} {reason : Refusal} → Told p reading s (Err reason) → Turned p reading reason
+pub turned : (p : ClockConfig) (reading : ℕ) {s : Settings} {reason : Refusal} → Told p reading s (Err reason) → Rejected p reading reason
 turned p reading {s} {reason} t =
     record {
       reason_is = ap (λ (s : Settings). refusal_of s reading) (sym t.0.0) ∙ examined-refused s reading reason t.1.0;

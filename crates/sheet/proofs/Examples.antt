@@ -1,28 +1,23 @@
 -- These plans are accepted at reading 11: the crystal presets, whose sheets have 62 and 63 steps, and for each chip a plan whose
 -- sheet has the greatest number of steps.
-use mathlib.Core.{Path.◌≡◌, Path.refl, List.List, List.[], List.◌∷◌, List.map}
-use Prim.Native.Nat.{ℕ}
-use lib.ListN.{length, get_or}
-use Rattle.step.specs.declared.Step.{Step}
-use Rattle.step.specs.declared.kind.Kind.TheVariants as kind
+use Rattle.std.specs.Prelude.{◌≡◌, refl, List, [], ◌∷◌, map, ℕ, length, get_or}
+use Rattle.step.specs.{declared.Step.Step, Sheet.max_steps}
 use native.Mathlib.Omega.{arith}
 use Rattle.chip.specs.declared.Chip.TheVariants.{Rp2040, Rp235x}
 use Rattle.chip.specs.declared.voltage.{CoreVoltage.TheVariants.V1_15, CoreVoltage235.TheVariants.V1_15 as volts115}
-use Rattle.config.specs.declared.{ChipConfig.TheVariants.Rp235x as on235x, RoscRange.TheVariants.Medium}
-use Rattle.config.specs.declared.ClockConfig.{ClockConfig}
-use Rattle.divider.specs.{Delay.startup_sum, Delay.cycles_per_us, Delay.settling_cycles, Clock.divided_hz}
-use Rattle.step.specs.Sheet.{max_steps}
-use Rattle.pll.specs.Search.{setting}
 use Rattle.config.specs.Presets.{ring_config, feeding, from_plls, crystal_plan}
+use Rattle.config.specs.declared.{ChipConfig.TheVariants.Rp235x as on235x, RoscRange.TheVariants.Medium, ClockConfig.ClockConfig}
+use Rattle.divider.specs.{Delay.startup_sum, Delay.cycles_per_us, Delay.settling_cycles, Clock.divided_hz}
+use Rattle.pll.specs.Search.{setting}
 use Rattle.config.proofs.OnChip.{on_chip}
-use Rattle.settings.specs.Settings.{settling_step, settings_of}
 use Rattle.settings.specs.Frequencies.{pll_hz, sources_of, ref_hz, sys_hz, sys_in}
-use Rattle.settings.specs.Typed.{Typed}
+use Rattle.settings.specs.{Settings.settling_step, Settings.settings_of, Typed.Typed}
 use Rattle.refusals.specs.Rules.{strengths_over, ring_divider_over, settling_over, startup_over, sys_pll_invalid, usb_pll_invalid}
 use Rattle.refusals.specs.Rules.{divider_bad, reference_bad, whole_bad, peri_bad, aux_bad, rtc_bad}
 use Rattle.refusals.specs.Refusals.{refusal_of, Accepted}
-use Rattle.sheet.specs.Steps.{step0, step1, head_part, ring_part, voltage_part, crystal_part, switch_steps, sys_part}
-use Rattle.sheet.specs.Steps.{peri_part, aux_part, rtc_part, release_mask, clocks_part, steps_of}
+use Rattle.sheet.specs.Steps.{step0, step1, head_part, ring_part, voltage_part, crystal_part, switch_steps, sys_part, peri_part}
+use Rattle.sheet.specs.Steps.{aux_part, rtc_part, release_mask, clocks_part, steps_of}
+use Rattle.step.specs.declared.kind.Kind.TheVariants as kind
 
 -- A plan within the bounds of its number types is accepted at a reading and gives a sheet of n steps.
 pub record Gives (p : ClockConfig) (reading n : ℕ) : Type 0 where

@@ -1,9 +1,6 @@
 -- Bounds for the numbers of a plan that the refusals do not exclude.
-use Rattle.std.specs.Prelude.{Option, Some, None}
-use mathlib.Core.{Path.◌≡◌, Bool.false, Bool.◌||◌}
-use Prim.Native.Nat.{ℕ, ◌<◌}
+use Rattle.std.specs.Prelude.{Option, Some, None, ◌≡◌, false, ◌||◌, ℕ, ◌<◌, eqb}
 use native.Mathlib.Omega.{arith}
-use lib.Dec.{eqb}
 use borrow.Author.Tests.{eq-eqb}
 use Rattle.std.proofs.lemmas.Bool.{or_parts}
 use Rattle.config.specs.declared.AuxClkConfig.{AuxClkConfig}

@@ -1,13 +1,10 @@
 -- What a caller of `init` learns who takes the bytes up to the length as the sheet: they are the sheet of an accepted plan; and
 -- where there is room for the sheet, a refusal is the plan's own.
-use Rattle.std.specs.Prelude.{Option, Some, None, Result, Ok, Err}
-use Rattle.base.specs.declared.refusal.Refusal.{Refusal}
-use Rattle.base.specs.Refusals.{number_of}
-use mathlib.Core.{Path.◌≡◌, Path.refl, Path.sym, Path.ap, Path.◌∙◌, List.List}
-use Prim.Native.Nat.{ℕ, ◌≤◌}
+use Rattle.std.specs.Prelude.{Option, Some, None, Result, Ok, Err, ◌≡◌, refl, List, ℕ, ◌≤◌, length, take, drop}
+use Rattle.base.specs.{declared.refusal.Refusal.Refusal, Refusals.number_of, Answer.refusal, Answer.answer_of}
+use mathlib.Core.Path.{sym, ap, ◌∙◌}
 use native.Mathlib.Omega.{arith}
-use lib.{ListN.length, ListN.take, ListN.drop, ListN.length-append, Seq.take_at}
-use Rattle.base.specs.Answer.{refusal, answer_of}
+use lib.{ListN.length-append, Seq.take_at}
 use Rattle.config.specs.declared.ClockConfig.{ClockConfig}
 use Rattle.refusals.specs.Refusals.{Accepted}
 use Rattle.sheet.specs.Writer.{sheet_bytes, refusal_in, InitCall}

@@ -1,16 +1,13 @@
 -- What is proved of each part of a sheet (Parts), and how parts are joined to a sheet (Sheets).
-use mathlib.Core.{Path.◌≡◌, Path.refl, Bool.Bool, Bool.true, Bool.false, List.List, List.[], List.◌∷◌, List.◌++◌, List.map}
-use Prim.Native.Nat.{ℕ, ◌+◌, ◌≤◌}
+use Rattle.std.specs.Prelude.{◌≡◌, refl, Bool, true, false, List, [], ◌∷◌, ◌++◌, map, ℕ, ◌+◌, ◌≤◌, T}
 use native.Mathlib.Omega.{arith}
-use lib.Dec.{T}
 use Rattle.base.proofs.Bools.{either_way}
 use Rattle.std.proofs.lemmas.List.{map-append}
-use Rattle.chip.specs.declared.{Chip.Chip, Chip.TheVariants.Rp2040, Chip.TheVariants.Rp235x}
-use Rattle.chip.specs.Chips.{facts_of}
-use Rattle.step.specs.declared.{Step.Step, kind.Kind.Kind}
-use Rattle.step.specs.declared.kind.Kind.TheVariants as kind
-use Rattle.step.specs.{Fields.Fill, Kinds.known, Kinds.is, Layout.widths, Steps.values, Steps.storable, Sheet.AllFormed}
+use Rattle.chip.specs.{declared.Chip.Chip, declared.Chip.TheVariants.Rp2040, declared.Chip.TheVariants.Rp235x, Chips.facts_of}
+use Rattle.step.specs.{declared.Step.Step, declared.kind.Kind.Kind, Fields.Fill, Kinds.known, Kinds.is, Layout.widths, Steps.values}
+use Rattle.step.specs.{Steps.storable, Sheet.AllFormed}
 use Rattle.sheet.specs.Stores.{stores_in}
+use Rattle.step.specs.declared.kind.Kind.TheVariants as kind
 
 -- The three facts that make a step well formed, as a product, which one `omega` proves.
 abbrev pub Good : Step → Type 0

@@ -1,39 +1,36 @@
 -- The laws of each part of a sheet, in the order of the sheet. The cases of a part are split once, for all of its laws.
-use Rattle.std.specs.Prelude.{Option, Some, None}
-use mathlib.Core.{Path.◌≡◌, Path.refl, Bool.Bool, Bool.true, Bool.false, Bool.◌&&◌}
-use mathlib.Core.List.{List, [], ◌∷◌, ◌++◌, append_assoc}
-use Prim.Native.Nat.{ℕ, ◌+◌, ◌/◌, ◌≤◌, ◌<◌, ◌^◌}
+use Rattle.std.specs.Prelude.{Option, Some, None, ◌≡◌, refl, Bool, true, false, ◌&&◌, List, [], ◌∷◌, ◌++◌, ℕ, ◌+◌, ◌/◌, ◌≤◌, ◌<◌}
+use Rattle.std.specs.Prelude.{◌^◌, eqb}
+use mathlib.Core.List.{append_assoc}
 use native.Mathlib.{Omega.arith, Decide.ℕ_discrete as dec_eq}
-use lib.Dec.{eqb, le→leb}
+use lib.Dec.{le→leb}
 use borrow.Author.Tests.{ltb-false, not-false, eq-eqb, ne_eqb}
 use Rattle.base.specs.Choice.{pick}
-use Rattle.std.proofs.{Math.Nat.add-sub_cancel}
-use Rattle.chip.specs.declared.{Chip.Chip, Chip.TheVariants.Rp2040, Chip.TheVariants.Rp235x}
-use Rattle.chip.specs.Chips.{facts_of}
+use Rattle.std.proofs.Math.Nat.{add-sub_cancel}
+use Rattle.chip.specs.{declared.Chip.Chip, declared.Chip.TheVariants.Rp2040, declared.Chip.TheVariants.Rp235x, Chips.facts_of}
 use Rattle.pll.specs.{Setting.valid_of, declared.PllConfig.PllConfig}
 use Rattle.pll.proofs.Valid.{valid}
-use Rattle.step.specs.declared.Step.{Step}
-use Rattle.step.specs.declared.kind.Kind.TheVariants as kind
-use Rattle.step.specs.{Kinds.is, Layout.widths, Steps.storable}
-use Rattle.config.specs.declared.{Board.Board, RoscConfig.RoscConfig, RefClkConfig.RefClkConfig, SysClkSrc.SysClkSrc}
+use Rattle.step.specs.{declared.Step.Step, Kinds.is, Layout.widths, Steps.storable}
+use Rattle.config.specs.declared.{ChipSettings.ChipSettings, RoscConfig.RoscConfig, RefClkConfig.RefClkConfig, SysClkSrc.SysClkSrc}
 use Rattle.config.specs.declared.{PeriClkSrc.PeriClkSrc, AuxClkConfig.AuxClkConfig, RtcClkConfig.RtcClkConfig}
 use Rattle.config.specs.declared.SysClkSrc.TheVariants.{Ref as sys_ref}
-use Rattle.settings.specs.declared.{Crystal.Crystal, Sources.Sources}
-use Rattle.settings.specs.{Settings.ring_hz, Typed.RtcTyped, Frequencies.sources_of, Frequencies.tenth_of}
+use Rattle.settings.specs.Frequencies.{sources_of, tenth_of}
+use Rattle.settings.specs.{declared.Crystal.Crystal, declared.Sources.Sources, Settings.ring_hz, Typed.RtcTyped}
 use Rattle.settings.proofs.Small.{Hz, AllHz}
 use Rattle.settings.proofs.Decoded.{range-code, ref-code, peri-code, aux-code, AuxSmall, div-back}
 use Rattle.refusals.specs.Rules.{strengths_over, ring_divider_over, settling_over, startup_over, pll_invalid, sys_pll_invalid}
 use Rattle.refusals.specs.Rules.{usb_pll_invalid, rtc_bad}
 use Rattle.refusals.proofs.Accepted.{strengths-few, rtc-good}
-use Rattle.sheet.specs.Steps.{step1, step2, store_step, mark_steps, head_part, ring_part, settling_steps, voltage_part}
-use Rattle.sheet.specs.Steps.{pll_steps, crystal_part, source_part, tick_steps, ref_part, switch_steps, sys_part, peri_part}
-use Rattle.sheet.specs.Steps.{aux_part, rtc_part, last_part}
+use Rattle.sheet.specs.Steps.{step1, step2, store_step, mark_steps, head_part, ring_part, settling_steps, voltage_part, pll_steps}
+use Rattle.sheet.specs.Steps.{crystal_part, source_part, tick_steps, ref_part, switch_steps, sys_part, peri_part, aux_part}
+use Rattle.sheet.specs.Steps.{rtc_part, last_part}
 use Rattle.sheet.specs.Stores.{stores_from}
 use Rattle.sheet.specs.Read.{part, step_at, read_chip, read_ring, read_voltage, past_tick, read_pll, read_crystal, read_sys}
 use Rattle.sheet.specs.Read.{read_peri, read_aux, read_rtc}
 use Rattle.sheet.proofs.Facts.{AuxFits}
-use Rattle.sheet.proofs.Laws.{Laws, ◌given◌, ◌and◌, mark_kinds, head_kinds, ring_kinds, voltage_kinds, pll_kinds}
-use Rattle.sheet.proofs.Laws.{crystal_kinds, source_kinds, tick_kinds, ref_kinds, sys_kinds, peri_kinds, aux_kinds, rtc_kinds, last_kinds}
+use Rattle.sheet.proofs.Laws.{Laws, ◌given◌, ◌and◌, mark_kinds, head_kinds, ring_kinds, voltage_kinds, pll_kinds, crystal_kinds}
+use Rattle.sheet.proofs.Laws.{source_kinds, tick_kinds, ref_kinds, sys_kinds, peri_kinds, aux_kinds, rtc_kinds, last_kinds}
+use Rattle.step.specs.declared.kind.Kind.TheVariants as kind
 
 pub mark-laws : (chip : Chip) → Laws (Unit {0}) (mark_steps chip) (mark_kinds chip) []
     ((ys : List Step) → read_chip (mark_steps chip ++ (head_part chip ++ ys)) ≡ part chip (head_part chip ++ ys))
@@ -89,14 +86,14 @@ module _ (reading code brownout : ℕ) where
   changed Rp235x (Some n) =
       record { good = λ h. omega (arith, ltb-false _ n h.2); most = λ w. omega arith; stores = refl; back = λ ys still next. refl }
 
-pub voltage-laws : (reading : ℕ) (b : Board) (o : Option ℕ)
-    → VoltageLaws reading b.volts.code b.volts.brownout b.chip o (voltage_part reading b o)
+pub voltage-laws : (reading : ℕ) (b : ChipSettings) (o : Option ℕ)
+    → VoltageLaws reading b.volts.code b.volts.brownout b.model o (voltage_part reading b o)
 unfolding voltage_part
 voltage-laws reading b o = elim (dec_eq b.volts.code reading) [
   | yes same ↦
       rw (eq-eqb b.volts.code reading same)
       (record { good = λ h. tt; most = λ w. omega arith; stores = refl; back = λ ys still next. rw (next, still same, same) })
-  | no other ↦ rw (ne_eqb b.volts.code reading other) (changed reading b.volts.code b.volts.brownout b.chip o)
+  | no other ↦ rw (ne_eqb b.volts.code reading other) (changed reading b.volts.code b.volts.brownout b.model o)
 ]
 
 -- A PLL is read back where the step after it is not one of the same PLL.
@@ -180,13 +177,13 @@ unfolding widths storable
 divider-laws Rp2040 w f = record { good = λ h. omega arith; most = λ k. omega arith; stores = refl; back = refl }
 divider-laws Rp235x w f = record { good = λ h. omega arith; most = λ k. omega arith; stores = refl; back = refl }
 
-pub sys-laws : (b : Board) (hz : ℕ) (src : SysClkSrc)
-    → Laws (Hz hz × (b.whole ≤ (facts_of b.chip).top_whole) × (b.fraction < (facts_of b.chip).scale)) (sys_part b hz src)
-    (sys_kinds b.chip) (store_step 5 hz ∷ [])
+pub sys-laws : (b : ChipSettings) (hz : ℕ) (src : SysClkSrc)
+    → Laws (Hz hz × (b.whole ≤ (facts_of b.model).top_whole) × (b.fraction < (facts_of b.model).scale)) (sys_part b hz src)
+    (sys_kinds b.model) (store_step 5 hz ∷ [])
     ((ys : List Step) → read_sys (sys_part b hz src ++ ys) ≡ part (record { src = src; whole = b.whole; fraction = b.fraction }) ys)
 unfolding sys_part switch_steps widths storable
 sys-laws b hz sys_ref =
-    let divider = divider-laws b.chip b.whole b.fraction in
+    let divider = divider-laws b.model b.whole b.fraction in
     record {
       good = λ h. (omega arith, (omega arith, (omega arith, divider.good (h.1, h.2))));
       most = λ w. omega arith;
@@ -194,7 +191,7 @@ sys-laws b hz sys_ref =
       back = λ ys. rw divider.back;
     }
 sys-laws b hz src =
-    let divider = divider-laws b.chip b.whole b.fraction in
+    let divider = divider-laws b.model b.whole b.fraction in
     record {
       good = λ h. (omega arith, (omega arith, (omega arith, (omega arith, (omega arith, divider.good (h.1, h.2))))));
       most = λ w. omega arith;

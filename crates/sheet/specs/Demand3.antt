@@ -1,8 +1,6 @@
 -- Demand 3: two sheets are equal exactly when the plans agree in every setting (docs/FORMAT.md, Settings that count).
-use Rattle.std.specs.Prelude.{Result, ℕ, ◌<◌, get_or}
-use Rattle.base.specs.declared.refusal.Refusal.{Refusal}
-use mathlib.Core.{Path.◌≡◌, Logic.◌↔◌, List.List}
-use Rattle.base.specs.Answer.{value, answer_of}
+use Rattle.std.specs.Prelude.{Result, ℕ, ◌<◌, get_or, ◌≡◌, ◌↔◌, List}
+use Rattle.base.specs.{declared.refusal.Refusal.Refusal, Answer.value, Answer.answer_of}
 use Rattle.config.specs.declared.ClockConfig.{ClockConfig}
 use Rattle.settings.specs.Settings.{settings_of}
 use Rattle.sheet.specs.Writer.{InitCall}

@@ -1,24 +1,17 @@
 -- Inside: the settings of a sheet's steps, read part by part in the order of the sheet. The definitions give settings for any list of
 -- steps; for the steps of a plan these are the plan's settings, as `settings-back` shows.
-use Rattle.std.specs.Prelude.{Option, Some, None, ℕ, ◌-◌}
-use Rattle.config.specs.declared.PeriClkSrc.{PeriClkSrc}
-use Rattle.config.specs.declared.AuxClkConfig.{AuxClkConfig}
-use Rattle.config.specs.declared.RtcClkConfig.{RtcClkConfig}
-use mathlib.Core.{Bool.◌&&◌, List.List}
-use lib.{ListN.get_or, ListN.drop, Dec.eqb}
-use Rattle.base.specs.Choice.{pick}
-use Rattle.chip.specs.declared.{Chip.Chip, Chip.TheVariants.Rp2040, Chip.TheVariants.Rp235x}
-use Rattle.chip.specs.Chips.{facts_of}
-use Rattle.step.specs.declared.Step.{Step}
-use Rattle.step.specs.Kinds.{is}
-use Rattle.step.specs.declared.kind.Kind.{Kind}
-use Rattle.step.specs.declared.kind.Kind.TheVariants as kind
-use Rattle.config.specs.declared.{RefClkConfig.RefClkConfig, SysClkSrc.SysClkSrc, RoscConfig.RoscConfig}
-use Rattle.pll.specs.declared.PllConfig.{PllConfig}
-use Rattle.config.specs.Board.{board_of}
-use Rattle.settings.specs.declared.{Crystal.Crystal, Settings.Settings}
+use Rattle.std.specs.Prelude.{Option, Some, None, ℕ, ◌-◌, ◌&&◌, List, get_or, drop, eqb}
 use Rattle.config.specs.Codes.{range_from, ref_from, sys_from, peri_from, aux_from, div_from, chip_from}
+use Rattle.config.specs.declared.{PeriClkSrc.PeriClkSrc, AuxClkConfig.AuxClkConfig, RtcClkConfig.RtcClkConfig}
+use Rattle.config.specs.declared.{RefClkConfig.RefClkConfig, SysClkSrc.SysClkSrc, RoscConfig.RoscConfig}
+use Rattle.config.specs.ChipSettings.{chip_of}
+use Rattle.base.specs.Choice.{pick}
+use Rattle.chip.specs.{declared.Chip.Chip, declared.Chip.TheVariants.Rp2040, declared.Chip.TheVariants.Rp235x, Chips.facts_of}
+use Rattle.step.specs.{declared.Step.Step, Kinds.is, declared.kind.Kind.Kind}
+use Rattle.pll.specs.declared.PllConfig.{PllConfig}
+use Rattle.settings.specs.declared.{Crystal.Crystal, Settings.Settings}
 use Rattle.sheet.specs.Steps.{step0}
+use Rattle.step.specs.declared.kind.Kind.TheVariants as kind
 
 -- The setting that a part of a sheet gives, and the steps after the part.
 pub data Part (A : Type 0) : Type 0 where
@@ -164,7 +157,7 @@ settings_from reading xs =
     read_aux kind.UsbDivider xs then λ usb xs.
     read_aux kind.AdcDivider xs then λ adc xs.
     record {
-      board = board_of (chip_from chip v.code sys.whole sys.fraction (read_rtc xs));
+      chip = chip_of (chip_from chip v.code sys.whole sys.fraction (read_rtc xs));
       rosc = rosc;
       xosc = xosc;
       settling = v.settling;

@@ -1,21 +1,15 @@
 -- The steps of a sheet, part by part (docs/FORMAT.md, Order of a sheet). The numbers in the comments are kinds of steps.
 use Rattle.std.specs.Prelude.{Option, Some, None, ℕ, ◌+◌, ◌-◌, ◌/◌, ◌%◌, List, [], ◌∷◌, ◌++◌, eqb, get_or}
-use Rattle.config.specs.declared.RoscConfig.{RoscConfig}
-use Rattle.base.specs.Choice.{pick}
-use Rattle.chip.specs.declared.{Chip.Chip, Chip.TheVariants.Rp2040, Chip.TheVariants.Rp235x}
-use Rattle.chip.specs.Chips.{facts_of}
-use Rattle.step.specs.declared.Step.{Step}
-use Rattle.step.specs.{Steps.step_of, Sheet.max_steps}
-use Rattle.step.specs.declared.kind.Kind.{Kind}
-use Rattle.step.specs.declared.kind.Kind.TheVariants as kind
-use Rattle.config.specs.declared.{RefClkConfig.RefClkConfig}
-use Rattle.pll.specs.declared.PllConfig.{PllConfig}
-use Rattle.config.specs.declared.{SysClkSrc.SysClkSrc, Board.Board, PeriClkSrc.PeriClkSrc, AuxClkConfig.AuxClkConfig}
-use Rattle.config.specs.declared.RtcClkConfig.{RtcClkConfig}
-use Rattle.settings.specs.declared.{Crystal.Crystal, Settings.Settings}
-use Rattle.settings.specs.declared.{Sources.Sources, Frequencies.Frequencies}
 use Rattle.config.specs.Codes.{range_code, ref_code, sys_select, sys_aux, peri_aux, aux_code}
-use Rattle.settings.specs.{Settings.ring_hz, Frequencies.frequencies_of}
+use Rattle.config.specs.declared.{RoscConfig.RoscConfig, RefClkConfig.RefClkConfig, SysClkSrc.SysClkSrc, ChipSettings.ChipSettings}
+use Rattle.config.specs.declared.{PeriClkSrc.PeriClkSrc, AuxClkConfig.AuxClkConfig, RtcClkConfig.RtcClkConfig}
+use Rattle.base.specs.Choice.{pick}
+use Rattle.chip.specs.{declared.Chip.Chip, declared.Chip.TheVariants.Rp2040, declared.Chip.TheVariants.Rp235x, Chips.facts_of}
+use Rattle.step.specs.{declared.Step.Step, Steps.step_of, Sheet.max_steps, declared.kind.Kind.Kind}
+use Rattle.pll.specs.declared.PllConfig.{PllConfig}
+use Rattle.settings.specs.declared.{Crystal.Crystal, Settings.Settings, Sources.Sources}
+use Rattle.settings.specs.{declared.Frequencies.Frequencies, Settings.ring_hz, Frequencies.frequencies_of}
+use Rattle.step.specs.declared.kind.Kind.TheVariants as kind
 
 -- A step of a kind with these fields, of which it has up to five.
 abbrev pub step_with : Kind → List ℕ → Step
@@ -85,11 +79,11 @@ settling_steps None = []
 
 -- Where the voltage code differs from the reading there is 13, then 14 unless the settling time is 0, then 15. The RP235x has 43
 -- and 44 instead of 13 and 15.
-unfoldable pub voltage_part : ℕ → Board → Option ℕ → List Step
-voltage_part reading b settling =
-    pick (eqb b.volts.code reading) []
-    (step1 (facts_of b.chip).voltage b.volts.code
-    ∷ (settling_steps settling ++ (step1 (facts_of b.chip).brownout b.volts.brownout ∷ [])))
+unfoldable pub voltage_part : ℕ → ChipSettings → Option ℕ → List Step
+voltage_part reading c settling =
+    pick (eqb c.volts.code reading) []
+    (step1 (facts_of c.model).voltage c.volts.code
+    ∷ (settling_steps settling ++ (step1 (facts_of c.model).brownout c.volts.brownout ∷ [])))
 
 -- A PLL that is present has 19(W, 1, 1, 1, 1), 14(10), 20, 21, 19(W, 0, 0, 1, 1), 22, 23, 24, 14(100); W is 0 for the system PLL,
 -- 1 for the USB PLL.
@@ -145,13 +139,13 @@ unfoldable pub switch_steps : ℕ → List Step
 switch_steps select = pick (eqb select 0) [] (step2 kind.SysControl 0 0 ∷ step1 kind.WaitSys 0 ∷ [])
 
 -- The store of `sys`, the switch, then 28, 6 and 29; the RP235x has 45 instead of 29.
-unfoldable pub sys_part : Board → ℕ → SysClkSrc → List Step
-sys_part b hz src =
+unfoldable pub sys_part : ChipSettings → ℕ → SysClkSrc → List Step
+sys_part c hz src =
     store_step 5 hz
     ∷ (switch_steps (sys_select src)
     ++ (step2 kind.SysControl (sys_aux src) (sys_select src)
     ∷ step1 kind.WaitSys (sys_select src)
-    ∷ step2 (facts_of b.chip).divider b.whole b.fraction
+    ∷ step2 (facts_of c.model).divider c.whole c.fraction
     ∷ []))
 
 -- A peripheral clock that is present has 30.
@@ -204,21 +198,21 @@ last_part mask = step1 kind.Release mask ∷ step1 kind.WaitReleased mask ∷ []
 unfoldable pub clocks_part : Settings → Frequencies → List Step
 clocks_part s f =
     source_part f.sources
-    ++ (ref_part s.board.chip f.reference s.reference
-    ++ (sys_part s.board f.sys s.sys
+    ++ (ref_part s.chip.model f.reference s.reference
+    ++ (sys_part s.chip f.sys s.sys
     ++ (peri_part f.peri s.peri
     ++ (aux_part kind.UsbDivider kind.UsbControl 7 f.usb s.usb
     ++ (aux_part kind.AdcDivider kind.AdcControl 8 f.adc s.adc
-    ++ (rtc_part s.board.chip f.rtc s.board.rtc
-    ++ last_part (release_mask s.board.chip s.peri s.usb s.adc s.board.rtc)))))))
+    ++ (rtc_part s.chip.model f.rtc s.chip.rtc
+    ++ last_part (release_mask s.chip.model s.peri s.usb s.adc s.chip.rtc)))))))
 
 -- All steps of the sheet.
 unfoldable pub steps_of : ℕ → Settings → List Step
 steps_of reading s =
-    mark_steps s.board.chip
-    ++ (head_part s.board.chip
-    ++ (ring_part (facts_of s.board.chip).pass s.rosc
-    ++ (voltage_part reading s.board s.settling
+    mark_steps s.chip.model
+    ++ (head_part s.chip.model
+    ++ (ring_part (facts_of s.chip.model).pass s.rosc
+    ++ (voltage_part reading s.chip s.settling
     ++ (crystal_part s.xosc
     ++ clocks_part s (frequencies_of s)))))
 

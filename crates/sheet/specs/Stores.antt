@@ -1,10 +1,9 @@
 -- Inside: the stores of a sheet, which only the proofs of this crate use.
 use Rattle.std.specs.Prelude.{ℕ, ◌+◌, List, [], ◌∷◌}
 use Rattle.base.specs.Choice.{pick}
-use Rattle.step.specs.declared.Step.{Step}
-use Rattle.step.specs.Kinds.{is}
-use Rattle.step.specs.declared.kind.Kind.TheVariants as kind
+use Rattle.step.specs.{declared.Step.Step, Kinds.is}
 use Rattle.sheet.specs.Steps.{store_step}
+use Rattle.step.specs.declared.kind.Kind.TheVariants as kind
 
 -- The stores among steps, in their order.
 abbrev pub stores_in : List Step → List Step

@@ -1,9 +1,7 @@
 -- The answer of `init` and the caller's bytes after the call (docs/FORMAT.md, Sheet writer).
-use mathlib.Core.{Path.◌≡◌, List.List, List.◌++◌}
-use Rattle.std.specs.Prelude.{Option, Some, None, Result, ℕ}
-use Rattle.base.specs.declared.refusal.Refusal.{Refusal}
-use lib.{Dec.ltb, ListN.length, ListN.drop}
-use Rattle.base.specs.{Choice.pick, Answer.Answer, Answer.value, Answer.refusal, Answer.answer_of, Refusals.number_of}
+use Rattle.std.specs.Prelude.{◌≡◌, List, ◌++◌, Option, Some, None, Result, ℕ, ltb, length, drop}
+use Rattle.base.specs.Answer.{Answer, value, refusal, answer_of}
+use Rattle.base.specs.{declared.refusal.Refusal.Refusal, Choice.pick, Refusals.number_of}
 use Rattle.step.specs.Sheet.{encoded}
 use Rattle.config.specs.declared.ClockConfig.{ClockConfig}
 use Rattle.settings.specs.{Settings.settings_of, Typed.Typed}

@@ -10,7 +10,7 @@ ghost use Rattle.sheet.specs.Gather.{held, pushed, pushes};
 
 use crate::steps::{Words, add, store};
 use chip::Chip;
-use config::{AuxClkConfig, Board, PeriClkSrc, RefClkConfig, RtcClkConfig, SysClkSrc};
+use config::{AuxClkConfig, ChipSettings, PeriClkSrc, RefClkConfig, RtcClkConfig, SysClkSrc};
 use settings::{Frequencies, Settings, Sources};
 use step::{Clock, Kind};
 
@@ -71,8 +71,8 @@ fn put_divider(words: &mut Words, at: usize, chip: Chip, whole: u64, fraction: u
 }
 
 #[tactic(auto, using(crate::proofs::Gathering::pushes_append), unfolding(crate::specs::Steps::sys_part))]
-fn put_sys(words: &mut Words, at: usize, b: Board, hz: u64, src: SysClkSrc) -> usize
-    ensures { held words.new result ≡ pushes (held words.old at) (sys_part b hz src) }
+fn put_sys(words: &mut Words, at: usize, chip: ChipSettings, hz: u64, src: SysClkSrc) -> usize
+    ensures { held words.new result ≡ pushes (held words.old at) (sys_part chip hz src) }
 {
     let aux = u64::from(src.aux());
     let select = u64::from(src.select());
@@ -80,7 +80,13 @@ fn put_sys(words: &mut Words, at: usize, b: Board, hz: u64, src: SysClkSrc) -> u
     let at = put_switch(words, at, select);
     let at = add(words, at, Kind::SysControl, [aux, select]);
     let at = add(words, at, Kind::WaitSys, [select]);
-    put_divider(words, at, b.chip, u64::from(b.whole), u64::from(b.fraction))
+    put_divider(
+        words,
+        at,
+        chip.model,
+        u64::from(chip.whole),
+        u64::from(chip.fraction),
+    )
 }
 
 #[tactic(auto, unfolding(crate::specs::Steps::peri_part))]
@@ -172,12 +178,12 @@ fn release_mask(
 pub fn put_clocks(words: &mut Words, at: usize, s: Settings, f: Frequencies) -> usize
     ensures { held words.new result ≡ pushes (held words.old at) (clocks_part s f) }
 {
-    let chip = s.board.chip;
-    let rtc = s.board.rtc;
+    let chip = s.chip.model;
+    let rtc = s.chip.rtc;
     let mask = release_mask(chip, s.peri, s.usb, s.adc, rtc);
     let at = put_sources(words, at, f.sources);
     let at = put_ref(words, at, chip, f.reference, s.reference);
-    let at = put_sys(words, at, s.board, f.sys, s.sys);
+    let at = put_sys(words, at, s.chip, f.sys, s.sys);
     let at = put_peri(words, at, f.peri, s.peri);
     let (usb, adc) = (u64::from(f.usb), u64::from(f.adc));
     let at = put_aux(

@@ -8,9 +8,7 @@ pub mod steps;
 
 ghost use Rattle.std.specs.Prelude.{◌≡◌};
 ghost use Rattle.settings.specs.Frequencies.{frequencies_of};
-ghost use Rattle.sheet.specs.Steps.{steps_of};
-ghost use Rattle.sheet.specs.Gather.{held, pushes};
-ghost use Rattle.sheet.specs.Writer.{InitCall};
+ghost use Rattle.sheet.specs.{Steps.steps_of, Gather.held, Gather.pushes, Writer.InitCall};
 
 use base::Refusal;
 use config::ClockConfig;
@@ -22,10 +20,10 @@ use steps::Words;
 fn gather(words: &mut Words, s: Settings, f: Frequencies, reading: u8) -> usize
     ensures { f ≡ frequencies_of s → held words.new result ≡ pushes (held words.old 0) (steps_of reading s) }
 {
-    let chip = s.board.chip;
+    let chip = s.chip.model;
     let at = sources::put_start(words, chip);
     let at = sources::configure_rosc(words, at, chip.facts().pass, s.rosc);
-    let at = sources::put_voltage(words, at, reading, s.board, s.settling);
+    let at = sources::put_voltage(words, at, reading, s.chip, s.settling);
     let at = sources::start_xosc(words, at, s.xosc);
     clocks::put_clocks(words, at, s, f)
 }

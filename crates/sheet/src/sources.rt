@@ -9,7 +9,7 @@ ghost use Rattle.sheet.specs.Gather.{held, pushed, pushes};
 
 use crate::steps::{Words, add, store};
 use chip::Chip;
-use config::{Board, RoscConfig};
+use config::{ChipSettings, RoscConfig};
 use pll::PllConfig;
 use settings::Crystal;
 use step::{Clock, Kind, Pll};
@@ -102,17 +102,17 @@ pub fn put_voltage(
     words: &mut Words,
     at: usize,
     reading: u8,
-    b: Board,
+    chip: ChipSettings,
     settling: Option<u64>,
 ) -> usize
-    ensures { held words.new result ≡ pushes (held words.old at) (voltage_part reading b settling) }
+    ensures { held words.new result ≡ pushes (held words.old at) (voltage_part reading chip settling) }
 {
-    if b.volts.code == reading {
+    if chip.volts.code == reading {
         return at;
     }
-    let at = put_code(words, at, b.chip, u64::from(b.volts.code));
+    let at = put_code(words, at, chip.model, u64::from(chip.volts.code));
     let at = put_settling(words, at, settling);
-    put_brownout(words, at, b.chip, u64::from(b.volts.brownout))
+    put_brownout(words, at, chip.model, u64::from(chip.volts.brownout))
 }
 
 // Appends the nine steps of a PLL that is present.

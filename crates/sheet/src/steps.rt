@@ -5,8 +5,7 @@
 
 ghost use Rattle.std.specs.Prelude.{◌≡◌, get_or};
 ghost use Rattle.step.specs.Clocks.{clock_number};
-ghost use Rattle.sheet.specs.Steps.{step_with, store_step};
-ghost use Rattle.sheet.specs.Gather.{held, pushed};
+ghost use Rattle.sheet.specs.{Steps.step_with, Steps.store_step, Gather.held, Gather.pushed};
 
 use step::{Clock, Kind};
 

@@ -1,17 +1,15 @@
 -- After any history, a wake restores the words of the last sleep in its slot, since only a sleep changes a slot, and
 -- only its own.
-use Rattle.std.specs.Prelude.{Option, Some, None}
-use Prim.Native.Nat.{ℕ, zero, suc, ◌<◌, ◌≤◌}
+use Rattle.std.specs.Prelude.{Option, Some, None, ℕ, zero, suc, ◌<◌, ◌≤◌, ◌≡◌, refl, List, [], ◌∷◌, ltb, eqb, length}
 use native.Mathlib.Omega.{arith}
-use mathlib.Core.{Path.◌≡◌, Path.refl, Path.sym, Path.ap, Path.◌∙◌}
-use mathlib.Core.{List.List, List.[], List.◌∷◌}
-use lib.{Dec.ltb, Dec.eqb, ListN.length, ListN.length-set, Seq.get_or-set_same, Seq.get_or-set_other}
+use mathlib.Core.Path.{sym, ap, ◌∙◌}
+use lib.{ListN.length-set, Seq.get_or-set_same, Seq.get_or-set_other}
 use borrow.Author.Tests.{le-ltb, ltb-false, eqb-true, eqb-false}
-use Rattle.base.{specs.Choice.pick, proofs.Bools.either_way}
+use Rattle.base.specs.Choice.{pick}
+use Rattle.base.proofs.Bools.{either_way}
 use Rattle.sleep.specs.declared.Slot.{Slot}
 use Rattle.sleep.specs.Sleep.{answer_steps, unsaved, saved, fresh_slots, slot_at, refused_call, woken, sleep_of, wake_of}
-use Rattle.sleep.specs.History.{SleepEvent, sleeps, wakes, writes, happens, board_after}
-use Rattle.sleep.specs.History.{last_sleep, wake_from, Restores}
+use Rattle.sleep.specs.History.{SleepEvent, sleeps, wakes, writes, happens, board_after, last_sleep, wake_from, Restores}
 use Rattle.sleep.proofs.Replay.{length-replayed, wake-restores}
 
 -- ---- a call

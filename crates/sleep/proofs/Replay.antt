@@ -1,17 +1,15 @@
 -- The writes of an answer turn any registers into the words of the outcome, in the order of docs/SLEEP.md.
-use Prim.Native.Nat.{ℕ, suc}
+use Rattle.std.specs.Prelude.{ℕ, suc, ◌≡◌, refl, Bool, true, false, List, [], ◌∷◌, ◌++◌, ltb, length}
 use native.Mathlib.Omega.{arith}
-use mathlib.Core.{Path.◌≡◌, Path.refl, Path.◌∙◌, Bool.Bool, Bool.true, Bool.false, List.List, List.[], List.◌∷◌, List.◌++◌}
-use lib.{Dec.ltb, ListN.length, ListN.length-set}
+use mathlib.Core.Path.{◌∙◌}
+use lib.ListN.{length-set}
 use Rattle.base.proofs.Bools.{either_way}
-use Rattle.sleep.specs.declared.steps.Step.{Step}
 use Rattle.sleep.specs.declared.steps.Step.TheVariants.{Write, RingStable, CrystalStable, Locked}
-use Rattle.step.specs.declared.clock.Pll.TheVariants.{Sys, Usb}
-use Rattle.sleep.specs.declared.Slot.{Slot}
-use Rattle.sleep.specs.Registers.{number_of}
-use Rattle.sleep.specs.{Bits.pll_runs, Bits.crystal_runs, Words.word_in, Words.asleep}
 use Rattle.sleep.specs.Sleep.{answer_steps, wait_if, sleep_steps, wake_steps_by, wake_steps, slot_at, sleep_of, wake_of}
 use Rattle.sleep.specs.History.{written, replayed, order, wait_steps}
+use Rattle.sleep.specs.{declared.steps.Step.Step, declared.Slot.Slot, Registers.number_of, Bits.pll_runs, Bits.crystal_runs}
+use Rattle.sleep.specs.Words.{word_in, asleep}
+use Rattle.step.specs.declared.clock.Pll.TheVariants.{Sys, Usb}
 
 -- ---- eleven registers
 

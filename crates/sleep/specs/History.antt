@@ -1,13 +1,9 @@
 -- The registers and the slots after any history of sleeps, wakes and other register writes (docs/SLEEP.md).
-use Rattle.std.specs.Prelude.{ℕ, ◌<◌, Option, Some, None}
-use mathlib.Core.{Path.◌≡◌, List.List, List.[], List.◌∷◌}
-use lib.{Dec.ltb, Dec.eqb, ListN.length, ListN.set}
+use Rattle.std.specs.Prelude.{ℕ, ◌<◌, Option, Some, None, ◌≡◌, List, [], ◌∷◌, ltb, eqb, length, set}
 use Rattle.base.specs.Choice.{pick}
-use Rattle.sleep.specs.declared.steps.Step.{Step}
 use Rattle.sleep.specs.declared.steps.Step.TheVariants.{Write, RingStable, CrystalStable, Locked}
-use Rattle.sleep.specs.declared.Slot.{Slot}
-use Rattle.sleep.specs.Registers.{number_of}
 use Rattle.sleep.specs.Sleep.{SleepOutcome, answer_steps, fresh_slots, refused_call, woken, sleep_of, wake_of}
+use Rattle.sleep.specs.{declared.steps.Step.Step, declared.Slot.Slot, Registers.number_of}
 
 -- ---- the steps of an answer
 

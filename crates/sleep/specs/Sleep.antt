@@ -1,14 +1,11 @@
 -- Sleep and wake (docs/SLEEP.md): their answers, and the words and slots after them.
-use Rattle.std.specs.Prelude.{ℕ}
-use mathlib.Core.{Bool.Bool, Bool.true, Bool.false, List.List, List.[], List.◌∷◌, List.◌++◌, List.map}
-use lib.{Dec.ltb, ListN.get_or, ListN.set, ListN.replicate}
+use Rattle.std.specs.Prelude.{ℕ, Bool, true, false, List, [], ◌∷◌, ◌++◌, map, ltb, get_or, set, replicate}
 use Rattle.base.specs.{Answer.Answer, Answer.value, Answer.refusal, Choice.pick}
-use Rattle.sleep.specs.declared.{register.Register.Register, steps.Step.Step, Slot.Slot}
-use Rattle.sleep.specs.declared.register.Register.TheVariants as reg
-use Rattle.step.specs.declared.clock.Pll.TheVariants.{Sys, Usb}
 use Rattle.sleep.specs.declared.steps.Step.TheVariants.{Write, RingStable, CrystalStable, Locked}
-use Rattle.sleep.specs.Registers.{number_of}
+use Rattle.sleep.specs.{declared.register.Register.Register, declared.steps.Step.Step, declared.Slot.Slot, Registers.number_of}
 use Rattle.sleep.specs.{Bits.pll_runs, Bits.crystal_runs, Words.word_in, Words.asleep}
+use Rattle.step.specs.declared.clock.Pll.TheVariants.{Sys, Usb}
+use Rattle.sleep.specs.declared.register.Register.TheVariants as reg
 
 -- the outcome of a call: its steps or a refusal, and the words and slots after it
 pub record SleepOutcome : Type 0 where

@@ -8,8 +8,7 @@ pub mod steps;
 
 ghost use Rattle.std.specs.Prelude.{◌≡◌};
 ghost use Rattle.base.specs.Answer.{answer_of};
-ghost use Rattle.sleep.specs.Words.{asleep};
-ghost use Rattle.sleep.specs.Sleep.{fresh_slots, outcome, sleep_of, wake_of};
+ghost use Rattle.sleep.specs.{Words.asleep, Sleep.fresh_slots, Sleep.outcome, Sleep.sleep_of, Sleep.wake_of};
 
 use base::Refusal;
 use bits::{CLOCK_ENABLE, DIV, ENABLE, FREQ_RANGE, POWER_DOWN, REF_SRC, SYS_SRC};

@@ -1,8 +1,7 @@
 -- The test over the whole book holds by evaluation.
 use Rattle.std.specs.Prelude.{List, T}
 use mathlib.Core.{Path.sym, Path.subst, List.flat_map}
-use Rattle.pll.specs.Search.{falling, keep}
-use Rattle.pll.specs.declared.PllConfig.{PllConfig}
+use Rattle.pll.specs.{Search.falling, Search.keep, declared.PllConfig.PllConfig}
 use Rattle.speed_book.specs.Book.{hertz, insert, by_output, book}
 use Rattle.speed_book.proofs.{Merge.under, Merge.merge, Merge.merge_each, Merge.merged, Merge.book-merged, Rising.sound}
 

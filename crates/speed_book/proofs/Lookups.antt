@@ -1,17 +1,16 @@
 -- The lookup in the book gives the answer of the search at 12 MHz.
-use mathlib.Core.{Path.◌≡◌, Path.sym, Path.ap, Path.subst, Path.◌∙◌}
-use Prim.Native.Nat.{ℕ, ◌+◌, ◌-◌, ◌*◌, ◌≤◌, ◌<◌}
+use Rattle.std.specs.Prelude.{◌≡◌, ℕ, ◌+◌, ◌-◌, ◌*◌, ◌≤◌, ◌<◌}
+use mathlib.Core.Path.{sym, ap, subst, ◌∙◌}
 use native.Mathlib.{Omega.arith, Decide.dec_le}
 use borrow.Author.Tests.{lt-ltb, le-ltb, eq-eqb, ne_eqb}
-use Rattle.base.{specs.Answer.value, proofs.Bools.either_way}
-use Rattle.pll.specs.{Search.search_of, Walk.key}
-use Rattle.pll.specs.declared.PllConfig.{PllConfig}
+use Rattle.base.specs.Answer.{value}
+use Rattle.base.proofs.Bools.{either_way}
+use Rattle.pll.specs.{Search.search_of, Walk.key, declared.PllConfig.PllConfig}
 use Rattle.speed_book.specs.Book.{crystal, hertz, table_number, table, output_in, setting_in}
 use Rattle.speed_book.specs.Lookup.{far, entry_at, dividers_in, lower_is, nearer_entry, above_in, below_in, lookup_in}
-use Rattle.speed_book.proofs.Entries.{entry_of, entry-permitted}
 use Rattle.speed_book.proofs.Digits.{table_at, output-digits, setting-digits}
-use Rattle.speed_book.proofs.Places.{FirstFrom, first-place}
 use Rattle.speed_book.proofs.Choice.{below-within, at-start, at-end, lower-nearer, upper-nearer, lower-first, upper_first}
+use Rattle.speed_book.proofs.{Entries.entry_of, Entries.entry-permitted, Places.FirstFrom, Places.first-place}
 
 -- the entry at an index
 entry-is : (k : ℕ) → k < 1988 → entry_at table k ≡ table_number (entry_of k)

@@ -2,8 +2,7 @@
 use Rattle.std.specs.Prelude.{◌≡◌, ◌⊎◌, List, [], ◌∷◌, ℕ, suc, ◌<◌, length, get_or}
 use mathlib.Core.{Path.sym, Logic.inl, Logic.inr, Logic.⊎_elim}
 use native.Mathlib.Omega.{arith}
-use Rattle.pll.specs.Walk.{key}
-use Rattle.pll.specs.declared.PllConfig.{PllConfig}
+use Rattle.pll.specs.{Walk.key, declared.PllConfig.PllConfig}
 use Rattle.pll.proofs.Order.{Kind, Lists}
 
 abbrev pub In : PllConfig → List PllConfig → Type 0

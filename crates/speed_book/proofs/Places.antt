@@ -1,6 +1,5 @@
 -- The halving ends in the book at the first index whose output is not below a frequency.
-use Rattle.std.specs.Prelude.{◌≡◌, ℕ, zero, suc, ◌+◌, ◌-◌, ◌*◌, ◌≤◌, ◌<◌, get_or}
-use mathlib.Core.Path.{refl}
+use Rattle.std.specs.Prelude.{◌≡◌, ℕ, zero, suc, ◌+◌, ◌-◌, ◌*◌, ◌≤◌, ◌<◌, get_or, refl}
 use native.Mathlib.{Omega.arith, Decide.dec_le}
 use Rattle.speed_book.specs.{Book.hertz, Book.table, Lookup.middle, Lookup.halved, Lookup.first_from}
 use Rattle.speed_book.proofs.Halving.{halved_none, halved-empty, halved-up, halved-down}

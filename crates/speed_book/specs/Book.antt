@@ -1,8 +1,7 @@
 -- The book (docs/PLL.md, The 12 MHz book): every candidate of the search at 12 MHz, ordered by output.
 use Rattle.std.specs.Prelude.{Option, Some, None, List, [], ◌∷◌, map, ℕ, ◌+◌, ◌*◌, ◌/◌, ◌%◌, leb, ltb, get_or}
 use Rattle.base.specs.Choice.{pick}
-use Rattle.pll.specs.{Setting.output_hz, Search.setting, Search.candidates}
-use Rattle.pll.specs.declared.PllConfig.{PllConfig}
+use Rattle.pll.specs.{Setting.output_hz, Search.setting, Search.candidates, declared.PllConfig.PllConfig}
 use Rattle.speed_book.specs.declared.Line.{Line}
 
 -- 12 MHz

@@ -1,8 +1,7 @@
 -- The right table, stated declaratively (docs/PLL.md, The 12 MHz book); `proofs/Right.antt` proves it of `table`.
 use Rattle.std.specs.Prelude.{◌≡◌, ◌⊎◌, List, true, ℕ, ◌<◌, length}
 use Rattle.base.specs.Answer.{value}
-use Rattle.pll.specs.{Setting.valid_of, Setting.output_of, Law.Candidate, Law.Before}
-use Rattle.pll.specs.declared.PllConfig.{PllConfig}
+use Rattle.pll.specs.{Setting.valid_of, Setting.output_of, Law.Candidate, Law.Before, declared.PllConfig.PllConfig}
 use Rattle.speed_book.specs.Book.{crystal, output_at, setting_at}
 
 pub record RightBook (l : List ℕ) : Type 0 where

@@ -1,8 +1,6 @@
 // The text of the printed book.
-ghost use Rattle.base.specs.Placed.{Placed};
-ghost use Rattle.base.specs.Writing.{Puts};
-ghost use Rattle.speed_book.specs.Book.{line_in};
-ghost use Rattle.speed_book.specs.Page.{entry_line};
+ghost use Rattle.base.specs.{Placed.Placed, Writing.Puts};
+ghost use Rattle.speed_book.specs.{Book.line_in, Page.entry_line};
 
 use crate::{Book, Line};
 use base::Writer;

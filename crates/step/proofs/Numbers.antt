@@ -1,13 +1,12 @@
 -- A kind and its number determine each other, and `is` is equality of kinds.
-use Rattle.std.specs.Prelude.{Bool, true, false, ◌&&◌, not, ◌≡◌, ℕ, zero, suc, ◌≤◌, ◌<◌, eqb, ltb, cond}
-use mathlib.Core.Path.{refl, sym, ap, ◌∙◌}
+use Rattle.std.specs.Prelude.{Bool, true, false, ◌&&◌, not, ◌≡◌, ℕ, zero, suc, ◌≤◌, ◌<◌, eqb, ltb, cond, refl}
+use mathlib.Core.Path.{sym, ap, ◌∙◌}
 use native.Mathlib.Omega.{arith}
 use lib.ListN.{get_or-eq_default}
 use borrow.Author.Tests.{eqb-true, eqb-false, eq-eqb, ltb-true, ltb-false}
 use Rattle.std.proofs.lemmas.Bool.{and_parts}
 use Rattle.base.proofs.Bools.{either_way}
-use Rattle.step.specs.declared.kind.Kind.{Kind}
-use Rattle.step.specs.Kinds.{kind_number, kinds, kind_of, known, is}
+use Rattle.step.specs.{declared.kind.Kind.Kind, Kinds.kind_number, Kinds.kinds, Kinds.kind_of, Kinds.known, Kinds.is}
 use Rattle.step.specs.declared.kind.Kind.TheVariants as kind
 use Rattle.step.specs.contracts.kind.KindPartialEq.TheImpl as derived
 

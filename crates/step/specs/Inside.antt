@@ -1,7 +1,6 @@
 -- Inside: definitions that only the contracts of the crate's private functions use.
 use Rattle.std.specs.Prelude.{◌≡◌, ◌+◌, ◌≤◌}
-use Rattle.step.specs.declared.{kind.Kind.Kind, packing.Widths.Widths}
-use Rattle.step.specs.Layout.{width}
+use Rattle.step.specs.{declared.kind.Kind.Kind, declared.packing.Widths.Widths, Layout.width}
 
 -- The widths of the five fields of kind k; they leave 6 bits for the kind.
 pub record Laid (k : Kind) (r : Widths) : Type 0 where

@@ -1,7 +1,6 @@
 // The words of steps as bytes in a buffer: a sheet has the most significant byte of a word first.
 ghost use Rattle.std.specs.Prelude.{◌≡◌, take, drop, Some, None};
-ghost use Rattle.base.specs.Answer.{answer_of};
-ghost use Rattle.base.specs.Choice.{pick};
+ghost use Rattle.base.specs.{Answer.answer_of, Choice.pick};
 ghost use Rattle.step.specs.Bytes.{word8, turned_of};
 ghost use Rattle.step.specs.Access.{copy_of, copied, has_eight, read_at, word_at};
 

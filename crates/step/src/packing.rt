@@ -1,9 +1,7 @@
 // Packs steps into words and unpacks them, by shifts and masks with the widths of each kind's fields.
 ghost use Rattle.std.specs.Prelude.{◌≡◌, ◌+◌, ◌-◌, ◌*◌, ◌/◌, ◌%◌, ◌^◌, ◌≤◌, ◌<◌, true};
-ghost use Rattle.step.specs.Steps.{step_of, pack_of, unpack_of, kind_in, storable};
-ghost use Rattle.step.specs.Kinds.{known};
+ghost use Rattle.step.specs.{Steps.step_of, Steps.pack_of, Steps.unpack_of, Steps.kind_in, Steps.storable, Kinds.known, Inside.Laid};
 ghost use Rattle.base.specs.Answer.{answer_of};
-ghost use Rattle.step.specs.Inside.{Laid};
 
 use crate::{Kind, Step};
 use base::Refusal;

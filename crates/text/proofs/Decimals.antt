@@ -1,16 +1,15 @@
 -- Decimal numbers are printed digit by digit, a printed number reads back as itself, and bytes spell a number just where their
 -- length, digits and value allow it.
-use mathlib.Core.{Path.◌≡◌, Path.refl, Path.ap, Path.◌∙◌, Bool.Bool, Bool.true, Bool.false, Bool.◌&&◌}
-use mathlib.Core.List.{List, [], ◌∷◌, ◌++◌}
-use Prim.Native.Nat.{ℕ, zero, suc, ◌+◌, ◌-◌, ◌*◌, ◌/◌, ◌%◌, ◌^◌, ◌≤◌, ◌<◌}
+use Rattle.std.specs.Prelude.{◌≡◌, refl, Bool, true, false, ◌&&◌, List, [], ◌∷◌, ◌++◌, ℕ, zero, suc, ◌+◌, ◌-◌, ◌*◌, ◌/◌, ◌%◌, ◌^◌}
+use Rattle.std.specs.Prelude.{◌≤◌, ◌<◌, leb, ltb, length, Result, Ok, Err}
+use mathlib.Core.Path.{ap, ◌∙◌}
 use native.Mathlib.{Decide.dec_le, Decide.dec_lt, Nat.pow-suc, Omega.arith}
 use borrow.Author.{Rules.rules, Tests.tests, Tests.lt-ltb, Tests.le-ltb, Tests.le-leb, Tests.lt-leb}
-use lib.{Dec.leb, Dec.ltb, ListN.length, ListN.length-append}
+use lib.ListN.{length-append}
 use Rattle.base.specs.{Answer.value, Answer.refusal, Choice.pick, Choice.in_range}
-use Rattle.std.specs.Prelude.{Result, Ok, Err}
 use Rattle.std.specs.{Char.is_ascii_digit, List.list_all, Result.MatchResult, Str.IsUtf8, Str.Parse.ParsesUnsigned}
-use Rattle.std.proofs.lemmas.{Bool.and_parts, Fmt.IsAscii-from_digits, Str.IsUtf8-from_ascii}
 use Rattle.std.proofs.lemmas.Str.Parse.{IsNumeralModel, numerals_by_fold, parse_digits}
+use Rattle.std.proofs.lemmas.{Bool.and_parts, Fmt.IsAscii-from_digits, Str.IsUtf8-from_ascii}
 use Rattle.text.specs.Decimal.{last_digit, digits_of, decimal_of, is_digit, all_digits, value_after, value_of, is_number, number_of}
 
 digits-small : (k n : ℕ) → n < 10 → digits_of (suc k) n ≡ last_digit n ∷ []

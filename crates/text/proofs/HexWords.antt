@@ -1,11 +1,10 @@
 -- A word of hex that is read into a buffer is readable and its bytes are at the buffer's start; where the answer is None the word
 -- is not readable.
-use mathlib.Core.{Path.◌≡◌, Path.sym, Path.ap, Path.◌∙◌, Bool.true, Bool.false, List.List}
-use Rattle.std.specs.Prelude.{Option, Some, None}
-use Prim.Native.Nat.{ℕ, ◌+◌, ◌≤◌}
+use Rattle.std.specs.Prelude.{◌≡◌, true, false, List, Option, Some, None, ℕ, ◌+◌, ◌≤◌, length, take, drop}
+use mathlib.Core.Path.{sym, ap, ◌∙◌}
 use native.Mathlib.Omega.{arith}
 use borrow.Author.Tests.{leb-true}
-use lib.{ListN.length, ListN.take, ListN.drop, Seq.take-append_seam, Seq.length-sets, Seq.sets-eq}
+use lib.Seq.{take-append_seam, length-sets, sets-eq}
 use Rattle.std.proofs.lemmas.Bool.{and_parts}
 use Rattle.base.proofs.Bools.{either_way}
 use Rattle.text.specs.Hex.{is_hex_word, pair_values, is_readable, HexReading}

@@ -1,17 +1,15 @@
 -- Hex digits are printed byte by byte and read pair by pair, and printed bytes read back as themselves.
-use mathlib.Core.{Path.◌≡◌, Path.refl, Path.ap, Bool.Bool, Bool.true, Bool.false, Bool.◌&&◌, Bool.◌||◌}
-use mathlib.Core.List.{List, [], ◌∷◌, ◌++◌, map}
-use Prim.Native.Nat.{ℕ, suc, ◌+◌, ◌*◌, ◌/◌, ◌%◌, ◌≤◌, ◌<◌}
+use Rattle.std.specs.Prelude.{◌≡◌, refl, Bool, true, false, ◌&&◌, ◌||◌, List, [], ◌∷◌, ◌++◌, map, ℕ, suc, ◌+◌, ◌*◌, ◌/◌, ◌%◌, ◌≤◌}
+use Rattle.std.specs.Prelude.{◌<◌, ltb, length, take, get_or, Some, None}
+use mathlib.Core.Path.{ap}
 use native.Mathlib.{Decide.dec_lt, Numerals.add-one, Omega.arith}
 use borrow.Author.Tests.{lt-ltb, le-ltb, le-leb, lt-leb, ltb-true}
-use lib.{Dec.ltb, ListN.length, ListN.take, ListN.get_or, Pow.are_bytes, Seq.take-suc}
-use Rattle.std.specs.{Char.is_ascii_hexdigit, List.list_all, Prelude.Some, Prelude.None}
-use Rattle.std.specs.Simd.{first_chunks}
+use lib.{Pow.are_bytes, Seq.take-suc}
+use Rattle.std.specs.{Char.is_ascii_hexdigit, List.list_all, Simd.first_chunks}
 use Rattle.base.specs.{Choice.in_range, Placed.Placed}
 use Rattle.std.proofs.lemmas.Bool.{and_parts}
-use Rattle.text.specs.Decimal.{is_digit}
-use Rattle.text.specs.Hex.{hex_digit, hex_pair, hex_digits, hex_of, hex_value, is_hex, is_pair, are_pairs, pair_values, is_hex_word}
-use Rattle.text.specs.Hex.{is_readable, HexReading}
+use Rattle.text.specs.{Decimal.is_digit, Hex.hex_digit, Hex.hex_pair, Hex.hex_digits, Hex.hex_of, Hex.hex_value, Hex.is_hex}
+use Rattle.text.specs.Hex.{is_pair, are_pairs, pair_values, is_hex_word, is_readable, HexReading}
 
 hex-append : (xs ys : List ℕ) → hex_digits (xs ++ ys) ≡ hex_digits xs ++ hex_digits ys
 hex-append [] ys = refl

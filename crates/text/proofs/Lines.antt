@@ -1,17 +1,15 @@
 -- The index of the first occurrence of a byte, the bytes before it, and how many bytes of an input decide the number on its first
 -- line.
-use mathlib.Core.{Path.◌≡◌, Path.refl, Path.sym, Path.ap, Path.◌∙◌, Bool.Bool}
-use Rattle.std.specs.Prelude.{Some, None, cond, not}
-use Rattle.std.specs.Option.{unwrap_or}
+use Rattle.std.specs.Prelude.{◌≡◌, refl, Bool, Some, None, cond, not, unwrap_or, List, [], ◌∷◌, ◌⊎◌, ℕ, zero, suc, ◌-◌, ◌≤◌, ◌<◌}
+use Rattle.std.specs.Prelude.{eqb, ltb, length, take, drop}
+use mathlib.Core.{Path.sym, Path.ap, Path.◌∙◌, Logic.inl, Logic.inr}
 use Rattle.std.proofs.lemmas.List.Sums.{prefix_len-le-length}
 use Rattle.std.specs.List.{position_or_len}
-use mathlib.Core.{List.List, List.[], List.◌∷◌, Logic.◌⊎◌, Logic.inl, Logic.inr}
-use Prim.Native.Nat.{ℕ, zero, suc, ◌-◌, ◌≤◌, ◌<◌}
 use native.Mathlib.{Decide.dec_le, Omega.arith}
 use borrow.Author.Tests.{le-leb, lt-leb, ltb-false}
-use lib.{Dec.eqb, Dec.ltb, ListN.length, ListN.take, ListN.drop, ListN.length-take}
-use lib.Seq.{take_all}
-use Rattle.base.{specs.Answer.refusal, proofs.Bools.either_way}
+use lib.{ListN.length-take, Seq.take_all}
+use Rattle.base.specs.Answer.{refusal}
+use Rattle.base.proofs.Bools.{either_way}
 use Rattle.text.specs.{Decimal.number_of, Words.up_to, Words.line_number_of}
 use Rattle.text.proofs.Decimals.{bad-length}
 

@@ -1,8 +1,7 @@
 -- The test `same` is true just for equal texts, which have equal lengths.
-use mathlib.Core.{Path.◌≡◌, Path.refl, Path.ap, Bool.true, List.List, List.[], List.◌∷◌}
-use Prim.Native.Nat.{ℕ}
+use Rattle.std.specs.Prelude.{◌≡◌, refl, true, List, [], ◌∷◌, ℕ, eqb, length}
+use mathlib.Core.Path.{ap}
 use native.Mathlib.Omega.{arith}
-use lib.{Dec.eqb, ListN.length}
 use borrow.Author.Tests.{eqb-true, eq-eqb}
 use Rattle.std.proofs.lemmas.Bool.{and_parts}
 use Rattle.text.specs.Ascii.{same}

@@ -1,11 +1,9 @@
 -- Numbers that each follow a space are printed one by one: the text of two lists is that of both, one after the other.
-use mathlib.Core.Path.{◌≡◌, refl, ap}
-use mathlib.Core.List.{List, [], ◌∷◌, ◌++◌, append-nil, append_assoc}
-use Prim.Native.Nat.{ℕ, ◌+◌, ◌<◌}
+use Rattle.std.specs.Prelude.{◌≡◌, refl, List, [], ◌∷◌, ◌++◌, ℕ, ◌+◌, ◌<◌, length, take, get_or}
+use mathlib.Core.{Path.ap, List.append-nil, List.append_assoc}
 use native.Mathlib.Numerals.{add-one}
-use lib.{ListN.length, ListN.take, ListN.get_or, Seq.take-suc}
-use Rattle.text.specs.Decimal.{decimal_of}
-use Rattle.text.specs.Reply.{spaced_by}
+use lib.Seq.{take-suc}
+use Rattle.text.specs.{Decimal.decimal_of, Reply.spaced_by}
 
 module _ {A : Type 0} (number : A → ℕ) where
   pub spaced-append : (ns ms : List A) → spaced_by number (ns ++ ms) ≡ spaced_by number ns ++ spaced_by number ms

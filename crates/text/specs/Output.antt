@@ -1,6 +1,5 @@
 -- The output of a program as a call writes it into a buffer: whole, and decided by the first bytes of the input.
-use mathlib.Core.{List.List, List.◌++◌, Path.◌≡◌}
-use Rattle.std.specs.Prelude.{ℕ, ◌≤◌, length, take, drop}
+use Rattle.std.specs.Prelude.{List, ◌++◌, ◌≡◌, ℕ, ◌≤◌, length, take, drop}
 
 -- the whole output fits the buffer, and the bytes after it keep their values
 pub record Whole (output before : List ℕ) (size : ℕ) (after : List ℕ) : Type 0 where

@@ -1,6 +1,5 @@
 -- Lines and words: a line ends at a newline or the end of the text, a word at a space or the end of the line.
-use Rattle.std.specs.Prelude.{List, [], ◌∷◌, ℕ}
-use lib.Dec.{eqb}
+use Rattle.std.specs.Prelude.{List, [], ◌∷◌, ℕ, eqb}
 use Rattle.base.specs.{Answer.Answer, Choice.pick}
 use Rattle.text.specs.Decimal.{number_of}
 

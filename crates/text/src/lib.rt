@@ -5,12 +5,9 @@ mod named;
 pub mod replies;
 
 ghost use Rattle.std.specs.Prelude.{◌≡◌, ◌%◌, ◌≤◌, ◌<◌, ◌&&◌, length};
-ghost use Rattle.base.specs.Choice.{in_range};
-ghost use Rattle.base.specs.Answer.{answer_of};
-ghost use Rattle.base.specs.Writing.{Puts};
+ghost use Rattle.base.specs.{Choice.in_range, Answer.answer_of, Writing.Puts};
 ghost use Rattle.text.specs.Decimal.{last_digit, decimal_of, all_digits, number_of};
-ghost use Rattle.text.specs.Hex.{hex_digit, hex_pair, hex_of, hex_value};
-ghost use Rattle.text.specs.Hex.{are_pairs, pair_values, is_hex_word, HexReading};
+ghost use Rattle.text.specs.Hex.{hex_digit, hex_pair, hex_of, hex_value, are_pairs, pair_values, is_hex_word, HexReading};
 ghost use Rattle.text.specs.Words.{up_to, line_number_of};
 
 use base::{Refusal, Writer};

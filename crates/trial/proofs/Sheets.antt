@@ -4,8 +4,7 @@ use Rattle.base.specs.declared.refusal.Refusal.{Refusal}
 use Rattle.std.proofs.Common.{ℕ, ◌≤◌, arith}
 use Rattle.step.specs.Sheet.{max_bytes}
 use Rattle.chip.specs.declared.Chip.TheVariants.{Rp2040}
-use Rattle.config.specs.declared.ClockConfig.{ClockConfig}
-use Rattle.config.specs.Presets.{crystal_plan}
+use Rattle.config.specs.{declared.ClockConfig.ClockConfig, Presets.crystal_plan}
 use Rattle.sheet.specs.Writer.{InitCall}
 use Rattle.sheet.proofs.{Ends.sheet-most, Kept.Kept, Kept.kept, Kept.turned-back, Examples.crystal-steps}
 use Rattle.trial.specs.Load.{trial_sheet}

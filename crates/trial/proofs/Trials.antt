@@ -3,10 +3,9 @@ use Rattle.std.specs.Prelude.{Bool, false, List, ◌≡◌, Result}
 use mathlib.Core.Path.{sym, ap, ap₂, ◌∙◌}
 use Rattle.std.proofs.Common.{ℕ, suc, ◌+◌, length}
 use native.Mathlib.Numerals.{add-one}
-use Rattle.base.specs.declared.refusal.Refusal.{Refusal}
-use Rattle.base.specs.Answer.{answer_of}
+use Rattle.base.specs.{declared.refusal.Refusal.Refusal, Answer.answer_of}
+use Rattle.runner.specs.Run.{Outcome, outcome, advance_of, StartOutcome, started_with, start_of}
 use Rattle.runner.specs.declared.{Runner.Runner, Reply.Reply}
-use Rattle.runner.specs.Run.{Outcome, outcome, advance_of, Begun, started_with, start_of}
 use Rattle.step.specs.Size.{bad_size}
 use Rattle.runner.proofs.Starts.{start-kept}
 use Rattle.bring_up.specs.Wait.{runner_after}
@@ -27,4 +26,4 @@ module _ (seed i : ℕ) where
 -- before the first call the runner is started with the sheet
 pub begins : (sheet : List ℕ) (r : Runner) (opened : Result Unit Refusal) (next : Runner) → bad_size (length sheet) ≡ false
     → outcome (answer_of opened) next ≡ start_of r sheet → next ≡ started_with sheet
-begins sheet r opened next good e = ap (λ (x : Begun Runner). x.next) (e ∙ sym (start-kept r sheet good))
+begins sheet r opened next good e = ap (λ (x : StartOutcome Runner). x.next) (e ∙ sym (start-kept r sheet good))

@@ -1,8 +1,7 @@
 -- The lines of the target trial (docs/PROGRAMS.md, Program load): each draw is a target at 12 MHz.
 use Rattle.std.specs.Prelude.{ℕ, zero, suc, List, [], ◌∷◌, ◌++◌}
 use Rattle.text.specs.Reply.{answer_text, row_text}
-use Rattle.pll.specs.declared.PllConfig.{PllConfig}
-use Rattle.pll.specs.Search.{search_of}
+use Rattle.pll.specs.{declared.PllConfig.PllConfig, Search.search_of}
 use Rattle.trial.specs.Lcg.{drawn}
 
 -- a text followed by a newline

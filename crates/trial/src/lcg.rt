@@ -2,8 +2,7 @@
 // the search at 12 MHz.
 ghost use Rattle.std.specs.Prelude.{◌≡◌};
 ghost use Rattle.base.specs.Writing.{Puts};
-ghost use Rattle.trial.specs.Lcg.{draw_of, top_bit};
-ghost use Rattle.trial.specs.Targets.{target_line, target_lines};
+ghost use Rattle.trial.specs.{Lcg.draw_of, Lcg.top_bit, Targets.target_line, Targets.target_lines};
 
 use crate::CRYSTAL_HZ;
 use base::Writer;

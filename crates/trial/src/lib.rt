@@ -5,13 +5,11 @@
 mod lcg;
 
 ghost use Rattle.std.specs.Prelude.{◌≡◌, ◌≤◌, false, length};
-ghost use Rattle.base.specs.Answer.{value, answer_of};
-ghost use Rattle.base.specs.Writing.{Puts};
+ghost use Rattle.base.specs.{Answer.value, Answer.answer_of, Writing.Puts};
 ghost use Rattle.text.specs.Output.{Printed};
 ghost use Rattle.step.specs.Size.{bad_size};
 ghost use Rattle.bring_up.specs.Wait.{runner_after};
-ghost use Rattle.trial.specs.Load.{flags, trial_runner, runner_line};
-ghost use Rattle.trial.specs.Load.{trials, load_with, load_of};
+ghost use Rattle.trial.specs.Load.{flags, trial_runner, runner_line, trials, load_with, load_of};
 
 use base::{Refusal, Writer};
 use chip::Chip;

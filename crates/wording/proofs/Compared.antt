@@ -1,11 +1,8 @@
 -- The two outcomes of the test of an order: it is refused, or the settings that differ decide.
-use Rattle.std.specs.Prelude.{◌≡◌, ℕ, Ok, Err}
-use mathlib.Core.Path.{refl}
-use Rattle.base.specs.declared.refusal.Refusal.{Refusal}
-use Rattle.base.specs.Refusals.{number_of}
+use Rattle.std.specs.Prelude.{◌≡◌, ℕ, Ok, Err, refl}
+use Rattle.base.specs.{declared.refusal.Refusal.Refusal, Refusals.number_of}
 use Rattle.config.specs.declared.ClockConfig.{ClockConfig}
-use Rattle.settings.specs.declared.Frequencies.{Frequencies}
-use Rattle.settings.specs.Settings.{settings_of}
+use Rattle.settings.specs.{declared.Frequencies.Frequencies, Settings.settings_of}
 use Rattle.refusals.specs.Refusals.{examined_of}
 use Rattle.refusals.proofs.Examined.{examined-refused, examined-accepted}
 use Rattle.wording.specs.{Differences.differences_of, Verdict.order_refused, Verdict.by_bits, Verdict.compared}

@@ -1,18 +1,13 @@
 -- The settings of a plan can be decoded from the numbers of their parts, so plans with equal parts have equal settings.
-use Rattle.std.specs.Prelude.{Option, Some, None, ◌≡◌, List, [], ◌∷◌, ℕ, eqb, get_or}
-use mathlib.Core.Path.{refl}
+use Rattle.std.specs.Prelude.{Option, Some, None, ◌≡◌, List, [], ◌∷◌, ℕ, eqb, get_or, refl}
 use Rattle.base.specs.Choice.{pick}
-use Rattle.chip.specs.declared.{Chip.Chip, Chip.TheVariants.Rp2040, Chip.TheVariants.Rp235x}
-use Rattle.config.specs.declared.{ClockConfig.ClockConfig, RefClkConfig.RefClkConfig, RoscConfig.RoscConfig}
-use Rattle.pll.specs.declared.PllConfig.{PllConfig}
-use Rattle.config.specs.declared.PeriClkSrc.{PeriClkSrc}
-use Rattle.config.specs.declared.AuxClkConfig.{AuxClkConfig}
-use Rattle.config.specs.declared.RtcClkConfig.{RtcClkConfig}
-use Rattle.config.specs.Board.{board_of}
-use Rattle.settings.specs.declared.Crystal.{Crystal}
-use Rattle.settings.specs.declared.Settings.{Settings}
-use Rattle.settings.specs.Settings.{settings_of}
+use Rattle.chip.specs.declared.Chip.{Chip, TheVariants.Rp2040, TheVariants.Rp235x}
 use Rattle.config.specs.Codes.{range_from, ref_from, sys_source_from, peri_from, aux_from, chip_from}
+use Rattle.config.specs.declared.{ClockConfig.ClockConfig, RefClkConfig.RefClkConfig, RoscConfig.RoscConfig}
+use Rattle.config.specs.declared.{PeriClkSrc.PeriClkSrc, AuxClkConfig.AuxClkConfig, RtcClkConfig.RtcClkConfig}
+use Rattle.config.specs.ChipSettings.{chip_of}
+use Rattle.pll.specs.declared.PllConfig.{PllConfig}
+use Rattle.settings.specs.{declared.Crystal.Crystal, declared.Settings.Settings, Settings.settings_of}
 use Rattle.settings.proofs.Decoded.{range-code, ref-code, sys-code, peri-code, aux-code, chip-back}
 use Rattle.wording.specs.Parts.{chip_code, ring_numbers, crystal_numbers, sys_pll_of, usb_pll_of, pll_numbers, cycles_numbers}
 use Rattle.wording.specs.Parts.{peri_numbers, aux_numbers, rtc_numbers, parts_of}
@@ -72,8 +67,8 @@ abbrev pub settings_at : List (List ℕ) → Settings
 settings_at ps =
     let sys = get_or ps 8 [] in
     record {
-      board =
-          board_of
+      chip =
+          chip_of
           (chip_from (chip_at (get_or (get_or ps 0 []) 0 0)) (get_or (get_or ps 5 []) 0 0) (get_or sys 1 0) (get_or sys 2 0)
           (rtc_at (get_or ps 12 [])));
       rosc = ring_at (get_or ps 1 []);
@@ -124,7 +119,7 @@ pub settings-back : (p : ClockConfig) (reading : ℕ)
 settings-back p reading =
     let s = settings_of p reading in
     rw (
-      code-back s.board.chip,
+      code-back s.chip.model,
       ring-back s.rosc,
       crystal-back s.xosc,
       cycles-back s.settling,
@@ -133,6 +128,6 @@ settings-back p reading =
       peri-back s.peri,
       aux-back s.usb,
       aux-back s.adc,
-      rtc-back s.board.rtc,
+      rtc-back s.chip.rtc,
       chip-back p.chip,
     )

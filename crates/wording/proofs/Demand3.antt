@@ -1,13 +1,12 @@
 -- Demand 3 holds for `make`, from its contract alone: a call that answered a length is a call of `init`, for which it holds.
-use Rattle.std.specs.Prelude.{Option, Some, None, ◌≡◌, ◌↔◌, List, ℕ, Ok, Result}
-use mathlib.Core.Path.{refl, sym, ap, ◌∙◌}
+use Rattle.std.specs.Prelude.{Option, Some, None, ◌≡◌, ◌↔◌, List, ℕ, Ok, Result, refl}
+use mathlib.Core.Path.{sym, ap, ◌∙◌}
 use native.Mathlib.Omega.{arith}
-use Rattle.base.specs.Answer.{Answer, value, refusal, answer_in}
+use Rattle.base.specs.{Answer.Answer, Answer.value, Answer.refusal, Answer.answer_in, declared.refusal.Refusal.Refusal}
 use Rattle.config.specs.declared.ClockConfig.{ClockConfig}
 use Rattle.settings.specs.Settings.{settings_of}
 use Rattle.sheet.specs.{Writer.init_answer, Writer.InitCall, Demand3.SameUpTo}
 use Rattle.sheet.proofs.Demand3.{demand-3}
-use Rattle.base.specs.declared.refusal.Refusal.{Refusal}
 use Rattle.wording.specs.{Made.MadeCall, Made.order_made, Made.reading_made, Demand3.MakeSheets}
 use Rattle.export.specs.Demand3.{settings_in}
 

@@ -1,20 +1,20 @@
 -- The derived tests of the parts of settings are those of their numbers.
-use Rattle.std.specs.Prelude.{Option, Some, None, ℕ, ◌≡◌, option_map, Bool, ◌&&◌, List, [], ◌∷◌, eqb}
+use Rattle.std.specs.Prelude.{Option, Some, None, ℕ, ◌≡◌, option_map, Bool, ◌&&◌, List, [], ◌∷◌, eqb, refl}
 use Rattle.std.specs.Option.{option_eq, option_map_or}
 use Rattle.std.proofs.Math.Bool.{and_assoc}
-use mathlib.Core.Path.{sym, refl, ap, ◌∙◌}
+use mathlib.Core.Path.{sym, ap, ◌∙◌}
 use borrow.Author.Tests.{eqb-true, eqb-false}
 use denote.Enum.{Declared.Declared, Bare.Bare, Bare.sameb, Bare.true_same, Bare.false_same}
 use Rattle.base.proofs.Bools.{either_way}
 use Rattle.chip.specs.declared.Chip.{Chip}
 use Rattle.pll.specs.declared.PllConfig.{PllConfig}
+use Rattle.config.specs.Codes.{range_code, range_from, ref_code, ref_from, sys_code, sys_source_from, peri_aux, peri_from, aux_code}
+use Rattle.config.specs.Codes.{aux_from}
 use Rattle.config.specs.declared.{RoscConfig.RoscConfig, SysClkSrc.SysClkSrc, PeriClkSrc.PeriClkSrc, AuxClkConfig.AuxClkConfig}
 use Rattle.config.specs.declared.{AuxClkSrc.AuxClkSrc, RtcClkConfig.RtcClkConfig, RoscRange.RoscRange, RefClkSrc.RefClkSrc}
 use Rattle.settings.specs.declared.Crystal.{Crystal}
-use Rattle.config.specs.Codes.{range_code, range_from, ref_code, ref_from, sys_code, sys_source_from, peri_aux, peri_from, aux_code}
-use Rattle.config.specs.Codes.{aux_from}
-use Rattle.settings.proofs.Decoded.{range-code, ref-code, peri-code, aux-code}
-use Rattle.wording.specs.{Parts.chip_code, Parts.ring_numbers, Parts.crystal_numbers, Parts.pll_numbers, Parts.cycles_numbers}
+use Rattle.settings.proofs.Decoded.{range-code, ref-code, peri-code, aux-code, sys-code}
+use Rattle.wording.specs.Parts.{chip_code, ring_numbers, crystal_numbers, pll_numbers, cycles_numbers}
 use Rattle.wording.specs.{Parts.peri_numbers, Parts.aux_numbers, Parts.rtc_numbers, Differences.agree}
 use Rattle.wording.proofs.Decode.{chip_at, code-back}
 use Rattle.chip.specs.contracts.Chip as chip
@@ -27,14 +27,6 @@ use Rattle.config.specs.contracts.AuxClkSrc as aux_src
 use Rattle.config.specs.contracts.RoscConfigPartialEq.TheImpl as ring
 use Rattle.config.specs.contracts.AuxClkConfigPartialEq.TheImpl as aux
 use Rattle.config.specs.contracts.RtcClkConfigPartialEq.TheImpl as rtc
-use Rattle.settings.specs.declared.Crystal.{Crystal}
-use Rattle.config.specs.Codes.{range_code, range_from, ref_code, ref_from, sys_code, sys_source_from, peri_aux, peri_from, aux_code}
-use Rattle.config.specs.Codes.{aux_from}
-use Rattle.settings.proofs.Decoded.{range-code, ref-code, sys-code, peri-code, aux-code}
-use Rattle.wording.specs.Parts.{chip_code, ring_numbers, crystal_numbers, pll_numbers, cycles_numbers, peri_numbers, aux_numbers}
-use Rattle.wording.specs.Parts.{rtc_numbers}
-use Rattle.wording.specs.Differences.{agree}
-use Rattle.wording.proofs.Decode.{chip_at, code-back}
 
 -- Values of an enum with no fields are the same exactly where their codes are, if the codes are read back.
 same-code : (D : Declared) → Bare D.parts → (code : D.D → ℕ) (from : ℕ → D.D) → ((x : D.D) → from (code x) ≡ x)

@@ -1,13 +1,12 @@
 -- Two plans have the same settings, and so the same sheet, exactly when no bit is set; each bit says whether its part differs.
-use mathlib.Core.{Path.◌≡◌, Path.refl, Path.sym, Path.ap, Path.◌∙◌, Bool.not, Logic.◌↔◌, List.[], List.◌++◌}
-use Prim.Native.Nat.{ℕ, ◌+◌, ◌<◌}
+use Rattle.std.specs.Prelude.{◌≡◌, refl, not, ◌↔◌, [], ◌++◌, ℕ, ◌+◌, ◌<◌, get_or}
+use mathlib.Core.Path.{sym, ap, ◌∙◌}
 use native.Mathlib.{Numerals.add-one, Omega.arith}
-use lib.ListN.{get_or}
 use Rattle.base.proofs.Writing.{writing}
 use Rattle.config.specs.declared.ClockConfig.{ClockConfig}
 use Rattle.settings.specs.{declared.Settings.Settings, Settings.settings_of}
 use Rattle.sheet.proofs.Demand3.{demand-3}
-use Rattle.wording.specs.{Parts.parts_of}
+use Rattle.wording.specs.Parts.{parts_of}
 use Rattle.wording.specs.Differences.{agree, differences_of, has_bit, part_line, part_lines, NoneDiffers}
 use Rattle.wording.proofs.{Agree.mask-none, Agree.mask-same, Agree.mask-bit, Decode.settings_at, Decode.settings-back}
 

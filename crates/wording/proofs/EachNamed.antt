@@ -1,15 +1,14 @@
 -- Each register that a step of either chip uses has a name, and the cycles of each pause fit 32 bits. The proof goes kind by
 -- kind, and for a PLL's register over both PLLs of both chips.
-use Rattle.std.specs.Prelude.{◌≡◌, Bool, true, ℕ, ◌+◌, ◌^◌, ◌<◌, eqb, leb, length}
-use mathlib.Core.Path.{refl}
+use Rattle.std.specs.Prelude.{◌≡◌, Bool, true, ℕ, ◌+◌, ◌^◌, ◌<◌, eqb, leb, length, refl}
 use native.Mathlib.{Nat.mod-lt, Omega.arith}
 use lib.Pow.{pow_pos}
 use Rattle.base.specs.{Answer.Answer, Answer.value, Answer.refusal, Choice.pick, Choice.in_range}
 use Rattle.base.proofs.Bools.{either_way}
-use Rattle.chip.specs.declared.{Chip.Chip, Chip.TheVariants.Rp2040, Chip.TheVariants.Rp235x}
+use Rattle.chip.specs.declared.Chip.{Chip, TheVariants.Rp2040, TheVariants.Rp235x}
 use Rattle.step.specs.declared.{Step.Step, kind.Kind.Kind}
-use Rattle.registers.specs.declared.Access.{Access}
-use Rattle.registers.specs.{Access.row_of, Access.has, Access.access_of, Access.op_of, Access.address_of, Access.value_of, Map.PLL}
+use Rattle.registers.specs.Access.{row_of, has, access_of, op_of, address_of, value_of}
+use Rattle.registers.specs.{declared.Access.Access, Map.PLL}
 use Rattle.wording.specs.StepNames.{name_rows, name_of}
 use Rattle.step.specs.declared.kind.Kind.TheVariants as kind
 

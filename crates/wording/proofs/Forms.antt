@@ -1,12 +1,11 @@
 -- A form is put byte by byte, and each step's form has a place for each of the kind's fields.
-use Rattle.std.specs.Prelude.{◌≡◌, Bool, true, false, List, [], ◌∷◌, ◌++◌, ℕ, suc, ◌+◌, ◌≤◌, ◌<◌, ltb, length, drop, get_or}
-use mathlib.Core.Path.{refl, ap}
+use Rattle.std.specs.Prelude.{◌≡◌, Bool, true, false, List, [], ◌∷◌, ◌++◌, ℕ, suc, ◌+◌, ◌≤◌, ◌<◌, ltb, length, drop, get_or, refl}
+use mathlib.Core.Path.{ap}
 use native.Mathlib.{Nat.suc-add, Nat.zero-add, Numerals.add-one}
 use lib.{ListN.drop_of_length-le, Seq.drop-cons}
 use Rattle.base.specs.Choice.{bit}
 use Rattle.base.proofs.Writing.{put_more, put_none}
-use Rattle.step.specs.declared.kind.Kind.{Kind}
-use Rattle.step.specs.{Layout.layout, Steps.step_of}
+use Rattle.step.specs.{declared.kind.Kind.Kind, Layout.layout, Steps.step_of}
 use Rattle.text.specs.{Ascii.ascii, Decimal.decimal_of, Hex.hex_of}
 use Rattle.wording.specs.Form.{clock_rows, clock_name, mask_text, is_field, piece_of, formed_from, formed}
 use Rattle.wording.specs.{Rows.row_text, Steps.step_form, Steps.step_text}

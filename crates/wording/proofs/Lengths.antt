@@ -1,21 +1,19 @@
 -- The length of a step's text is bounded kind by kind: a field of w bits is printed with at most w * 3 / 10 + 1 digits, which a
 -- computed test shows for each kind.
-use mathlib.Core.{Path.◌≡◌, Path.refl, Bool.Bool, Bool.true, Bool.false, Bool.◌&&◌}
-use mathlib.Core.List.{List, [], ◌∷◌}
-use Prim.Native.{Nat.ℕ, Nat.zero, Nat.suc, Nat.◌+◌, Nat.◌*◌, Nat.◌/◌, Nat.◌^◌, Nat.◌≤◌, Nat.◌<◌, Nat.min}
+use Rattle.std.specs.Prelude.{◌≡◌, refl, Bool, true, false, ◌&&◌, List, [], ◌∷◌, ℕ, zero, suc, ◌+◌, ◌*◌, ◌/◌, ◌^◌, ◌≤◌, ◌<◌, min}
+use Rattle.std.specs.Prelude.{eqb, leb, length, get_or}
 use native.Mathlib.Omega.{arith}
 use borrow.Author.Tests.{leb-true}
-use lib.{Dec.eqb, Dec.leb, ListN.length, ListN.get_or, ListN.length-append, Pow.pow_pos}
+use lib.{ListN.length-append, Pow.pow_pos}
 use Rattle.base.specs.Choice.{pick, bit}
 use Rattle.std.proofs.lemmas.Bool.{and_parts}
 use Rattle.text.specs.{Decimal.decimal_of, Hex.hex_of}
 use Rattle.text.proofs.Decimals.{length-decimal}
-use Rattle.step.specs.{declared.Step.Step, Layout.layout, Layout.width, Layout.widths, Steps.WellFormed}
-use Rattle.step.specs.declared.kind.Kind.{Kind}
-use Rattle.step.specs.declared.kind.Kind.TheVariants as kind
-use Rattle.wording.specs.{Form.clock_rows, Form.clock_name, Form.mask_text, Form.is_field, Form.piece_of}
-use Rattle.wording.specs.{Form.formed_from, Steps.step_form, Steps.step_text}
+use Rattle.step.specs.{declared.Step.Step, Layout.layout, Layout.width, Layout.widths, Steps.WellFormed, declared.kind.Kind.Kind}
+use Rattle.wording.specs.Form.{clock_rows, clock_name, mask_text, is_field, piece_of, formed_from}
+use Rattle.wording.specs.Steps.{step_form, step_text}
 use Rattle.wording.proofs.Tables.{row-most}
+use Rattle.step.specs.declared.kind.Kind.TheVariants as kind
 
 -- the digits of a number of w bits
 abbrev digits : ℕ → ℕ

@@ -1,7 +1,6 @@
 -- The lines of k + 1 settings are those of k settings and one more, and from 13 on a setting has no line.
-use mathlib.Core.{Path.◌≡◌, Path.refl, List.[], List.◌++◌}
-use Prim.Native.Nat.{ℕ, ◌+◌, ◌≤◌}
-use native.Mathlib.{Numerals.add-one}
+use Rattle.std.specs.Prelude.{◌≡◌, refl, [], ◌++◌, ℕ, ◌+◌, ◌≤◌}
+use native.Mathlib.Numerals.{add-one}
 use lib.ListN.{get_or-eq_default}
 use Rattle.base.proofs.Writing.{writing}
 use Rattle.config.specs.declared.ClockConfig.{ClockConfig}

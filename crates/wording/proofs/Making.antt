@@ -1,8 +1,7 @@
 -- A call of `init` with the ordered plan is a call of `make` with its order; a refused order, or none, changes nothing.
-use Rattle.std.specs.Prelude.{Some, None, Result, ◌≡◌, List, ℕ, Ok, Err}
-use Rattle.base.specs.declared.refusal.Refusal.{Refusal}
-use mathlib.Core.Path.{refl, sym, ap, ◌∙◌}
-use Rattle.base.specs.{Answer.value, Answer.refusal, Answer.answer_of, Refusals.number_of}
+use Rattle.std.specs.Prelude.{Some, None, Result, ◌≡◌, List, ℕ, Ok, Err, refl}
+use Rattle.base.specs.{declared.refusal.Refusal.Refusal, Answer.value, Answer.refusal, Answer.answer_of, Refusals.number_of}
+use mathlib.Core.Path.{sym, ap, ◌∙◌}
 use Rattle.config.specs.declared.ClockConfig.{ClockConfig}
 use Rattle.sheet.specs.Writer.{InitCall}
 use Rattle.wording.specs.Made.{MadeCall}

@@ -1,6 +1,5 @@
 -- The text of a refusal has at most 121 bytes.
-use Rattle.std.specs.Prelude.{ℕ, ◌≤◌, leb, length}
-use mathlib.Core.Path.{refl}
+use Rattle.std.specs.Prelude.{ℕ, ◌≤◌, leb, length, refl}
 use Rattle.base.specs.Choice.{pick}
 use Rattle.wording.specs.Refusals.{refusal_rows, refusal_text}
 use Rattle.wording.proofs.Tables.{row-most}

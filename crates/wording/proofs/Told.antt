@@ -1,27 +1,25 @@
 -- A sheet is read back to a plan that gives it, and no setting differs exactly where the two plans have the same settings and
 -- so the same sheet. So the verdict is `as ordered` for the ordered plan's bytes only.
-use Rattle.std.specs.Prelude.{◌≡◌, Bool, true, false, not, List, [], Option, Some, None, ℕ, eqb, take, drop, get_or}
-use mathlib.Core.Path.{refl, sym, ap, ◌∙◌, subst}
-use Rattle.base.specs.declared.refusal.Refusal.{Refusal}
+use Rattle.std.specs.Prelude.{◌≡◌, Bool, true, false, not, List, [], Option, Some, None, ℕ, eqb, take, drop, get_or, refl}
+use mathlib.Core.Path.{sym, ap, ◌∙◌, subst}
+use Rattle.base.specs.{declared.refusal.Refusal.Refusal, Answer.Answer, Answer.value, Answer.refusal, Choice.pick}
 use native.Mathlib.Omega.{arith}
 use borrow.Author.Tests.{eqb-true}
 use lib.Seq.{take_at}
-use Rattle.base.specs.{Answer.Answer, Answer.value, Answer.refusal, Choice.pick}
 use Rattle.base.proofs.Bools.{either_way}
 use Rattle.text.specs.Ascii.{ascii}
 use Rattle.config.specs.declared.ClockConfig.{ClockConfig}
-use Rattle.settings.specs.declared.Settings.{Settings}
-use Rattle.settings.specs.{Settings.settings_of, Typed.Typed, LeastPlan.plan_of}
+use Rattle.settings.specs.{declared.Settings.Settings, Settings.settings_of, Typed.Typed, LeastPlan.plan_of}
 use Rattle.step.specs.Sheet.{encoded}
 use Rattle.sheet.specs.{Steps.steps_of, Writer.sheet_bytes, Writer.refusal_in}
 use Rattle.refusals.specs.Refusals.{Accepted}
 use Rattle.sheet.proofs.Demand3.{answered}
 use Rattle.readback.specs.Read.{read_of}
 use Rattle.readback.proofs.{Right.written_read, Right.read-gives, Canonical.settings-kept}
-use Rattle.wording.specs.Differences.{agree, has_bit, differences_of}
-use Rattle.wording.specs.Verdict.{Verdict, sheet_refused, order_refused, as_ordered, differs, by_bits, unless_refused, compared, delivered}
-use Rattle.wording.specs.Verdict.{verdict_of, verdict_text, check_text}
-use Rattle.wording.specs.{Parts.parts_of, Words.refused_lines, Differs.differs_text, Told.AsOrdered, Told.Named, Told.NamesThose}
+use Rattle.wording.specs.Verdict.{Verdict, sheet_refused, order_refused, as_ordered, differs, by_bits, unless_refused, compared}
+use Rattle.wording.specs.Verdict.{delivered, verdict_of, verdict_text, check_text}
+use Rattle.wording.specs.{Differences.agree, Differences.has_bit, Differences.differences_of, Parts.parts_of, Words.refused_lines}
+use Rattle.wording.specs.{Differs.differs_text, Told.AsOrdered, Told.Named, Told.NamesThose}
 use Rattle.wording.proofs.Differing.{none-differs, part-differs}
 
 -- no other verdict has that text, because its first byte differs

@@ -1,6 +1,5 @@
 -- A number's bytes.
-use mathlib.Core.{Path.◌≡◌, Path.refl}
-use Prim.Native.Nat.{ℕ}
+use Rattle.std.specs.Prelude.{◌≡◌, refl, ℕ}
 use Rattle.std.specs.Int.{to_be_bytes, w32}
 use Rattle.text.specs.Hex.{hex_of}
 use Rattle.wording.specs.Does.{word_text}

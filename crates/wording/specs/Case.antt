@@ -4,8 +4,7 @@ use lib.Seq.{sets}
 use Rattle.base.specs.{Answer.Answer, Answer.value, Answer.refusal, Choice.pick, Placed.past}
 use Rattle.text.specs.{Ascii.ascii, Ascii.same, Words.up_to, Decimal.number_of}
 use Rattle.cases.specs.{Line.rest_of, Line.word_after, Cases.is_case, Cases.answer_to}
-use Rattle.wording.specs.{Refusals.refusal_text, Orders.is_order, Texts.usage_text}
-use Rattle.wording.specs.declared.commands.texts.Usage.{Usage}
+use Rattle.wording.specs.{Refusals.refusal_text, Orders.is_order, Texts.usage_text, declared.commands.texts.Usage.Usage}
 
 unfoldable pub unknown_text : List ℕ → List ℕ
 unknown_text word = ascii "no such command: " ++ (word ++ ascii "\nsee dizbaral help\n")

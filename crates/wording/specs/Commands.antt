@@ -4,10 +4,8 @@ use Rattle.base.specs.{Answer.Answer, Choice.pick}
 use Rattle.text.specs.{Ascii.ascii, Ascii.same, Words.up_to}
 use Rattle.config.specs.declared.ClockConfig.{ClockConfig}
 use Rattle.numbers.specs.Fields.{nth, byte_at}
-use Rattle.cases.specs.declared.words.Words.{Words}
-use Rattle.cases.specs.{Line.rest_of, Line.rest_after, Words.unread, Words.given}
-use Rattle.wording.specs.declared.{commands.Command.Command, commands.texts.Usage.Usage}
-use Rattle.wording.specs.Texts.{help_text, usage_text}
+use Rattle.cases.specs.{declared.words.Words.Words, Line.rest_of, Line.rest_after, Words.unread, Words.given}
+use Rattle.wording.specs.{declared.commands.Command.Command, declared.commands.texts.Usage.Usage, Texts.help_text, Texts.usage_text}
 use Rattle.wording.specs.{Words.explain_text, StepLines.steps_text, Orders.order_of, Verdict.check_text, Case.case_of}
 
 abbrev pub command_name : Command → List ℕ

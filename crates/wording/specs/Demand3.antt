@@ -1,9 +1,8 @@
 -- Demand 3 of `make`: two sheets are equal exactly when their plans agree in every setting.
 use Rattle.std.specs.Prelude.{Option, Some, ◌≡◌, ◌↔◌, List, ℕ, Result}
-use Rattle.base.specs.Answer.{value, answer_in}
+use Rattle.base.specs.{Answer.value, Answer.answer_in, declared.refusal.Refusal.Refusal}
 use Rattle.settings.specs.declared.Settings.{Settings}
 use Rattle.sheet.specs.Demand3.{SameUpTo}
-use Rattle.base.specs.declared.refusal.Refusal.{Refusal}
 use Rattle.export.specs.Demand3.{settings_in}
 use Rattle.wording.specs.Made.{order_made, reading_made, MakeCall}
 

@@ -1,12 +1,11 @@
 -- The settings in which two plans differ, as a mask with a bit for each part of the settings that count; the first part has the
 -- lowest bit.
-use Rattle.std.specs.Prelude.{Result, ◌≡◌, ◌↔◌, Bool, true, false, ◌&&◌, List, [], ◌∷◌, ◌++◌, ℕ, zero, suc, ◌+◌, ◌*◌, ◌/◌, ◌%◌, ◌^◌, eqb}
-use Rattle.base.specs.declared.refusal.Refusal.{Refusal}
+use Rattle.std.specs.Prelude.{Result, ◌≡◌, ◌↔◌, Bool, true, false, ◌&&◌, List, [], ◌∷◌, ◌++◌, ℕ, zero, suc, ◌+◌, ◌*◌, ◌/◌, ◌%◌, ◌^◌}
+use Rattle.std.specs.Prelude.{eqb}
+use Rattle.base.specs.{declared.refusal.Refusal.Refusal, Choice.pick, Answer.value, Answer.answer_of}
 use Prim.Native.String.{String}
-use Rattle.base.specs.{Choice.pick, Answer.value, Answer.answer_of}
 use Rattle.config.specs.declared.ClockConfig.{ClockConfig}
-use Rattle.settings.specs.declared.Settings.{Settings}
-use Rattle.settings.specs.Settings.{settings_of}
+use Rattle.settings.specs.{declared.Settings.Settings, Settings.settings_of}
 use Rattle.sheet.specs.{Writer.InitCall, Demand3.SameUpTo}
 use Rattle.wording.specs.{Rows.row_text, Parts.parts_of}
 

@@ -4,8 +4,7 @@ use Rattle.std.specs.Prelude.{List, [], ◌∷◌, ◌++◌, ℕ, zero, suc, eqb
 use Rattle.base.specs.Choice.{pick}
 use Rattle.text.specs.Ascii.{ascii}
 use Rattle.config.specs.declared.ClockConfig.{ClockConfig}
-use Rattle.settings.specs.declared.Frequencies.{Frequencies}
-use Rattle.settings.specs.{Settings.settings_of, Frequencies.frequencies_of}
+use Rattle.settings.specs.{declared.Frequencies.Frequencies, Settings.settings_of, Frequencies.frequencies_of}
 use Rattle.wording.specs.{Rows.row_text, Form.formed, Differences.part_names, Differences.has_bit, Words.setting_line}
 
 -- the name of setting k and its two lines, where its bit is set

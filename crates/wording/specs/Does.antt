@@ -3,8 +3,7 @@ use Rattle.std.specs.Prelude.{List, [], ◌∷◌, ◌++◌, eqb, ℕ, ◌/◌, 
 use Rattle.base.specs.Choice.{pick}
 use Rattle.chip.specs.declared.Chip.{Chip}
 use Rattle.text.specs.{Ascii.ascii, Decimal.decimal_of, Hex.hex_of}
-use Rattle.registers.specs.declared.Access.{Access}
-use Rattle.registers.specs.Access.{op_of, address_of, mask_of, value_of}
+use Rattle.registers.specs.{declared.Access.Access, Access.op_of, Access.address_of, Access.mask_of, Access.value_of}
 use Rattle.wording.specs.StepNames.{name_of}
 
 -- a number of 32 bits as eight hexadecimal digits

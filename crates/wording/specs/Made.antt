@@ -1,7 +1,6 @@
 -- `make` writes the sheet of an order at a reading; its words are READING ORDER.
 use Rattle.std.specs.Prelude.{Option, Some, None, Result, ◌≡◌, List, ℕ, ltb}
-use Rattle.base.specs.declared.refusal.Refusal.{Refusal}
-use Rattle.base.specs.{Answer.Answer, Answer.value, Answer.refusal, Answer.answer_in, Choice.pick}
+use Rattle.base.specs.{declared.refusal.Refusal.Refusal, Answer.Answer, Answer.value, Answer.refusal, Answer.answer_in, Choice.pick}
 use Rattle.text.specs.{Words.up_to, Decimal.number_of}
 use Rattle.cases.specs.Line.{rest_of}
 use Rattle.config.specs.declared.ClockConfig.{ClockConfig}

@@ -32,7 +32,7 @@ abbrev pub cycles_numbers : Option ℕ → List ℕ
 cycles_numbers n = option_map_or time_on n []
 
 abbrev pub sys_numbers : Settings → List ℕ
-sys_numbers s = sys_row s.sys s.board.whole s.board.fraction
+sys_numbers s = sys_row s.sys s.chip.whole s.chip.fraction
 
 abbrev pub peri_numbers : Option PeriClkSrc → List ℕ
 peri_numbers src = option_map_or peri_on src []
@@ -47,14 +47,14 @@ rtc_numbers r = option_map_or rtc_on r []
 abbrev pub clock_parts : Settings → List (List ℕ)
 clock_parts s =
     ref_numbers s.reference ∷ sys_numbers s ∷ peri_numbers s.peri ∷ aux_numbers s.usb ∷ aux_numbers s.adc
-    ∷ rtc_numbers s.board.rtc ∷ []
+    ∷ rtc_numbers s.chip.rtc ∷ []
 
 -- voltage code and settling step, then the clocks
 abbrev pub core_parts : Settings → List (List ℕ)
-core_parts s = (s.board.volts.code ∷ []) ∷ cycles_numbers s.settling ∷ clock_parts s
+core_parts s = (s.chip.volts.code ∷ []) ∷ cycles_numbers s.settling ∷ clock_parts s
 
 -- all thirteen: chip, ring, crystal, system PLL and USB PLL, then the others
 abbrev pub parts_of : Settings → List (List ℕ)
 parts_of s =
-    (chip_code s.board.chip ∷ []) ∷ ring_numbers s.rosc ∷ crystal_numbers s.xosc ∷ pll_numbers (sys_pll_of s.xosc)
+    (chip_code s.chip.model ∷ []) ∷ ring_numbers s.rosc ∷ crystal_numbers s.xosc ∷ pll_numbers (sys_pll_of s.xosc)
     ∷ pll_numbers (usb_pll_of s.xosc) ∷ core_parts s

@@ -1,16 +1,14 @@
 -- A sheet in words, a line for each step: position, bytes, kind and fields (specs/Steps), and what it does to which
 -- register of the sheet's chip (specs/Does). Where the bytes stop being steps of that chip, a last line has what is left.
-use Rattle.std.specs.Prelude.{Bool, true, false, List, [], ◌∷◌, ◌++◌, ℕ, zero, suc, ◌+◌, ◌*◌, ◌/◌, length, take, drop, Option, Some, None}
+use Rattle.std.specs.Prelude.{Bool, true, false, List, [], ◌∷◌, ◌++◌, ℕ, zero, suc, ◌+◌, ◌*◌, ◌/◌, length, take, drop, Option, Some}
+use Rattle.std.specs.Prelude.{None}
 use Rattle.base.specs.{Answer.Answer, Answer.value, Answer.refusal, Choice.pick}
 use Rattle.chip.specs.declared.Chip.{Chip}
 use Rattle.text.specs.{Ascii.ascii, Decimal.decimal_of, Hex.hex_of}
-use Rattle.step.specs.declared.Step.{Step}
-use Rattle.step.specs.Access.{read_at}
-use Rattle.registers.specs.declared.Access.{Access}
-use Rattle.registers.specs.Access.{access_of}
+use Rattle.step.specs.{declared.Step.Step, Access.read_at}
+use Rattle.registers.specs.{declared.Access.Access, Access.access_of}
 use Rattle.readback.specs.Law.{chip_in}
-use Rattle.wording.specs.{Steps.step_text, Does.does_text}
-use Rattle.wording.specs.declared.steps.Known.{Known}
+use Rattle.wording.specs.{Steps.step_text, Does.does_text, declared.steps.Known.Known}
 
 -- a step with what it does; nothing where the chip has no step of its kind
 abbrev pub on_chip : Step → Answer Access → Option Known

@@ -1,10 +1,9 @@
 -- The fixed texts: help, and the usage of each command.
-use Rattle.std.specs.Prelude.{List, [], ◌∷◌, eqb}
-use Prim.Native.{Nat.ℕ, String.String}
+use Rattle.std.specs.Prelude.{List, [], ◌∷◌, eqb, ℕ}
+use Prim.Native.String.{String}
 use Rattle.base.specs.Choice.{pick}
 use Rattle.text.specs.Ascii.{ascii}
-use Rattle.wording.specs.Rows.{lines_of}
-use Rattle.wording.specs.declared.commands.texts.Usage.{Usage}
+use Rattle.wording.specs.{Rows.lines_of, declared.commands.texts.Usage.Usage}
 
 -- the commands and the forms of an order, on one screen
 abbrev pub help_lines : List String

@@ -16,19 +16,19 @@ use Rattle.wording.specs.Lines.{aux_line, rtc_line, is_rp2040, left_out_line}
 -- the settings in the order of docs/FORMAT.md, Settings that count
 abbrev pub lines_of : ClockConfig → Settings → Frequencies → List (List ℕ)
 lines_of p s f =
-    chip_line s.board.chip
+    chip_line s.chip.model
     ∷ ring_line s.rosc
     ∷ crystal_line s.xosc
     ∷ pll_line (ascii "pll_sys") f.sources.pll_sys (sys_pll_in p.xosc)
     ∷ pll_line (ascii "pll_usb") f.sources.pll_usb (usb_pll_in p.xosc)
-    ∷ voltage_line s.board.chip s.board.volts.code
+    ∷ voltage_line s.chip.model s.chip.volts.code
     ∷ settling_line s.settling
     ∷ ref_line f.reference s.reference
-    ∷ sys_line f.sys s.sys s.board.whole s.board.fraction (facts_of s.board.chip).scale
+    ∷ sys_line f.sys s.sys s.chip.whole s.chip.fraction (facts_of s.chip.model).scale
     ∷ peri_line f.peri s.peri
     ∷ aux_line (ascii "usb") f.usb s.usb
     ∷ aux_line (ascii "adc") f.adc s.adc
-    ∷ rtc_line f.rtc s.board.rtc
+    ∷ rtc_line f.rtc s.chip.rtc
     ∷ []
 
 -- the line of setting k; none from 13 on
@@ -46,7 +46,7 @@ setting_lines p reading (suc k) = setting_lines p reading k ++ setting_line k p 
 -- the blocks that the last release leaves out
 unfoldable pub left_out_text : Settings → List ℕ
 left_out_text s =
-    left_out_line (is_rp2040 s.board.chip) (is_none s.peri) (is_none s.usb) (is_none s.adc) (is_none s.board.rtc)
+    left_out_line (is_rp2040 s.chip.model) (is_none s.peri) (is_none s.usb) (is_none s.adc) (is_none s.chip.rtc)
 
 -- the plan's numbers as cases have them (docs/CASES.md)
 unfoldable pub plan_line : ClockConfig → List ℕ

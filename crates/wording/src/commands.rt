@@ -5,11 +5,8 @@ mod made;
 mod texts;
 
 ghost use Rattle.std.specs.Prelude.{◌≡◌};
-ghost use Rattle.base.specs.Answer.{answer_in};
-ghost use Rattle.base.specs.Placed.{Placed};
-ghost use Rattle.base.specs.Writing.{Puts};
-ghost use Rattle.wording.specs.Commands.{command_name, explain_of, steps_of};
-ghost use Rattle.wording.specs.Commands.{checked, compared_of, check_of, answer_of};
+ghost use Rattle.base.specs.{Answer.answer_in, Placed.Placed, Writing.Puts};
+ghost use Rattle.wording.specs.Commands.{command_name, explain_of, steps_of, checked, compared_of, check_of, answer_of};
 
 use crate::orders::{Planned, read_order};
 use crate::{steps, verdict, write_explanation};

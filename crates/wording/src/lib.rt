@@ -26,9 +26,9 @@ use settings::{Frequencies, Settings};
 fn write_line(out: &mut Writer<'_, u8>, k: u8, plan: ClockConfig, s: Settings, f: Frequencies)
     ensures { Puts out.old (line_of k plan s f) out.new }
 {
-    let board = s.board;
+    let chip = s.chip;
     match k {
-        0 => sources::write_chip(out, board.chip),
+        0 => sources::write_chip(out, chip.model),
         1 => sources::write_ring(out, s.rosc),
         2 => sources::write_crystal(out, s.xosc),
         3 => sources::write_pll(
@@ -43,17 +43,17 @@ fn write_line(out: &mut Writer<'_, u8>, k: u8, plan: ClockConfig, s: Settings, f
             f.sources.pll_usb,
             plan_row::usb_pll(plan.xosc),
         ),
-        5 => sources::write_voltage(out, board.chip, board.volts.code),
+        5 => sources::write_voltage(out, chip.model, chip.volts.code),
         6 => sources::write_settling(out, s.settling),
         7 => clocks::write_ref(out, f.reference, s.reference),
         8 => {
-            let scale = board.chip.facts().scale;
-            clocks::write_sys(out, f.sys, s.sys, board.whole, board.fraction, scale)
+            let scale = chip.model.facts().scale;
+            clocks::write_sys(out, f.sys, s.sys, chip.whole, chip.fraction, scale)
         }
         9 => clocks::write_peri(out, f.peri, s.peri),
         10 => clocks::write_aux(out, b"usb", f.usb, s.usb),
         11 => clocks::write_aux(out, b"adc", f.adc, s.adc),
-        12 => clocks::write_rtc(out, f.rtc, board.rtc),
+        12 => clocks::write_rtc(out, f.rtc, chip.rtc),
         _ => {}
     }
 }
@@ -83,11 +83,11 @@ fn write_left_out(out: &mut Writer<'_, u8>, s: Settings)
     ensures { Puts out.old (left_out_text s) out.new }
 {
     let no = Absent {
-        chip: s.board.chip,
+        chip: s.chip.model,
         peri: s.peri.is_none(),
         usb: s.usb.is_none(),
         adc: s.adc.is_none(),
-        rtc: s.board.rtc.is_none(),
+        rtc: s.chip.rtc.is_none(),
     };
     clocks::write_left_out(out, no);
 }

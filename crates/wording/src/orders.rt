@@ -4,8 +4,7 @@ mod names;
 
 ghost use Rattle.std.specs.Prelude.{◌≡◌};
 ghost use Rattle.base.specs.Answer.{answer_in};
-ghost use Rattle.wording.specs.Orders.{is_order, preset_of, plan_in, order_with};
-ghost use Rattle.wording.specs.Orders.{order_on, sheet_order, order_of};
+ghost use Rattle.wording.specs.Orders.{is_order, preset_of, plan_in, order_with, order_on, sheet_order, order_of};
 
 use base::Refusal;
 use cases::words::{Words, next_word};

@@ -1,8 +1,7 @@
 // Delivered compared with ordered: whether a sheet is the ordered plan's, and where not, in which settings the two differ.
 
 ghost use Rattle.std.specs.Prelude.{◌≡◌};
-ghost use Rattle.base.specs.Writing.{Puts};
-ghost use Rattle.base.specs.Answer.{answer_of};
+ghost use Rattle.base.specs.{Writing.Puts, Answer.answer_of};
 ghost use Rattle.wording.specs.Differs.{part_text, part_texts, hz_of, plan_hz, clock_text, clock_texts, differs_text};
 ghost use Rattle.wording.specs.Verdict.{by_bits, compared, verdict_text, check_text};
 

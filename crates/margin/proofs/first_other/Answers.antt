@@ -1,13 +1,12 @@
 -- `margin::first_other` meets its contract: an answer shows what is given for a target, and so for those before it, or
 -- that it is the other way round there.
-use mathlib.Core.{Path.◌≡◌, Path.refl, Bool.Bool, Bool.true, Bool.false, Bool.not, Bool.beq}
-use Prim.Native.Nat.{ℕ}
+use Rattle.std.specs.Prelude.{◌≡◌, refl, Bool, true, false, not, ℕ, Option, Some, None, is_some, is_none}
+use mathlib.Core.Bool.{beq}
 use native.Mathlib.Omega.{arith}
-use Rattle.std.specs.Prelude.{Option, Some, None, is_some, is_none}
 use Rattle.pll.specs.declared.PllConfig.{PllConfig}
 use Rattle.margin.specs.Walk.{Tells, Given}
-use Rattle.margin.proofs.first_other.Goals as goal
 use Rattle.margin.proofs.first_other.Goals.{then-is_none-given, else-is_none-given}
+use Rattle.margin.proofs.first_other.Goals as goal
 
 -- what the comparison of an answer with what is given tells
 module _ {input t : ℕ} {c : PllConfig} where

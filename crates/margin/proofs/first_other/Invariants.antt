@@ -1,6 +1,5 @@
 -- The loop keeps that what is given for the first targets is given below `low`, and the other at `high`.
-use mathlib.Core.Bool.{not}
-use Prim.Native.Nat.{ℕ, ◌-◌, ◌≤◌, ◌<◌}
+use Rattle.std.specs.Prelude.{not, ℕ, ◌-◌, ◌≤◌, ◌<◌}
 use Rattle.margin.specs.Walk.{Given}
 use Rattle.margin.proofs.first_other.Given as goal
 

@@ -1,15 +1,13 @@
 -- `margin::target_margin` meets its contract: the first target with the setting has the lower side below it, and the first
 -- without it above the target is the higher side.
-use mathlib.Core.{Path.◌≡◌, Path.sym, Path.subst, Path.◌∙◌, Logic.⊎_elim, Bool.true, Bool.false}
-use Prim.Native.Nat.{ℕ, zero, suc, ◌+◌, ◌-◌, ◌≤◌, ◌<◌}
+use Rattle.std.specs.Prelude.{◌≡◌, true, false, ℕ, zero, suc, ◌+◌, ◌-◌, ◌≤◌, ◌<◌, Option, Some, None, Result, Ok, Err}
+use mathlib.Core.{Path.sym, Path.subst, Path.◌∙◌, Logic.⊎_elim}
 use native.Mathlib.{Omega.arith, Nat.eq-or-lt_of_le}
 use Rattle.std.proofs.lemmas.Result.{err_from_is_err_and}
-use Rattle.std.specs.Prelude.{Option, Some, None, Result, Ok, Err}
 use Rattle.std.specs.{Option.SomeIff, Result.OkIff, Result.result_ok}
 use Rattle.pll.specs.declared.PllConfig.{PllConfig}
 use Rattle.pll.proofs.Near.{search-between}
-use Rattle.margin.specs.Law.{RightLower, RightHigher}
-use Rattle.margin.specs.Walk.{Has, First}
+use Rattle.margin.specs.{Law.RightLower, Law.RightHigher, Walk.Has, Walk.First}
 use Rattle.margin.proofs.{Right.right-is-margin, Sides.refused-15}
 use Rattle.margin.proofs.target_margin.Goals as goal
 

@@ -3,8 +3,7 @@ ghost use Rattle.std.specs.Prelude.{◌≡◌, ◌≤◌, drop};
 ghost use Rattle.base.specs.Answer.{answer_of};
 ghost use Rattle.runner.specs.Run.{HandsFormed, stored_by, freqs_after};
 ghost use Rattle.step.specs.Steps.{WellFormed};
-ghost use Rattle.numbers.specs.Answers.{answer_number};
-ghost use Rattle.numbers.specs.{Run.state_in, Run.with_state, Run.with_freqs, Inside.progress_with};
+ghost use Rattle.numbers.specs.{Answers.answer_number, Run.state_in, Run.with_state, Run.with_freqs, Inside.progress_with};
 
 use crate::answers;
 use base::Refusal;

@@ -1,7 +1,6 @@
 // Tests on a row of numbers from index i on.
 ghost use Rattle.std.specs.Prelude.{◌≡◌, leb};
-ghost use Rattle.numbers.specs.Fields.{nth};
-ghost use Rattle.numbers.specs.Parts.{fit_from, is_part};
+ghost use Rattle.numbers.specs.{Fields.nth, Parts.fit_from, Parts.is_part};
 
 use crate::fields::number_at;
 

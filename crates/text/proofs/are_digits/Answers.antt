@@ -2,8 +2,7 @@
 use mathlib.Core.Path.{◌∙◌}
 use borrow.Author.{Rules.rules, Tests.tests}
 use Rattle.std.specs.Char.{is_ascii_digit}
-use Rattle.std.proofs.lemmas.Iterator.{YieldsList-from_slice}
-use Rattle.std.proofs.lemmas.Iterator.Search.{all_from_yields_List}
+use Rattle.std.proofs.lemmas.Iterator.{YieldsList-from_slice, Search.all_from_yields_List}
 use Rattle.text.proofs.Decimals.{each_digit}
 use Rattle.text.proofs.are_digits.Goals as goal
 

@@ -1,11 +1,9 @@
 -- `text::are_pairs` meets its contract: an even length with hex digits alone makes pairs, and an odd length none.
-use mathlib.Core.{Path.◌≡◌, Path.◌∙◌, Path.sym, Bool.false}
-use Prim.Native.Nat.{◌%◌}
-use lib.{Dec.eqb, ListN.length}
+use Rattle.std.specs.Prelude.{◌≡◌, false, ◌%◌, eqb, length}
+use mathlib.Core.Path.{◌∙◌, sym}
 use borrow.Author.{Rules.rules, Tests.tests}
 use Rattle.std.specs.Char.{is_ascii_hexdigit}
-use Rattle.std.proofs.lemmas.Iterator.{YieldsList-from_slice}
-use Rattle.std.proofs.lemmas.Iterator.Search.{all_from_yields_List}
+use Rattle.std.proofs.lemmas.Iterator.{YieldsList-from_slice, Search.all_from_yields_List}
 use Rattle.text.proofs.Hexes.{pairs-even, pairs-odd}
 use Rattle.text.proofs.are_pairs.Goals as goal
 

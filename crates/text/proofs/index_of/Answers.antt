@@ -1,13 +1,9 @@
 -- `text::index_of` meets its contract: the place that `position` answers is that of the first b, and without it the length is; by
 -- `length-up` it counts the bytes before.
+use Rattle.std.specs.Prelude.{ℕ, eqb, length, unwrap_or, Option}
 use mathlib.Core.Path.{ap, sym, ◌∙◌}
-use Prim.Native.Nat.{ℕ}
 use borrow.Author.{Rules.rules, Tests.tests}
-use lib.{Dec.eqb, ListN.length}
-use Rattle.std.specs.Option.{unwrap_or}
-use Rattle.std.specs.Prelude.{Option}
-use Rattle.std.proofs.lemmas.Iterator.{YieldsList-from_slice}
-use Rattle.std.proofs.lemmas.Iterator.Search.{position_from_yields_List}
+use Rattle.std.proofs.lemmas.Iterator.{YieldsList-from_slice, Search.position_from_yields_List}
 use Rattle.text.proofs.Lines.{place-or-length, length-up}
 use Rattle.text.proofs.index_of.Goals as goal
 

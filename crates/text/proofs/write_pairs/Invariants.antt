@@ -1,6 +1,5 @@
 -- The values of the pairs so far are written.
-use mathlib.Core.List.{map}
-use lib.ListN.{take}
+use Rattle.std.specs.Prelude.{map, take}
 use Rattle.base.specs.Writing.{Puts}
 use Rattle.text.proofs.Hexes.{pair_value}
 use Rattle.text.proofs.write_pairs.Given as goal

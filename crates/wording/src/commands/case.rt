@@ -1,6 +1,5 @@
 // Answers a case of docs/CASES.md, with the meaning of its refusal.
-ghost use Rattle.base.specs.Writing.{Puts};
-ghost use Rattle.base.specs.Answer.{answer_of};
+ghost use Rattle.base.specs.{Writing.Puts, Answer.answer_of};
 ghost use Rattle.wording.specs.Case.{unknown_text, number_meaning, meaning_of, no_case, said_text, case_of};
 
 use crate::commands::texts::{Usage, write_usage};

@@ -2,8 +2,7 @@
 // name of a clock.
 ghost use Rattle.std.specs.Prelude.{◌≡◌, get_or, drop};
 ghost use Rattle.std.specs.Slice.Iter.{iter_rest};
-ghost use Rattle.base.specs.Choice.{bit};
-ghost use Rattle.base.specs.Writing.{Puts};
+ghost use Rattle.base.specs.{Choice.bit, Writing.Puts};
 ghost use Rattle.wording.specs.Form.{clock_name, mask_text, is_field, piece_of, formed};
 
 use base::Writer;

@@ -1,7 +1,6 @@
 // Whether two plans agree in each part of their settings.
 ghost use Rattle.std.specs.Prelude.{◌≡◌};
-ghost use Rattle.wording.specs.Parts.{parts_of};
-ghost use Rattle.wording.specs.Differences.{agreeing};
+ghost use Rattle.wording.specs.{Parts.parts_of, Differences.agreeing};
 
 use settings::Settings;
 
@@ -12,18 +11,18 @@ pub(crate) fn same_parts(a: Settings, b: Settings) -> [bool; 13]
     ensures { result ≡ agreeing (parts_of a) (parts_of b) }
 {
     [
-        a.board.chip == b.board.chip,
+        a.chip.model == b.chip.model,
         a.rosc == b.rosc,
         a.xosc.map(|x| (x.hz, x.delay)) == b.xosc.map(|x| (x.hz, x.delay)),
         a.xosc.and_then(|x| x.sys) == b.xosc.and_then(|x| x.sys),
         a.xosc.and_then(|x| x.usb) == b.xosc.and_then(|x| x.usb),
-        a.board.volts.code == b.board.volts.code,
+        a.chip.volts.code == b.chip.volts.code,
         a.settling == b.settling,
         a.reference == b.reference,
-        (a.sys, a.board.whole, a.board.fraction) == (b.sys, b.board.whole, b.board.fraction),
+        (a.sys, a.chip.whole, a.chip.fraction) == (b.sys, b.chip.whole, b.chip.fraction),
         a.peri == b.peri,
         a.usb == b.usb,
         a.adc == b.adc,
-        a.board.rtc == b.board.rtc,
+        a.chip.rtc == b.chip.rtc,
     ]
 }

@@ -1,8 +1,6 @@
 // The lines of the clocks, and of the blocks that the last release leaves out.
-ghost use Rattle.std.specs.Prelude.{◌≡◌};
-ghost use Rattle.std.specs.Prelude.{[]};
-ghost use Rattle.base.specs.Choice.{pick};
-ghost use Rattle.base.specs.Writing.{Puts};
+ghost use Rattle.std.specs.Prelude.{◌≡◌, []};
+ghost use Rattle.base.specs.{Choice.pick, Writing.Puts};
 ghost use Rattle.wording.specs.Lines.{ref_line, sys_line, peri_line, aux_line, rtc_line, is_rp2040, left_out_line};
 
 use crate::phrases::names::write_named;

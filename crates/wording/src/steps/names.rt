@@ -1,7 +1,6 @@
 // The registers' names, in the order of specs/Names.
-ghost use Rattle.std.specs.Prelude.{◌≡◌};
+ghost use Rattle.std.specs.Prelude.{◌≡◌, option_copied};
 ghost use Rattle.std.specs.List.{find};
-ghost use Rattle.std.specs.Option.{option_copied};
 ghost use Rattle.wording.specs.StepNames.{name_of, address_on, is_at, IsTable};
 
 use chip::Chip;

@@ -1,6 +1,5 @@
 -- What is held and the buffer of answers, fed with the rest of the piece, are what the whole piece gives.
-use mathlib.Core.Path.{◌≡◌}
-use lib.{ListN.length, ListN.drop}
+use Rattle.std.specs.Prelude.{◌≡◌, length, drop}
 use Rattle.cases.specs.Lines.{feeds, feeds_out}
 use Rattle.cases.proofs.lines.take_piece.Given as goal
 

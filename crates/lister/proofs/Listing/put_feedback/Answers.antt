@@ -1,8 +1,7 @@
 -- `lister::Listing::put_feedback` meets its contract: a target of 0, or one that does not divide the VCO frequency, has no
 -- setting (`none-meets`); else the settings are those whose post product is the quotient (`product-meets`).
-use mathlib.Core.{Path.refl}
-use Prim.Native.Nat.{◌<◌}
-use native.Mathlib.{Nat.mul-mod_right}
+use Rattle.std.specs.Prelude.{refl, ◌<◌}
+use native.Mathlib.Nat.{mul-mod_right}
 use Rattle.std.proofs.Common.{rules}
 use Rattle.lister.proofs.{Writing.put_none, Hits.none-meets, Hits.product-meets}
 use Rattle.lister.proofs.Listing.put_feedback.Goals as goal

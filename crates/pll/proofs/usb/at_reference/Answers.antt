@@ -1,20 +1,16 @@
 -- `pll::usb::at_reference` meets its contract: proofs/UsbSteps has one law for each outcome: the crystal is not
 -- divisible, the setting of the search is exact, it is not exact, or the search refuses.
-use mathlib.Core.{Path.◌≡◌, Path.refl, Path.sym, Path.ap, Path.◌∙◌, Bool.Bool, Bool.true, Bool.false}
-use Prim.Native.Nat.{ℕ, ◌*◌, ◌/◌, ◌%◌, ◌≤◌}
-use native.Mathlib.{Omega.arith}
-use lib.Dec.{eqb}
+use Rattle.std.specs.Prelude.{◌≡◌, refl, Bool, true, false, ℕ, ◌*◌, ◌/◌, ◌%◌, ◌≤◌, eqb, Option, Some, None, Result, Ok, Err, ok_or}
+use mathlib.Core.Path.{sym, ap, ◌∙◌}
+use native.Mathlib.Omega.{arith}
 use borrow.Author.Tests.{eqb-true, eq-eqb}
-use Rattle.std.specs.Prelude.{Option, Some, None, Result, Ok, Err}
-use Rattle.std.specs.{Option.ok_or, Result.result_ok, Bool.then_some}
+use Rattle.std.specs.{Result.result_ok, Bool.then_some}
 use Rattle.base.specs.Answer.{Answer, value, refusal, answer_of}
-use Rattle.base.specs.Refusals.{number_of}
-use Rattle.base.specs.declared.refusal.Refusal.{Refusal}
-use Rattle.base.specs.declared.refusal.Refusal.TheVariants.{NoUsbPll}
-use Rattle.pll.specs.{Setting.vco_of, Setting.posts_of, Search.search_of, Usb.with_reference, UsbWalk.UsbRightAt}
-use Rattle.pll.specs.declared.PllConfig.{PllConfig}
-use Rattle.pll.proofs.{Candidates.vco-is, Inputs.found-candidate, UsbSteps.posts-found}
-use Rattle.pll.proofs.UsbSteps.{exact-right, inexact-right, refused-right}
+use Rattle.base.specs.{Refusals.number_of, declared.refusal.Refusal.Refusal, declared.refusal.Refusal.TheVariants.NoUsbPll}
+use Rattle.pll.specs.Setting.{vco_of, posts_of}
+use Rattle.pll.specs.{Search.search_of, Usb.with_reference, UsbWalk.UsbRightAt, declared.PllConfig.PllConfig}
+use Rattle.pll.proofs.UsbSteps.{posts-found, exact-right, inexact-right, refused-right}
+use Rattle.pll.proofs.{Candidates.vco-is, Inputs.found-candidate}
 use Rattle.pll.proofs.usb.at_reference.Goals as goal
 
 -- the answer that `ok` leaves of the search

@@ -1,6 +1,5 @@
 -- `readback::clocks::read_aux` meets its contract: the derived test of two kinds is `is`, so the divider step is there or is not.
-use Rattle.std.proofs.Common.{sym, ◌∙◌}
-use Rattle.std.proofs.lemmas.Bool.{not-false, not-true}
+use Rattle.std.proofs.{Common.sym, Common.◌∙◌, lemmas.Bool.not-false, lemmas.Bool.not-true}
 use Rattle.step.proofs.Numbers.{derived_is}
 use Rattle.readback.proofs.clocks.read_aux.Goals as goal
 

@@ -1,7 +1,6 @@
 -- `readback::oscillators::read_crystal` meets its contract: `goes_on` carries each PLL's equation on to the steps after the previous
 -- part, and `crystal-there` joins them.
-use Rattle.std.proofs.Common.{sym, ◌∙◌, drop}
-use Rattle.std.proofs.lemmas.Bool.{not-false}
+use Rattle.std.proofs.{Common.sym, Common.◌∙◌, Common.drop, lemmas.Bool.not-false}
 use Rattle.step.proofs.Numbers.{derived_is}
 use Rattle.sheet.specs.Read.{read_pll}
 use Rattle.readback.specs.Cut.{cut_pll}

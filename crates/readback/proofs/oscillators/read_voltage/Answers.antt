@@ -1,7 +1,6 @@
 -- `readback::oscillators::read_voltage` meets its contract: the derived test of two kinds is `is`, so the voltage step is there, and the
 -- delay step is or is not.
-use Rattle.std.proofs.Common.{sym, ◌∙◌}
-use Rattle.std.proofs.lemmas.Bool.{not-false, not-true}
+use Rattle.std.proofs.{Common.sym, Common.◌∙◌, lemmas.Bool.not-false, lemmas.Bool.not-true}
 use Rattle.step.proofs.Numbers.{derived_is}
 use Rattle.readback.proofs.oscillators.read_voltage.Goals as goal
 

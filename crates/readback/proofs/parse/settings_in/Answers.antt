@@ -31,4 +31,4 @@ returns c =
     let adc = goes_on (read_aux kind.AdcDivider) cut_aux _ _ _ c.read_aux-adc.ensures usb.rest in
     rw (settings-there c.args.reading xs, adc.rest, ← adc.value, ← usb.value, ← peri.value)
     (rw (← sys.value, ← ref.value, ← crystal.value, ← voltage.value, ← ring.value, ← chip.value)
-    (rw (← c.read_board.ensures)))
+    (rw (← c.read_chip_settings.ensures)))

@@ -1,9 +1,8 @@
 -- `step::packing::unpack_as` meets its contract: the layout gives the widths, `bits` each field and `low` the spare bits; the
 -- kind is known by the precondition, so the test of the code decides (`unpack-known`), and it is that of the definition (`tested`).
-use Rattle.std.specs.Prelude.{Bool, ◌&&◌, ◌≡◌, ℕ, ◌-◌, ◌/◌, ◌%◌, ◌^◌, eqb}
-use mathlib.Core.Path.{refl}
-use Rattle.step.specs.declared.packing.Widths.{Widths}
-use Rattle.step.specs.{Inside.Laid, Layout.widths, Steps.kind_in, Steps.step_in, Steps.spare_in, Steps.storable}
+use Rattle.std.specs.Prelude.{Bool, ◌&&◌, ◌≡◌, ℕ, ◌-◌, ◌/◌, ◌%◌, ◌^◌, eqb, refl}
+use Rattle.step.specs.Steps.{kind_in, step_in, spare_in, storable}
+use Rattle.step.specs.{declared.packing.Widths.Widths, Inside.Laid, Layout.widths}
 use Rattle.step.proofs.Laws.{unpack-known}
 use Rattle.step.proofs.packing.unpack_as.Goals as goal
 

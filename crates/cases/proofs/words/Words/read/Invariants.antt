@@ -1,6 +1,5 @@
 -- `Words::read` meets its contract: the letters left, read on from what is stored, give the result of the whole rest.
-use mathlib.Core.{Path.◌≡◌}
-use lib.ListN.{drop}
+use Rattle.std.specs.Prelude.{◌≡◌, drop}
 use Rattle.cases.specs.Words.{given, unread}
 use Rattle.cases.proofs.words.Words.read.Given as goal
 

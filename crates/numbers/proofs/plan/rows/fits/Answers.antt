@@ -3,8 +3,7 @@ use Rattle.std.specs.Prelude.{◌≡◌, ℕ, ◌+◌}
 use mathlib.Core.Path.{ap, ◌∙◌}
 use native.Mathlib.Omega.{arith}
 use borrow.Author.{Rules.rules, Tests.tests}
-use Rattle.std.proofs.lemmas.Iterator.{YieldsList-from_slice}
-use Rattle.std.proofs.{lemmas.Iterator.Consumers.YieldsList-from_enumerate, lemmas.Iterator.Search.all_from_yields_List}
+use Rattle.std.proofs.lemmas.Iterator.{YieldsList-from_slice, Consumers.YieldsList-from_enumerate, Search.all_from_yields_List}
 use Rattle.numbers.specs.Parts.{fit_from}
 use Rattle.numbers.proofs.Fits.{within, each_within}
 use Rattle.numbers.proofs.plan.rows.fits.Goals as goal

@@ -1,8 +1,7 @@
--- `readback::clocks::read_board` meets its contract: `decodes` gives the voltage.
+-- `readback::clocks::read_chip_settings` meets its contract: `decodes` gives the voltage.
 use Rattle.chip.specs.declared.Chip.TheVariants.{Rp2040, Rp235x}
-use Rattle.readback.proofs.Voltages.{decodes}
-use Rattle.readback.proofs.clocks.read_board.Goals as goal
-use Rattle.readback.proofs.clocks.read_board.Goals.{in-Rp2040, in-Rp235x}
+use Rattle.readback.proofs.{Voltages.decodes, clocks.read_chip_settings.Goals.in-Rp2040, clocks.read_chip_settings.Goals.in-Rp235x}
+use Rattle.readback.proofs.clocks.read_chip_settings.Goals as goal
 
 pub returns : goal.returns
 returns c =
