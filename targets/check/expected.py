@@ -1,8 +1,8 @@
 """expected.py FOLDER: writes FOLDER/sheets.h, the sheets that check/board.c runs, and FOLDER/board.expected, what it has to print.
 
 Nothing of it comes from the code that is tested. The sheets and the accesses are those of the published Rust: presets.accesses,
-which the tests of oracle/ hold against it. The registers at the end are those of the theorems crystal-2040 and crystal-235x
-(proofs/Presets.antt), which say them at reading 11; at reading 12, which is taken here, the voltage is set too.
+which the tests of oracle/ hold against it. The registers at the end are those of the theorem crystal-leaves
+(proofs/Presets.antt), which says them at reading 11; at reading 12, which is taken here, the voltage is set too.
 """
 
 import pathlib
@@ -27,14 +27,13 @@ def presets():
 
 
 def proved(chip):
-    """Addresses and values of the theorem; None where the register is as it was."""
+    """Addresses and values of the chip's rows of `crystal_leaves`; None where the register is as it was."""
     (path,) = HERE.parents[1].glob("crates/*/proofs/Presets.antt")
     text = re.sub("--.*", "", path.read_text())
-    theorem = re.search(f"pub crystal-{chip[2:]} .*?preset_leaves \\w+ before(.*?)≡(.*?)unfolding", text, re.S)
-    addresses = [int(address, 16) for address in re.findall("0x[0-9A-F]+", theorem[1])]
-    values = [value.strip() for value in theorem[2].split("∷")][:-1]
-    assert len(addresses) == len(values) >= 30, "the theorem is not read right"
-    return {at: None if value.startswith("before") else int(value, 0) for at, value in zip(addresses, values)}
+    rows = re.search(rf"crystal_leaves {chip.capitalize()} before =(.*?)∷ \[\]", text, re.S)[1]
+    pairs = re.findall(r"\((0x[0-9A-F]+), (before 0x[0-9A-F]+|0x[0-9A-F]+|\d+)\)", rows)
+    assert len(pairs) == rows.count("(") >= 30, "the theorem is not read right"
+    return {int(at, 16): None if value.startswith("before") else int(value, 0) for at, value in pairs}
 
 
 def carried_out(chip, accesses):
