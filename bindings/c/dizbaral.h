@@ -43,6 +43,9 @@
 /* A sheet has at most this many bytes. */
 #define DIZBARAL_SHEET_BYTES 528
 
+/* The settings of a 12 MHz crystal, which the book has by output. */
+#define DIZBARAL_BOOK_LINES 1988
+
 /* A bench has eight boards, of 14 numbers each, and the kept length. */
 #define DIZBARAL_BENCH_NUMBERS 113
 
@@ -60,14 +63,14 @@ extern "C" {
  * reference divider << 32 | feedback divider << 16 | post divider 1 << 8 | post divider 2. Refusal 15. */
 uint64_t dizbaral_search(uint32_t input_hz, uint32_t target_hz);
 
-/* The same at 12 MHz from the book of its 1988 settings: dizbaral_lookup(hz) is dizbaral_search(12000000, hz). */
+/* The same at 12 MHz from the book of its DIZBARAL_BOOK_LINES settings: dizbaral_lookup(hz) is dizbaral_search(12000000, hz). */
 uint64_t dizbaral_lookup(uint32_t target_hz);
 
 /* Whoever looks up more than once keeps the book: dizbaral_open_book writes it, and dizbaral_lookup_in is
  * dizbaral_lookup in it. An entry is output in Hz * 100000 + feedback divider * 100 + post divider 1 * 10 + post
  * divider 2, by output, those of equal outputs in the order of the search. */
-void dizbaral_open_book(uint64_t book[1988]);
-uint64_t dizbaral_lookup_in(const uint64_t book[1988], uint32_t target_hz);
+void dizbaral_open_book(uint64_t book[DIZBARAL_BOOK_LINES]);
+uint64_t dizbaral_lookup_in(const uint64_t book[DIZBARAL_BOOK_LINES], uint32_t target_hz);
 
 /* find_usb_pll: the setting that makes 48 MHz of a crystal with no remainder, as dizbaral_search answers one.
  * Refusal 25. */

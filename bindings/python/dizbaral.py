@@ -24,6 +24,7 @@ except OSError as why:
 _REFUSAL, _MALFORMED, _ABSENT, _STEP = 1 << 48, 1 << 49, 1 << 32, 1 << 58
 
 SHEET_BYTES = 528  # a sheet has at most this many
+BOOK_LINES = 1988  # the book has so many
 _LIST_BYTES = 17080  # two of each feedback divider from 16 to 320 with each of 28 pairs of post dividers
 
 
@@ -125,10 +126,10 @@ def lookup(target_hz: int) -> PllConfig:
 
 
 class Book:
-    """The book of a 12 MHz crystal: its 1988 settings by output."""
+    """The book of a 12 MHz crystal: its settings by output."""
 
     def __init__(self):
-        self._book = (_U64 * 1988)()
+        self._book = (_U64 * BOOK_LINES)()
         _call("open_book", self._book, result=None)
 
     def lookup(self, target_hz: int) -> PllConfig:

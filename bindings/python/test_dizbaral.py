@@ -41,7 +41,7 @@ class Rows(Test):
         book = dizbaral.Book()
         self.assertEqual(book.line(0), (15_428_571, PllConfig(1, 63, 7, 7)))
         self.assertEqual(book.line(1987), (1_596_000_000, PllConfig(1, 133, 1, 1)))
-        for at in range(0, 1988, 71):
+        for at in range(0, dizbaral.BOOK_LINES, 71):
             target = book.line(at)[0] + 1
             found = dizbaral.find_pll_params(12 * MHZ, target)
             self.assertEqual((book.lookup(target), dizbaral.lookup(target)), (found, found))

@@ -1,4 +1,5 @@
 pub mod Choice
+pub mod Widths
 pub mod Refusals
 pub mod Answer
 pub mod Placed

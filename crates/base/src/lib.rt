@@ -12,6 +12,9 @@ pub use list::BoundedList;
 pub use refusal::Refusal;
 pub use writer::Writer;
 
+// The greatest number of 24 bits.
+pub const U24_MAX: u32 = 0xFFFFFF;
+
 // The first n bytes of s, or all of s where it has fewer.
 pub fn first(s: &[u8], n: usize) -> &[u8]
     ensures { result.now ≡ take n s.now }

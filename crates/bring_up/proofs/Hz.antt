@@ -4,7 +4,7 @@ use Rattle.std.specs.Prelude.{get_or}
 use mathlib.Core.Path.{ap, ap₂, ◌∙◌}
 use native.Mathlib.Omega.{arith}
 use borrow.Author.Tests.{ne_eqb, not-false}
-use Rattle.base.specs.Choice.{pick}
+use Rattle.base.specs.{Choice.pick, Widths.u24}
 use Rattle.chip.specs.{declared.Chip.Chip, declared.Chip.TheVariants.Rp2040, declared.Chip.TheVariants.Rp235x, Chips.facts_of}
 use Rattle.divider.specs.{Clock.divided_hz, Gpout.gpout_whole}
 use Rattle.pll.specs.{declared.PllConfig.PllConfig, Setting.valid_of}
@@ -190,7 +190,7 @@ pub aux-true : (c : Chip) (f : Sources) (a : AuxClkConfig) (ctrl div : ℕ) → 
 aux-true c f a ctrl div small e0 e1 =
     ap₂ ◌/◌ (ap (aux_from f) e0 ∙ aux-source f a.src a.phase) (ap (int_from c 4) e1 ∙ (int-back c a.div small).1)
 
-pub rtc-true : (f : Sources) (src : AuxClkSrc) (phase w fr ctrl div : ℕ) → 1 ≤ w → w ≤ 16777215 → fr < 256
+pub rtc-true : (f : Sources) (src : AuxClkSrc) (phase w fr ctrl div : ℕ) → 1 ≤ w → w ≤ u24 → fr < 256
     → ctrl ≡ control phase (aux_code src) → div ≡ packed Rp2040 w fr
     → divided_from Rp2040 (aux_from f ctrl) div ≡ divided_hz 256 (aux_source f src) w fr
 rtc-true f src phase w fr ctrl div least most small e0 e1 =

@@ -7,8 +7,8 @@ use Rattle.base.specs.Choice.{in_range}
 use Rattle.base.proofs.Bools.{either_way}
 use Rattle.text.specs.{Decimal.decimal_of, Hex.hex_digits, Hex.hex_of, Reply.spaced, Reply.row_text}
 use Rattle.text.proofs.Decimals.{length-decimal}
-use Rattle.numbers.specs.Answers.{refusals, malformed}
-use Rattle.cases.specs.Said.{number_text, hex_behind, call_text}
+use Rattle.numbers.specs.{Answers.refusals, Answers.malformed, Fields.room}
+use Rattle.cases.specs.{Said.number_text, Said.hex_behind, Said.call_text, Say.longest_answer}
 
 -- a 64-bit number has at most 20 digits
 decimal-short : (n : ℕ) → n < 18446744073709551616 → length (decimal_of n) ≤ 20
@@ -36,11 +36,11 @@ hex-short [] = omega arith
 hex-short (b ∷ bs) = let rest = digits-length (b ∷ bs) in omega arith
 
 pub call_short : (r : ℕ) (row bytes : List ℕ) → r < 18446744073709551616 → ((i : ℕ) → get_or row i 0 < 4294967296)
-    → length row ≤ 128 → length bytes ≤ 1024 → length (call_text r row bytes) ≤ 3477
+    → length row ≤ 128 → length bytes ≤ room → length (call_text r row bytes) ≤ longest_answer
 unfolding call_text
 call_short r row bytes h all few small =
     either_way (eqb r malformed) (λ e. rw e (omega arith))
     (λ e. rw e (simp length-append (omega (arith, number_short r h, spaced-short row all, hex-short bytes))))
 
-pub row_short : (a b : ℕ) → a < 18446744073709551616 → b < 18446744073709551616 → length (row_text a (b ∷ [])) ≤ 3477
+pub row_short : (a b : ℕ) → a < 18446744073709551616 → b < 18446744073709551616 → length (row_text a (b ∷ [])) ≤ longest_answer
 row_short a b h k = simp length-append (omega (arith, decimal-short a h, decimal-short b k))

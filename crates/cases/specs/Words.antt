@@ -3,9 +3,10 @@
 use Rattle.std.specs.Prelude.{Option, Some, None, option_and_then, List, [], ◌∷◌, ℕ, suc, ◌+◌, ◌*◌, ◌-◌, max, ◌++◌, eqb, leb, ltb}
 use Rattle.std.specs.Prelude.{length, set, take, drop, replicate}
 use lib.Seq.{sets}
-use Rattle.base.specs.{Answer.Answer, Answer.value, Answer.refusal, Choice.pick}
+use Rattle.base.specs.{Answer.Answer, Answer.value, Answer.refusal, Choice.pick, Widths.u8, Widths.u16, Widths.u32}
 use Rattle.text.specs.{Decimal.is_digit, Decimal.number_of, Hex.is_readable, Hex.pair_values}
-use Rattle.numbers.specs.Fields.{nth}
+use Rattle.step.specs.Sheet.{max_bytes}
+use Rattle.numbers.specs.Fields.{nth, room}
 use Rattle.cases.specs.{declared.words.Words.Words, Line.word_after, Line.rest_after}
 
 -- the words read so far: a number for each word, in a row of 128, and the bytes of each word of hex in its buffer
@@ -20,7 +21,7 @@ spelled count (c ∷ cs) =
 
 -- the greatest number of a letter: f is a flag, b has 8 bits, h 16 bits, r is a buffer's length, any other has 32 bits
 abbrev pub limit_of : ℕ → ℕ
-limit_of l = pick (eqb l 102) 1 (pick (eqb l 98) 255 (pick (eqb l 104) 65535 (pick (eqb l 114) 1024 4294967295)))
+limit_of l = pick (eqb l 102) 1 (pick (eqb l 98) u8 (pick (eqb l 104) u16 (pick (eqb l 114) room u32)))
 
 -- the number of the next word goes to the row
 abbrev pub with_number : Words → ℕ → Words
@@ -50,9 +51,13 @@ given rest (l ∷ ls) s =
     pick (eqb (length rest) 0) (pick (eqb l 111) (Some s) None)
     (pick (ltb s.count 128) (option_and_then (given (rest_after rest) ls) (step l (word_after rest) s)) None)
 
+-- the most bytes that a sheet has that is read: more than any plan's sheet
+abbrev pub most_read : ℕ
+most_read = 2048
+
 -- the state before any word is read
 abbrev pub unread : Words
-unread = state_of 0 (replicate 128 0) (replicate 528 0) (replicate 2048 0)
+unread = state_of 0 (replicate 128 0) (replicate max_bytes 0) (replicate most_read 0)
 
 -- the numbers that were read after the first i; none where fewer were read, or the row has fewer than were counted
 abbrev pub numbers_past : Words → ℕ → Option (List ℕ)

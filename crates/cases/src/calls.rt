@@ -10,7 +10,7 @@ use base::Writer;
 use chip::Chip;
 use export::bench::{dizbaral_bench_run, dizbaral_bench_start};
 use numbers::answers::MALFORMED;
-use numbers::fields::{byte_at, half_at, number_at, pll_at, room_at, ten_at};
+use numbers::fields::{ROOM, byte_at, half_at, number_at, pll_at, room_at, ten_at};
 use numbers::manual::manual;
 use step::MAX_BYTES;
 
@@ -50,7 +50,7 @@ pub(crate) fn write_gpout(out: &mut Writer<'_, u8>, n: &[u32; 128])
 pub(crate) fn write_list(out: &mut Writer<'_, u8>, n: &[u32; 128])
     ensures { Says out.old (list_text n.now) out.new }
 {
-    let mut lent = [238u8; 1024];
+    let mut lent = [238u8; ROOM as usize];
     let buf = &mut lent[..room_at(n, 2)];
     let r = export::dizbaral_list(n[0], n[1], buf);
     write_written(out, r, buf);
@@ -78,7 +78,7 @@ pub(crate) fn write_sheet(out: &mut Writer<'_, u8>, words: &Words)
     ensures { Says out.old (sheet_text words.now.row words.now.count) out.new }
 {
     let n = &words.row;
-    let mut lent = [238u8; 1024];
+    let mut lent = [238u8; ROOM as usize];
     let buf = &mut lent[..room_at(n, 1)];
     let r = export::dizbaral_plan_sheet(byte_at(n, 2), plan_at(words), byte_at(n, 0), buf);
     write_written(out, r, buf);

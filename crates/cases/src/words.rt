@@ -13,16 +13,19 @@ use numbers::answers::{MALFORMED, REFUSAL};
 use numbers::fields;
 use step::MAX_BYTES;
 
+// The most bytes that a sheet has that is read: more than any plan's sheet (docs/DECISIONS.md, 71).
+pub const MOST_READ: usize = 2048;
+
 // The greatest number that a letter allows. Letters are no enum: they are those of docs/CASES.md's rows, read as text.
 fn limit(letter: u8) -> u32
     ensures { result ≡ limit_of letter }
 {
     match letter {
         b'f' => 1,
-        b'b' => 255,
-        b'h' => 65535,
-        b'r' => 1024,
-        _ => 4294967295,
+        b'b' => u32::from(u8::MAX),
+        b'h' => u32::from(u16::MAX),
+        b'r' => fields::ROOM,
+        _ => u32::MAX,
     }
 }
 
@@ -34,7 +37,7 @@ pub struct Words {
     pub count: usize,
     pub row: [u32; 128],
     pub kept: [u8; MAX_BYTES],
-    pub sheet: [u8; 2048],
+    pub sheet: [u8; MOST_READ],
 }
 
 impl Words {
@@ -46,7 +49,7 @@ impl Words {
             count: 0,
             row: [0; 128],
             kept: [0; MAX_BYTES],
-            sheet: [0; 2048],
+            sheet: [0; MOST_READ],
         }
     }
 

@@ -15,12 +15,13 @@ fn show(rt: &impl Print, name: &str, n: u64) -> io::Result<()> {
     println!(rt; "{name} {n}")
 }
 
-// Runs a sheet until done; a call is ready after the answer waiting. `run` of report says why the two are not one.
+// Runs a sheet until done; a call is ready after the answer waiting, so each wait has one unready poll. `run` of report says why
+// the two are not one.
 fn run(sheet: &[u8]) -> Runner {
     let mut runner = Runner::new();
     let _opened = runner.start(sheet);
     let mut ready = false;
-    for _ in 0..76 {
+    for _ in 0..bring_up::longest_wait(1) {
         let reply = runner.poll(sheet, ready);
         ready = matches!(reply, Ok(Reply::Waiting));
         if matches!(reply, Ok(Reply::Done)) {

@@ -11,7 +11,7 @@ fn show(rt: &impl Print, start: &[u8]) -> io::Result<()> {
 // Prints the output of `load` for an input of which the first bytes are given. One function over both programs would take the size of
 // the buffer and the program, with a bound on its answer as `requires`, and be longer than these three lines.
 fn show_load(rt: &impl Print, start: &[u8]) -> io::Result<()> {
-    let mut out = [0u8; 80012];
+    let mut out = [0u8; trial::LONGEST];
     let size = trial::load(start, &mut out);
     rt.write_all(&out[..size])
 }

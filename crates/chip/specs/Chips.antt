@@ -1,6 +1,7 @@
 -- The numbers in which the RP2040 and the RP235x differ (docs/RP235X.md). `gpout` lists the clock of each Gpout source code from
 -- 0 on; none is for a code that no clock has.
 use Rattle.std.specs.Prelude.{[], ◌∷◌, ◌+◌, ◌-◌, ◌^◌, Some, None}
+use Rattle.base.specs.Widths.{u16, u24}
 use Rattle.step.specs.declared.kind.Kind.TheVariants as kind
 use Rattle.step.specs.declared.clock.Clock.TheVariants as clock
 use Rattle.chip.specs.declared.{Chip.Chip, Chip.TheVariants.Rp2040, Chip.TheVariants.Rp235x, Facts.Facts}
@@ -13,7 +14,7 @@ facts_of Rp2040 =
       brownout = kind.Brownout;
       divider = kind.SysDivider;
       scale = 256;
-      top_whole = 16777215;
+      top_whole = u24;
       pass = 0xAA0;
       -- all 25 bits without IO_QSPI, PADS_QSPI, PLL_SYS, PLL_USB, SYSCFG, USBCTRL
       first = 0x1FFFFFF - (2 ^ 6 + 2 ^ 9 + 2 ^ 12 + 2 ^ 13 + 2 ^ 18 + 2 ^ 24);
@@ -37,7 +38,7 @@ facts_of Rp235x =
       brownout = kind.Brownout235;
       divider = kind.SysDivider235;
       scale = 65536;
-      top_whole = 65535;
+      top_whole = u16;
       pass = 0xAA00;
       -- all 25 bits without IO_QSPI, PADS_QSPI, PLL_SYS, PLL_USB, SYSCFG
       first = 0x1FFFFFF - (2 ^ 7 + 2 ^ 10 + 2 ^ 14 + 2 ^ 15 + 2 ^ 20);

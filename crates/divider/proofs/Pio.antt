@@ -2,12 +2,12 @@
 use Rattle.std.specs.Prelude.{◌≡◌, ℕ, ◌*◌, ◌/◌, eqb}
 use native.Mathlib.Nat.{div-zero}
 use borrow.Author.Tests.{eqb-true}
-use Rattle.base.specs.{Choice.pick, Choice.in_range, Answer.Answer, Answer.value, Answer.refusal}
+use Rattle.base.specs.{Choice.pick, Choice.in_range, Answer.Answer, Answer.value, Answer.refusal, Widths.u24}
 use Rattle.base.proofs.Bools.{either_way}
 use Rattle.divider.specs.Pio.{pio_of}
 
 abbrev tested : ℕ → Answer ℕ
-tested divider = pick (in_range 256 16777215 divider) (value divider) (refusal 17)
+tested divider = pick (in_range 256 u24 divider) (value divider) (refusal 17)
 
 pub pio-tested : (system target : ℕ) → pio_of system target ≡ tested (system * 256 / target)
 unfolding pio_of

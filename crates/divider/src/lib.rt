@@ -122,7 +122,7 @@ pub fn get_freq(source: u8, divider: GpoutDiv, freqs: &[u32; 10]) -> Result<u32,
     }
 }
 
-// The divider, in 256ths, for a PIO state machine to run at the target; 17 where it is not 256 to 16777215. A target of 0 gives
+// The divider, in 256ths, for a PIO state machine to run at the target; 17 where it is not 256 to 16777215 (24 bits). A target of 0 gives
 // the quotient 0, which is out of range.
 #[tactic(auto, using(crate::proofs::Pio::tested_alone), unfolding(crate::specs::Pio::pio_of))]
 pub fn calculate_pio_clock_divider_value(sys_hz: u32, target_hz: u32) -> Result<u32, Refusal>
@@ -131,7 +131,7 @@ pub fn calculate_pio_clock_divider_value(sys_hz: u32, target_hz: u32) -> Result<
     let divider = (u64::from(sys_hz) * 256)
         .checked_div(u64::from(target_hz))
         .unwrap_or(0);
-    if (256..=16777215).contains(&divider) {
+    if (256..=u64::from(base::U24_MAX)).contains(&divider) {
         Ok(divider as u32)
     } else {
         Err(Refusal::PioDivider)

@@ -1,6 +1,7 @@
 // Reads arguments and files, and writes files.
 use crate::said::{self, Reason};
 use base::Writer;
+use cases::words::MOST_READ;
 use std::env::{Env, FillError};
 use std::fs::{OpenFile, OpenOptions};
 use std::io::{Read, Write};
@@ -93,10 +94,10 @@ fn join_file(
     line: &mut Writer<'_, u8>,
     name: &[u8],
 ) -> Result<(), Stopped> {
-    let mut bytes = [0u8; 2049];
+    let mut bytes = [0u8; MOST_READ + 1];
     let path = path_of(rt, name)?;
     match read_file(rt, path, &mut bytes) {
-        Ok(n) if n <= 2048 => {
+        Ok(n) if n <= MOST_READ => {
             text::write_hex(line, base::first(&bytes, n));
             Ok(())
         }

@@ -3,7 +3,7 @@
 use Rattle.std.specs.Prelude.{Option, Some, None, true, ◌≡◌, ℕ, ◌≤◌, eqb, refl}
 use mathlib.Core.Path.{ap, subst}
 use native.Mathlib.Omega.{arith}
-use Rattle.base.specs.Answer.{Answer, value, refusal}
+use Rattle.base.specs.{Answer.Answer, Answer.value, Answer.refusal, Widths.u32}
 use Rattle.base.proofs.Bools.{either_way}
 use Rattle.chip.specs.declared.Chip.TheVariants.{Rp2040, Rp235x}
 use Rattle.chip.specs.{declared.Chip.Chip, declared.voltage.CoreVoltage.CoreVoltage, Chips.facts_of}
@@ -13,7 +13,7 @@ use Rattle.config.specs.Presets.{plain, from_plls, feeding_both, with_found, rin
 use Rattle.config.specs.Presets.{system_voltage, system_plan, system_plan_from, manual_plan}
 use Rattle.config.specs.declared.{ClockConfig.ClockConfig, RoscConfig.RoscConfig, RoscRange.RoscRange}
 use Rattle.config.specs.{declared.RtcClkConfig.RtcClkConfig, ChipSettings.chip_of}
-use Rattle.numbers.specs.{Fields.u32, Typed.PllTyped, Typed.RingTyped, Typed.ClockTyped, Typed.ChipTyped, Typed.PlanTyped}
+use Rattle.numbers.specs.{Typed.PllTyped, Typed.RingTyped, Typed.ClockTyped, Typed.ChipTyped, Typed.PlanTyped}
 use Rattle.numbers.proofs.Inverse.{plan-back}
 use Rattle.export.specs.Plan.{Back, PresetsBack}
 use Rattle.chip.specs.declared.voltage.CoreVoltage.TheVariants as volts

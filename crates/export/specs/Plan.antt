@@ -1,11 +1,11 @@
 -- The exported calls that write the numbers of a preset's plan (docs/FORMAT.md, Presets).
 use Rattle.std.specs.Prelude.{Option, Some, ℕ, ◌≤◌, ◌≡◌, List}
-use Rattle.base.specs.Answer.{Answer, value}
+use Rattle.base.specs.{Answer.Answer, Answer.value, Widths.u32}
 use Rattle.chip.specs.declared.{Chip.Chip, Chip.TheVariants.Rp2040, voltage.CoreVoltage.CoreVoltage}
 use Rattle.pll.specs.declared.PllConfig.{PllConfig}
 use Rattle.config.specs.declared.ClockConfig.{ClockConfig}
 use Rattle.config.specs.Presets.{crystal_plan, rosc_plan, default_plan, system_plan, system_plan_from, manual_plan}
-use Rattle.numbers.specs.{Fields.u32, Answers.Writes, Read.plan_chip, Read.put_row, Row.plan_row, Plan.plan_numbered}
+use Rattle.numbers.specs.{Answers.Writes, Read.plan_chip, Read.put_row, Row.plan_row, Plan.plan_numbered}
 
 -- the call's contract: its answer r, which is malformed where there is no such preset, and all numbers after it
 abbrev pub PlanCall : Option (Answer ClockConfig) → List ℕ → ℕ → List ℕ → Type 0

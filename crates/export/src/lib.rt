@@ -46,7 +46,7 @@ pub extern "C" fn dizbaral_lookup(target_hz: u32) -> u64
 
 // Writes the 12 MHz book, for `dizbaral_lookup_in`.
 #[unsafe(no_mangle)]
-pub extern "C" fn dizbaral_open_book(book: &mut [u64; 1988])
+pub extern "C" fn dizbaral_open_book(book: &mut speed_book::Book)
     ensures { book.new ≡ table }
 {
     *book = speed_book::open();
@@ -54,7 +54,7 @@ pub extern "C" fn dizbaral_open_book(book: &mut [u64; 1988])
 
 // The PLL setting for a target, looked up in an open book. Refusal: 15.
 #[unsafe(no_mangle)]
-pub extern "C" fn dizbaral_lookup_in(book: &[u64; 1988], target_hz: u32) -> u64
+pub extern "C" fn dizbaral_lookup_in(book: &speed_book::Book, target_hz: u32) -> u64
     ensures { result ≡ answer_number setting_number (lookup_in book.now target_hz) }
 {
     answers::found(speed_book::lookup_in(book, target_hz))

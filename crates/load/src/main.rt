@@ -5,7 +5,7 @@ use std::io;
 
 fn main(rt: HostRuntime) -> io::Result<()> {
     let mut line = [0u8; 22];
-    let mut out = [0u8; 80012];
+    let mut out = [0u8; trial::LONGEST];
     match input::read_line(&mut rt.stdin(), &mut line) {
         Ok(n) => {
             let size = trial::load(&line[..n], &mut out);

@@ -5,7 +5,7 @@ use Rattle.config.specs.declared.{XoscConfig.XoscConfig, ChipConfig.ChipConfig, 
 use mathlib.Core.Path.{refl, sym, ap, ◌∙◌}
 use native.Mathlib.Omega.{arith}
 use borrow.Author.Tests.{eqb-true, leb-true, le-leb}
-use Rattle.base.specs.{Answer.Answer, Answer.value, Answer.refusal, Choice.pick}
+use Rattle.base.specs.{Answer.Answer, Answer.value, Answer.refusal, Choice.pick, Widths.u8, Widths.u16, Widths.u32}
 use Rattle.base.proofs.Bools.{either_way}
 use Rattle.std.proofs.lemmas.Bool.{and_parts}
 use Rattle.chip.specs.declared.{Chip.Chip, Chip.TheVariants.Rp2040, Chip.TheVariants.Rp235x}
@@ -21,7 +21,7 @@ use Rattle.numbers.proofs.PartRows.{ring_row, pll_row, time_row, peri_row, aux_r
 use Rattle.numbers.specs.Plan.{whole_oscillators, whole_clocks, whole_chip, whole_plan, strengths_at, ring_at, option_pll_at, crystal_at}
 use Rattle.numbers.specs.Plan.{divided_at, rtc_at, chip_at, plan_at, flagged, part2040, part235x}
 use Rattle.numbers.specs.Plan.{plan_numbered}
-use Rattle.numbers.specs.{Fields.nth, Fields.byte_at, Fields.u8, Fields.u16, Fields.u32, Parts.fit_from, Parts.is_part, Answers.of_value}
+use Rattle.numbers.specs.{Fields.nth, Fields.byte_at, Parts.fit_from, Parts.is_part, Answers.of_value}
 use Rattle.numbers.specs.{Typed.PllTyped, Typed.CrystalTyped, Typed.ChipTyped, Typed.PlanTyped}
 use Rattle.numbers.proofs.PartRows.{row_from, row-whole, cut, both, fits, gone, codes, code_read, ring_limits}
 use Rattle.numbers.proofs.PartRows.{ring-back, ring-row, pll_limits, pll-back, pll-row, time_limits, time-back, time-row, peri_limits}

@@ -6,7 +6,7 @@ use mathlib.Core.Path.{refl, sym, ap, ◌∙◌}
 use native.Mathlib.{Numerals.add-one, Omega.arith}
 use borrow.Author.Tests.{eqb-true, eq-eqb, ne_eqb, leb-true, le-leb}
 use lib.Seq.{take-length, drop-cons}
-use Rattle.base.specs.{Answer.value, Choice.pick}
+use Rattle.base.specs.{Answer.value, Choice.pick, Widths.u8, Widths.u16, Widths.u32}
 use Rattle.base.proofs.Bools.{either_way}
 use Rattle.std.proofs.lemmas.Bool.{and_parts}
 use Rattle.chip.specs.Voltage.{with_code}
@@ -15,7 +15,7 @@ use Rattle.config.specs.declared.{RoscConfig.RoscConfig, PeriClkSrc.PeriClkSrc, 
 use Rattle.config.specs.Codes.{range_code, ref_code, sys_code, peri_aux, aux_code, range_from, ref_from, sys_source_from, peri_from}
 use Rattle.config.specs.Codes.{aux_from}
 use Rattle.settings.proofs.Decoded.{range-code, peri-code, aux-code}
-use Rattle.numbers.specs.Fields.{nth, byte_at, u8, u16, u32}
+use Rattle.numbers.specs.Fields.{nth, byte_at}
 use Rattle.numbers.specs.Row.{part_row, ring_on, pll_on, time_on, peri_on, aux_on, rtc_on}
 use Rattle.numbers.specs.Plan.{flagged, strengths_at, ring_at, option_pll_at, divided_at}
 use Rattle.numbers.specs.{Parts.fit_from, Parts.is_part, Typed.PllTyped, Typed.RingTyped, Typed.TimeTyped, Typed.AuxTyped, Typed.ClockTyped}

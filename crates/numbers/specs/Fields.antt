@@ -1,16 +1,10 @@
 -- A row of numbers. A number is read by its index; past the row's end it is 0.
 use Rattle.std.specs.Prelude.{List, [], ◌∷◌, ℕ, ◌+◌, min, get_or}
+use Rattle.base.specs.Widths.{u8, u16}
 use Rattle.pll.specs.declared.PllConfig.{PllConfig}
 
 abbrev pub nth : List ℕ → ℕ → ℕ
 nth row i = get_or row i 0
-
--- the greatest numbers of 8 and of 16 bits
-abbrev pub u8 : ℕ
-u8 = 255
-
-abbrev pub u16 : ℕ
-u16 = 65535
 
 -- a number of a row clamped to 8 and to 16 bits; the limits of the letters are checked first, so nothing is lost
 abbrev pub byte_at : List ℕ → ℕ → ℕ
@@ -41,7 +35,3 @@ abbrev pub ten_at : List ℕ → ℕ → List ℕ
 ten_at row i =
     nth row i ∷ nth row (i + 1) ∷ nth row (i + 2) ∷ nth row (i + 3) ∷ nth row (i + 4)
     ∷ nth row (i + 5) ∷ nth row (i + 6) ∷ nth row (i + 7) ∷ nth row (i + 8) ∷ nth row (i + 9) ∷ []
-
--- the greatest 32-bit number, the limit of every number of a row
-abbrev pub u32 : ℕ
-u32 = 4294967295

@@ -1,7 +1,7 @@
 -- Reads a plan from a row of numbers (docs/CASES.md, A plan in numbers): 48 for the RP2040 and 43, without the RTC's five, for
 -- the RP235x. The parts are in order, and an optional part begins with a flag.
 use Rattle.std.specs.Prelude.{Bool, true, ◌&&◌, List, [], ◌∷◌, ℕ, ◌+◌, Option, Some, None, eqb, leb, length, option_map}
-use Rattle.base.specs.Choice.{pick}
+use Rattle.base.specs.{Choice.pick, Widths.u8, Widths.u16, Widths.u32}
 use Rattle.chip.specs.declared.Chip.TheVariants.{Rp2040, Rp235x}
 use Rattle.chip.specs.declared.{Chip.Chip, voltage.CoreVoltage.CoreVoltage, voltage.CoreVoltage235.CoreVoltage235}
 use Rattle.chip.specs.Voltage.{core_voltage_of}
@@ -10,7 +10,7 @@ use Rattle.config.specs.declared.RoscConfig.{RoscConfig}
 use Rattle.config.specs.declared.{XoscConfig.XoscConfig, AuxClkConfig.AuxClkConfig, RtcClkConfig.RtcClkConfig}
 use Rattle.config.specs.declared.{DriveStrength.DriveStrength, ChipConfig.ChipConfig, ClockConfig.ClockConfig}
 use Rattle.config.specs.Codes.{range_from, ref_from, sys_source_from, peri_from, aux_from}
-use Rattle.numbers.specs.Fields.{nth, byte_at, half_at, pll_at, u8, u16, u32}
+use Rattle.numbers.specs.Fields.{nth, byte_at, half_at, pll_at}
 use Rattle.numbers.specs.{Parts.fit_from, Parts.is_part, Answers.of_value}
 use Rattle.config.specs.declared.ChipConfig.TheVariants.{Rp2040 as on2040, Rp235x as on235x}
 

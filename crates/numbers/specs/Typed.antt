@@ -1,9 +1,9 @@
 -- A plan whose numbers fit their types, as those of every plan that a program holds do.
 use Rattle.std.specs.Prelude.{ℕ, ◌≤◌, Option, Some, None}
+use Rattle.base.specs.Widths.{u8, u16, u32}
 use Rattle.config.specs.declared.{RoscConfig.RoscConfig, XoscConfig.XoscConfig, AuxClkConfig.AuxClkConfig, RtcClkConfig.RtcClkConfig}
 use Rattle.config.specs.declared.{ChipConfig.ChipConfig, ClockConfig.ClockConfig}
 use Rattle.pll.specs.declared.PllConfig.{PllConfig}
-use Rattle.numbers.specs.Fields.{u8, u16, u32}
 
 -- what holds of a part that is there
 abbrev pub IfThere : {A : Type 0} → (A → Type 0) → Option A → Type 0

@@ -27,11 +27,14 @@ pub fn half_at(row: &[u32], i: usize) -> u16
     u16::try_from(number_at(row, i)).unwrap_or(u16::MAX)
 }
 
-// The number at index i as the length of a buffer, clamped to 1024 bytes.
+// The longest buffer in bytes that a case may ask for.
+pub const ROOM: u32 = 1024;
+
+// The number at index i as the length of a buffer, at most the longest.
 pub fn room_at(row: &[u32], i: usize) -> usize
     ensures { result ≡ room_at row.now i }
 {
-    number_at(row, i).min(1024) as usize
+    number_at(row, i).min(ROOM) as usize
 }
 
 // The four dividers of a PLL from index i on: reference, feedback, post 1, post 2.

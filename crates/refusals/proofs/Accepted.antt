@@ -1,7 +1,7 @@
 -- For accepted settings each test is false; the bounds that these tests give follow.
 use Rattle.std.specs.Prelude.{◌≡◌, refl, Bool, true, false, ◌||◌, List, [], ◌∷◌, Some, None, ℕ, ◌≤◌, ◌<◌, eqb, leb, ltb}
 use borrow.Author.Tests.{leb-false, ltb-false, not-false}
-use Rattle.base.specs.{declared.refusal.Refusal.Refusal, Choice.pick, Choice.in_range, Refusals.number_of}
+use Rattle.base.specs.{declared.refusal.Refusal.Refusal, Choice.pick, Choice.in_range, Refusals.number_of, Widths.u24}
 use Rattle.std.proofs.lemmas.Bool.{or_parts}
 use Rattle.base.proofs.Bools.{either_way, in-range}
 use Rattle.config.specs.declared.{DriveStrength.DriveStrength, RtcClkConfig.RtcClkConfig}
@@ -68,11 +68,11 @@ unfolding reference_bad
 reference-good hz e = leb-false 512000000 hz (or_parts (eqb hz 0) (leb 512000000 hz) e).1
 
 pub rtc-good : (source hz : ℕ) (r : RtcClkConfig) → rtc_bad source hz (Some r) ≡ false
-    → (1 ≤ r.div_int) × (r.div_int ≤ 16777215) × (r.phase ≤ 3) × (hz ≤ 65535)
+    → (1 ≤ r.div_int) × (r.div_int ≤ u24) × (r.phase ≤ 3) × (hz ≤ 65535)
 unfolding rtc_bad
 rtc-good source hz r e =
     let still : Bool = eqb source 0 in
-    let h3 = none_more (still || whole_bad 16777215 r.div_int || ltb 3 r.phase) 65535 hz e in
-    let h2 = none_more (still || whole_bad 16777215 r.div_int) 3 r.phase h3.0 in
-    let whole = whole-good 16777215 r.div_int (or_parts still (whole_bad 16777215 r.div_int) h2.0).1 in
+    let h3 = none_more (still || whole_bad u24 r.div_int || ltb 3 r.phase) 65535 hz e in
+    let h2 = none_more (still || whole_bad u24 r.div_int) 3 r.phase h3.0 in
+    let whole = whole-good u24 r.div_int (or_parts still (whole_bad u24 r.div_int) h2.0).1 in
     (whole.0, whole.1, h2.1, h3.1)

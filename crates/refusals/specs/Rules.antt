@@ -2,7 +2,7 @@
 use Rattle.std.specs.Prelude.{Option, Some, None, Bool, false, ◌||◌, not, ℕ, ◌+◌, ltb, leb, eqb}
 use Rattle.config.specs.declared.{RoscConfig.RoscConfig, DriveStrength.DriveStrength, PeriClkSrc.PeriClkSrc}
 use Rattle.config.specs.declared.{AuxClkConfig.AuxClkConfig, RtcClkConfig.RtcClkConfig}
-use Rattle.base.specs.Choice.{in_range}
+use Rattle.base.specs.{Choice.in_range, Widths.u16, Widths.u24, Widths.u32}
 use Rattle.pll.specs.{Setting.valid_of, declared.PllConfig.PllConfig}
 use Rattle.settings.specs.declared.Crystal.{Crystal}
 
@@ -18,12 +18,12 @@ strengths_over None = false
 
 -- Refusal 2: divider plus pass value is over 16 bits; this is a divider over 62815 on the RP2040, over 22015 on the RP235x.
 unfoldable pub ring_divider_over : ℕ → Option RoscConfig → Bool
-ring_divider_over pass (Some r) = ltb 65535 (r.div + pass)
+ring_divider_over pass (Some r) = ltb u16 (r.div + pass)
 ring_divider_over pass None = false
 
 -- Refusal 3: the settling cycles are over 32 bits. Without a settling step the voltage stays or the cycles are 0.
 unfoldable pub settling_over : Option ℕ → Bool
-settling_over (Some n) = ltb 4294967295 n
+settling_over (Some n) = ltb u32 n
 settling_over None = false
 
 -- Refusal 4: the startup delay is over 16383. A startup sum over 32 bits gives such a delay too.
@@ -54,8 +54,7 @@ divider_bad div = not (in_range 1 4 div)
 unfoldable pub reference_bad : ℕ → Bool
 reference_bad hz = eqb hz 0 || leb 512000000 hz
 
--- Refusal 9: the whole part is 0 or over the chip's greatest, 16777215 on the RP2040 and 65535, which is all of a u16, on the
--- RP235x.
+-- Refusal 9: the whole part is 0 or over the chip's greatest, 16777215 (24 bits) on the RP2040 and 65535 (16) on the RP235x.
 unfoldable pub whole_bad : ℕ → ℕ → Bool
 whole_bad top whole = not (in_range 1 top whole)
 
@@ -69,8 +68,8 @@ unfoldable pub aux_bad : ℕ → Option AuxClkConfig → Bool
 aux_bad source (Some a) = eqb source 0 || divider_bad a.div || ltb 3 a.phase
 aux_bad source None = false
 
--- Refusal 14: the source has 0 Hz, the whole part is not 1 to 16777215, the phase is over 3, or the RTC has over 65535 Hz.
+-- Refusal 14: the source has 0 Hz, the whole part is not 1 to 16777215 (24 bits), the phase is over 3, or the RTC has over 65535 Hz.
 unfoldable pub rtc_bad : ℕ → ℕ → Option RtcClkConfig → Bool
 rtc_bad source hz (Some r) =
-    eqb source 0 || whole_bad 16777215 r.div_int || ltb 3 r.phase || ltb 65535 hz
+    eqb source 0 || whole_bad u24 r.div_int || ltb 3 r.phase || ltb 65535 hz
 rtc_bad source hz None = false

@@ -97,6 +97,6 @@ pub fn rtc_bad(source: u32, hz: u64, rtc: Option<RtcClkConfig>) -> bool
     ensures { result ≡ rtc_bad source hz rtc }
 {
     rtc.is_some_and(|on| {
-        (source == 0) | whole_bad(16777215, on.div_int) | (3 < on.phase) | (65535 < hz)
+        (source == 0) | whole_bad(base::U24_MAX, on.div_int) | (3 < on.phase) | (65535 < hz)
     })
 }

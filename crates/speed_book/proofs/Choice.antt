@@ -4,7 +4,7 @@ use Rattle.std.specs.Prelude.{◌≡◌, ℕ, ◌+◌, ◌-◌, ◌≤◌, ◌<�
 use native.Mathlib.{Omega.arith, Decide.dec_le}
 use Rattle.base.specs.Answer.{value}
 use Rattle.pll.specs.{Search.apart, Search.search_of, Walk.key}
-use Rattle.speed_book.specs.Book.{crystal, hertz}
+use Rattle.speed_book.specs.Book.{entries, crystal, hertz}
 use Rattle.speed_book.proofs.{Places.FirstFrom, Entries.entry_of, Entries.entry-order, Entries.nearest-entry}
 
 low-least : (x y t : ℕ) → y ≤ x → x ≤ t → apart x t ≤ apart y t
@@ -39,7 +39,7 @@ abbrev q : ℕ → ℕ
 q k = key (entry_of k)
 
 -- the entry before a has an output below the target, and j is the first of that output
-pub below-within : (a j : ℕ) → 0 < a → a ≤ 1988 → FirstFrom (h (a - 1)) j → j < a
+pub below-within : (a j : ℕ) → 0 < a → a ≤ entries → FirstFrom (h (a - 1)) j → j < a
 below-within a j p w f = go (dec_le j (a - 1))
   where
     go : Dec (j ≤ a - 1) → j < a
@@ -48,7 +48,7 @@ below-within a j p w f = go (dec_le j (a - 1))
 
 module _ (t a : ℕ) (fa : FirstFrom t a) where
   -- the entries from a on
-  high : (k : ℕ) → a ≤ k → k < 1988 → (t ≤ h a) × (h a ≤ h k) × (h k ≡ h a → q k ≤ q a)
+  high : (k : ℕ) → a ≤ k → k < entries → (t ≤ h a) × (h a ≤ h k) × (h k ≡ h a → q k ≤ q a)
   high k l b = let o = entry-order a k l b in (fa.from a (omega arith) (omega arith), o.0, o.1)
 
   -- no entry is below the target
@@ -67,7 +67,7 @@ module _ (t a : ℕ) (fa : FirstFrom t a) where
     same-hertz : h j ≡ h (a - 1)
     same-hertz =
         let w : j < a = j-within in
-        let b : a - 1 < 1988 = omega (arith, fa.within) in
+        let b : a - 1 < entries = omega (arith, fa.within) in
         omega (arith, fj.from j (omega arith) (omega arith), (entry-order j (a - 1) (omega arith) b).0)
 
     pub j-below : h j < t
@@ -79,35 +79,35 @@ module _ (t a : ℕ) (fa : FirstFrom t a) where
       where
         go : Dec (j ≤ k) → (h k ≤ h j) × (h k ≡ h j → q k ≤ q j)
         go (yes m) =
-            let b : a - 1 < 1988 = omega (arith, fa.within) in
+            let b : a - 1 < entries = omega (arith, fa.within) in
             let k' : k ≤ a - 1 = omega arith in
             (omega (arith, (entry-order k (a - 1) k' b).0, same-hertz), (entry-order j k m (omega (arith, fa.within))).1)
         go (no m) = let n : h k < h j = omega (arith, fj.below k (omega arith), same-hertz) in
             (omega arith, λ e. omega arith)
 
-    take-low : ((k : ℕ) → a ≤ k → k < 1988 → apart (h j) t ≤ apart (h k) t) → ((k : ℕ) → a ≤ k → k < 1988
+    take-low : ((k : ℕ) → a ≤ k → k < entries → apart (h j) t ≤ apart (h k) t) → ((k : ℕ) → a ≤ k → k < entries
         → apart (h k) t ≡ apart (h j) t → q k ≤ q j) → search_of crystal t ≡ value (entry_of j)
     take-low least first = nearest-entry t j (omega (arith, j-within, fa.within)) (λ k b. far k b (dec_le a k))
         (λ k b d. late k b d (dec_le a k))
       where
-        far : (k : ℕ) → k < 1988 → Dec (a ≤ k) → apart (h j) t ≤ apart (h k) t
+        far : (k : ℕ) → k < entries → Dec (a ≤ k) → apart (h j) t ≤ apart (h k) t
         far k b (yes l) = least k l b
         far k b (no l) = low-least (h j) (h k) t (low k (omega arith)).0 (omega (arith, j-below))
 
-        late : (k : ℕ) → k < 1988 → apart (h k) t ≡ apart (h j) t → Dec (a ≤ k) → q k ≤ q j
+        late : (k : ℕ) → k < entries → apart (h k) t ≡ apart (h j) t → Dec (a ≤ k) → q k ≤ q j
         late k b d (yes l) = first k l b d
         late k b d (no l) = let w = low k (omega arith) in w.1
             (low_first (h j) (h k) t w.0 (omega (arith, j-below)) d)
 
-    take-high : a < 1988 → ((k : ℕ) → k < a → apart (h a) t ≤ apart (h k) t) → ((k : ℕ) → k < a
+    take-high : a < entries → ((k : ℕ) → k < a → apart (h a) t ≤ apart (h k) t) → ((k : ℕ) → k < a
         → apart (h k) t ≡ apart (h a) t → q k ≤ q a) → search_of crystal t ≡ value (entry_of a)
     take-high i least first = nearest-entry t a i (λ k b. far k b (dec_le a k)) (λ k b d. late k b d (dec_le a k))
       where
-        far : (k : ℕ) → k < 1988 → Dec (a ≤ k) → apart (h a) t ≤ apart (h k) t
+        far : (k : ℕ) → k < entries → Dec (a ≤ k) → apart (h a) t ≤ apart (h k) t
         far k b (yes l) = let w = high k l b in high-least (h a) (h k) t w.0 w.1
         far k b (no l) = least k (omega arith)
 
-        late : (k : ℕ) → k < 1988 → apart (h k) t ≡ apart (h a) t → Dec (a ≤ k) → q k ≤ q a
+        late : (k : ℕ) → k < entries → apart (h k) t ≡ apart (h a) t → Dec (a ≤ k) → q k ≤ q a
         late k b d (yes l) = let w = high k l b in w.2 (high-first (h a) (h k) t w.0 w.1 d)
         late k b d (no l) = first k (omega arith) d
 
@@ -116,7 +116,7 @@ module _ (t a : ℕ) (fa : FirstFrom t a) where
     at-end e = take-low (λ k l b. absurd (omega arith)) (λ k l b. absurd (omega arith))
 
     -- the entry below is nearer
-    pub lower-nearer : a < 1988 → t + t < h j + h a → search_of crystal t ≡ value (entry_of j)
+    pub lower-nearer : a < entries → t + t < h j + h a → search_of crystal t ≡ value (entry_of j)
     lower-nearer i n =
         take-low
         (λ k l b. let w = high k l b in low-across (h j) (h k) t (omega (arith, j-below))
@@ -124,7 +124,7 @@ module _ (t a : ℕ) (fa : FirstFrom t a) where
         (λ k l b d. let w = high k l b in absurd (low-across-not (h j) (h k) t (omega (arith, j-below))
         (omega (arith, w.0, w.1)) (omega (arith, w.1)) d))
 
-    pub upper-nearer : a < 1988 → h j + h a < t + t → search_of crystal t ≡ value (entry_of a)
+    pub upper-nearer : a < entries → h j + h a < t + t → search_of crystal t ≡ value (entry_of a)
     upper-nearer i n =
         let z : t ≤ h a = fa.from a (omega arith) i in
         let y : h j ≤ t = omega (arith, j-below) in
@@ -134,7 +134,7 @@ module _ (t a : ℕ) (fa : FirstFrom t a) where
         (omega (arith, n, w.0)) d))
 
     -- both are equally near, and the entry below is the first in the order of the search
-    pub lower-first : a < 1988 → t + t ≡ h j + h a → q a < q j → search_of crystal t ≡ value (entry_of j)
+    pub lower-first : a < entries → t + t ≡ h j + h a → q a < q j → search_of crystal t ≡ value (entry_of j)
     lower-first i n f =
         let y : h j ≤ t = omega (arith, j-below) in
         take-low
@@ -144,7 +144,7 @@ module _ (t a : ℕ) (fa : FirstFrom t a) where
         tie : (x z u t : ℕ) → x ≤ t → t ≤ z → z ≤ u → t + t ≡ x + z → apart u t ≡ apart x t → u ≡ z
         tie x z u t p r s n d = omega arith
 
-    pub upper_first : a < 1988 → t + t ≡ h j + h a → q j ≤ q a → search_of crystal t ≡ value (entry_of a)
+    pub upper_first : a < entries → t + t ≡ h j + h a → q j ≤ q a → search_of crystal t ≡ value (entry_of a)
     upper_first i n f =
         let z : t ≤ h a = fa.from a (omega arith) i in
         let y : h j ≤ t = omega (arith, j-below) in

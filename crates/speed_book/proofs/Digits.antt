@@ -3,7 +3,7 @@ use Rattle.std.specs.Prelude.{◌≡◌, ℕ, ◌/◌, ◌%◌, ◌<◌, get_or}
 use native.Mathlib.Omega.{arith}
 use lib.ListN.{get_or-map}
 use Rattle.pll.specs.Search.{setting}
-use Rattle.speed_book.specs.Book.{hertz, table_number, book, table, output_in, setting_in}
+use Rattle.speed_book.specs.Book.{entries, hertz, table_number, book, table, output_in, setting_in}
 use Rattle.speed_book.proofs.Entries.{entry_of, entry-permitted}
 
 -- the entry at an index of the table
@@ -11,11 +11,11 @@ pub table_at : (k : ℕ) → get_or table k 0 ≡ table_number (entry_of k)
 unfolding table table_number hertz
 table_at k = get_or-map table_number book k (setting 0 0 0)
 
-pub output-digits : (k : ℕ) → k < 1988 → (n : ℕ) → n ≡ table_number (entry_of k) → output_in n ≡ hertz (entry_of k)
+pub output-digits : (k : ℕ) → k < entries → (n : ℕ) → n ≡ table_number (entry_of k) → output_in n ≡ hertz (entry_of k)
 unfolding table_number
 output-digits k h n e = let p = entry-permitted k h in omega (arith, p.fb-high, p.p1-high, p.p2-high)
 
-pub setting-digits : (k : ℕ) → k < 1988 → (n : ℕ) → n ≡ table_number (entry_of k) → setting_in n ≡ entry_of k
+pub setting-digits : (k : ℕ) → k < entries → (n : ℕ) → n ≡ table_number (entry_of k) → setting_in n ≡ entry_of k
 unfolding table_number
 setting-digits k h n e =
     let p = entry-permitted k h in

@@ -7,7 +7,7 @@ use Rattle.base.specs.{Choice.pick, Answer.value}
 use Rattle.pll.specs.{Search.setting, Search.candidates, Search.apart, Search.distance, Search.search_of, Law.Candidate, Walk.key}
 use Rattle.pll.specs.declared.PllConfig.{PllConfig}
 use Rattle.pll.proofs.{Candidates.vco-is, Candidates.lists-candidates, Near.near-search}
-use Rattle.speed_book.specs.Book.{crystal, hertz, insert, by_output, book}
+use Rattle.speed_book.specs.Book.{entries, crystal, hertz, insert, by_output, book}
 use Rattle.speed_book.proofs.Rising.{Ahead, Permitted, sound-length, sound-permitted, sound-ahead}
 use Rattle.speed_book.proofs.{Members.In, Members.in-lists, Members.place_in, Checked.checked}
 
@@ -34,17 +34,17 @@ in-sorted c [] h = h
 in-sorted c (x ∷ xs) (inl e) = in_insert c x (by_output xs) (inl e)
 in-sorted c (x ∷ xs) (inr h) = in_insert c x (by_output xs) (inr (in-sorted c xs h))
 
-pub book-length : length book ≡ 1988
-book-length = sound-length 1988 book checked
+pub book-length : length book ≡ entries
+book-length = sound-length entries book checked
 
-pub entry-permitted : (k : ℕ) → k < 1988 → Permitted (entry_of k)
-entry-permitted k h = sound-permitted 1988 book checked k (omega (arith, book-length))
+pub entry-permitted : (k : ℕ) → k < entries → Permitted (entry_of k)
+entry-permitted k h = sound-permitted entries book checked k (omega (arith, book-length))
 
-pub entry-ahead : (a b : ℕ) → a < b → b < 1988 → Ahead (entry_of a) (entry_of b)
-entry-ahead a b l h = sound-ahead 1988 book checked a b l (omega (arith, book-length))
+pub entry-ahead : (a b : ℕ) → a < b → b < entries → Ahead (entry_of a) (entry_of b)
+entry-ahead a b l h = sound-ahead entries book checked a b l (omega (arith, book-length))
 
 -- each entry is a setting that the search chooses from
-pub entry-candidate : (k : ℕ) → k < 1988 → Candidate crystal (entry_of k)
+pub entry-candidate : (k : ℕ) → k < entries → Candidate crystal (entry_of k)
 entry-candidate k h =
     let p = entry-permitted k h in
     let v = vco-is crystal (entry_of k) p.one in
@@ -60,7 +60,7 @@ entry-candidate k h =
     }
 
 -- no candidate is missing
-pub entry-complete : (c : PllConfig) → Candidate crystal c → (k : ℕ) × (k < 1988) × (entry_of k ≡ c)
+pub entry-complete : (c : PllConfig) → Candidate crystal c → (k : ℕ) × (k < entries) × (entry_of k ≡ c)
 unfolding book
 entry-complete c m =
     let i = in-lists c (candidates crystal) (Candidate crystal) (lists-candidates crystal) m in
@@ -73,7 +73,7 @@ Ordered a b =
     (hertz (entry_of a) ≤ hertz (entry_of b))
     × (hertz (entry_of b) ≡ hertz (entry_of a) → key (entry_of b) ≤ key (entry_of a))
 
-pub entry-order : (a b : ℕ) → a ≤ b → b < 1988 → Ordered a b
+pub entry-order : (a b : ℕ) → a ≤ b → b < entries → Ordered a b
 entry-order a b l h = ⊎_elim same later (eq-or-lt_of_le l)
   where
     same : a ≡ b → Ordered a b
@@ -90,9 +90,9 @@ entry-order a b l h = ⊎_elim same later (eq-or-lt_of_le l)
         )
 
 -- the nearest entry, and of equally near ones the first, is the answer of the search
-pub nearest-entry : (t m : ℕ) → m < 1988
-    → ((k : ℕ) → k < 1988 → apart (hertz (entry_of m)) t ≤ apart (hertz (entry_of k)) t)
-    → ((k : ℕ) → k < 1988 → apart (hertz (entry_of k)) t ≡ apart (hertz (entry_of m)) t
+pub nearest-entry : (t m : ℕ) → m < entries
+    → ((k : ℕ) → k < entries → apart (hertz (entry_of m)) t ≤ apart (hertz (entry_of k)) t)
+    → ((k : ℕ) → k < entries → apart (hertz (entry_of k)) t ≡ apart (hertz (entry_of m)) t
     → key (entry_of k) ≤ key (entry_of m))
     → search_of crystal t ≡ value (entry_of m)
 unfolding hertz

@@ -6,27 +6,27 @@ use borrow.Author.Tests.{lt-ltb, le-ltb, eq-eqb, ne_eqb}
 use Rattle.base.specs.Answer.{value}
 use Rattle.base.proofs.Bools.{either_way}
 use Rattle.pll.specs.{Search.search_of, Walk.key, declared.PllConfig.PllConfig}
-use Rattle.speed_book.specs.Book.{crystal, hertz, table_number, table, output_in, setting_in}
+use Rattle.speed_book.specs.Book.{entries, crystal, hertz, table_number, table, output_in, setting_in}
 use Rattle.speed_book.specs.Lookup.{far, entry_at, dividers_in, lower_is, nearer_entry, above_in, below_in, lookup_in}
 use Rattle.speed_book.proofs.Digits.{table_at, output-digits, setting-digits}
 use Rattle.speed_book.proofs.Choice.{below-within, at-start, at-end, lower-nearer, upper-nearer, lower-first, upper_first}
 use Rattle.speed_book.proofs.{Entries.entry_of, Entries.entry-permitted, Places.FirstFrom, Places.first-place}
 
 -- the entry at an index
-entry-is : (k : ℕ) → k < 1988 → entry_at table k ≡ table_number (entry_of k)
-entry-is k h = rw (lt-ltb k 1988 h) (table_at k)
+entry-is : (k : ℕ) → k < entries → entry_at table k ≡ table_number (entry_of k)
+entry-is k h = rw (lt-ltb k entries h) (table_at k)
 
-output-is : (k : ℕ) → k < 1988 → output_in (entry_at table k) ≡ hertz (entry_of k)
+output-is : (k : ℕ) → k < entries → output_in (entry_at table k) ≡ hertz (entry_of k)
 output-is k h = output-digits k h (entry_at table k) (entry-is k h)
 
-setting-is : (k : ℕ) → k < 1988 → setting_in (entry_at table k) ≡ entry_of k
+setting-is : (k : ℕ) → k < entries → setting_in (entry_at table k) ≡ entry_of k
 setting-is k h = setting-digits k h (entry_at table k) (entry-is k h)
 
 -- the digits of the dividers fall in the order of the search
 abbrev digits : ℕ → ℕ
 digits k = dividers_in (entry_at table k)
 
-digits_are : (k : ℕ) → k < 1988
+digits_are : (k : ℕ) → k < entries
     → digits k ≡ (entry_of k).fbdiv * 100 + (entry_of k).post_div1 * 10 + (entry_of k).post_div2
 unfolding table_number
 digits_are k h =
@@ -46,7 +46,7 @@ order f p q g r s hp hq hr hs l = by-feedback (dec_le g f)
     by-feedback (yes h) = by-post1 (omega arith) (dec_le r p)
     by-feedback (no h) = omega arith
 
-module _ (a b : ℕ) (ha : a < 1988) (hb : b < 1988) where
+module _ (a b : ℕ) (ha : a < entries) (hb : b < entries) where
   abbrev c : PllConfig
   c = entry_of a
 
@@ -94,7 +94,7 @@ module _ (t : ℕ) (fits : t < 4294967296) where
   abbrev Right : ℕ → Type 0
   Right n = value (setting_in n) ≡ search_of crystal t
 
-  right : (k n : ℕ) → k < 1988 → n ≡ entry_at table k → search_of crystal t ≡ value (entry_of k) → Right n
+  right : (k n : ℕ) → k < entries → n ≡ entry_at table k → search_of crystal t ≡ value (entry_of k) → Right n
   right k n h e s = ap (λ (m : ℕ). value (setting_in m)) e ∙ ap value (setting-is k h) ∙ sym s
 
   module _ (a j : ℕ) (above : FirstFrom t a) (below : FirstFrom (hertz (entry_of (a - 1))) j) where
@@ -118,11 +118,11 @@ module _ (t : ℕ) (fits : t < 4294967296) where
     end : 1987 < a → j < a → Taken
     end e l =
         let p : 0 < a = omega arith in
-        let past : entry_at table a ≡ far = rw (le-ltb a 1988 (omega arith)) in
+        let past : entry_at table a ≡ far = rw (le-ltb a entries (omega arith)) in
         right j _ (omega (arith, above.within)) (lower-near t (entry_at table j) (entry_at table a) (omega arith))
         (at-end t a above j p below e)
 
-    between : 0 < a → a < 1988 → j < a → Taken
+    between : 0 < a → a < entries → j < a → Taken
     between p h l = go (dec_le (sum t lo hi) (2 * t)) (dec_le (2 * t) (sum t lo hi)) (dec_le (digits j) (digits a))
       where
         lo : ℕ
@@ -131,7 +131,7 @@ module _ (t : ℕ) (fits : t < 4294967296) where
         hi : ℕ
         hi = entry_at table a
 
-        i : j < 1988
+        i : j < entries
         i = omega arith
 
         at_j : output_in lo ≡ hertz (entry_of j)
@@ -157,9 +157,9 @@ module _ (t : ℕ) (fits : t < 4294967296) where
             (omega (arith, digits-order a j h i 1 (omega arith) (omega arith))))
 
     taken : Taken
-    taken = go (dec_le a 0) (dec_le 1988 a)
+    taken = go (dec_le a 0) (dec_le entries a)
       where
-        go : Dec (a ≤ 0) → Dec (1988 ≤ a) → Taken
+        go : Dec (a ≤ 0) → Dec (entries ≤ a) → Taken
         go (yes l) m = start (omega arith)
         go (no l) (yes m) =
             end (omega arith) (below-within a j (omega arith) above.within below)

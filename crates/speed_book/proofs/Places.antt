@@ -1,15 +1,15 @@
 -- The halving ends in the book at the first index whose output is not below a frequency.
 use Rattle.std.specs.Prelude.{◌≡◌, ℕ, zero, suc, ◌+◌, ◌-◌, ◌*◌, ◌≤◌, ◌<◌, get_or, refl}
 use native.Mathlib.{Omega.arith, Decide.dec_le}
-use Rattle.speed_book.specs.{Book.hertz, Book.table, Lookup.middle, Lookup.halved, Lookup.first_from}
+use Rattle.speed_book.specs.{Book.entries, Book.hertz, Book.table, Lookup.middle, Lookup.halved, Lookup.first_from}
 use Rattle.speed_book.proofs.Halving.{halved_none, halved-empty, halved-up, halved-down}
 use Rattle.speed_book.proofs.{Entries.entry_of, Entries.entry-order, Digits.table_at, Digits.output-digits}
 
 -- r is the first index of the book whose output is not below hz, or is past its end
 pub record FirstFrom (hz r : ℕ) : Type 0 where
-  pub within : r ≤ 1988
+  pub within : r ≤ entries
   pub below : (k : ℕ) → k < r → hertz (entry_of k) < hz
-  pub from : (k : ℕ) → r ≤ k → k < 1988 → hz ≤ hertz (entry_of k)
+  pub from : (k : ℕ) → r ≤ k → k < entries → hz ≤ hertz (entry_of k)
 
 -- the number of indices that n halvings cover
 abbrev room : ℕ → ℕ
@@ -24,18 +24,18 @@ module _ (hz : ℕ) where
   abbrev bound : ℕ
   bound = hz * 100000
 
-  number-below : (k : ℕ) → k < 1988 → hertz (entry_of k) < hz → get_or table k 0 < bound
+  number-below : (k : ℕ) → k < entries → hertz (entry_of k) < hz → get_or table k 0 < bound
   number-below k h l = omega (arith, output-digits k h (get_or table k 0) (table_at k))
 
-  number-from : (k : ℕ) → k < 1988 → hz ≤ hertz (entry_of k) → bound ≤ get_or table k 0
+  number-from : (k : ℕ) → k < entries → hz ≤ hertz (entry_of k) → bound ≤ get_or table k 0
   number-from k h l = omega (arith, output-digits k h (get_or table k 0) (table_at k))
 
   -- low and high enclose the index
   pub record Within (low high : ℕ) : Type 0 where
     pub order : low ≤ high
-    pub most : high ≤ 1988
+    pub most : high ≤ entries
     pub below : (k : ℕ) → k < low → hertz (entry_of k) < hz
-    pub from : (k : ℕ) → high ≤ k → k < 1988 → hz ≤ hertz (entry_of k)
+    pub from : (k : ℕ) → high ≤ k → k < entries → hz ≤ hertz (entry_of k)
 
   -- n halvings of at most as many indices as they cover
   abbrev Ends : ℕ → Type 0
@@ -89,7 +89,7 @@ module _ (hz : ℕ) where
 
   pub first-place : FirstFrom hz (first_from table bound)
   first-place =
-      halved-place 11 0 1988 (omega arith)
+      halved-place 11 0 entries (omega arith)
       (record {
         order = omega arith;
         most = omega arith;

@@ -8,7 +8,7 @@ use Rattle.base.specs.Answer.{value}
 use Rattle.pll.specs.{Setting.vco_of, Setting.posts_of, Setting.valid_of, Setting.output_of, Law.Candidate, Law.Before, Walk.key}
 use Rattle.pll.specs.declared.PllConfig.{PllConfig}
 use Rattle.pll.proofs.Sizes.{posts-most, posts-some}
-use Rattle.speed_book.specs.Book.{crystal, hertz, table_number, book, table, output_at, setting_at}
+use Rattle.speed_book.specs.Book.{entries, crystal, hertz, table_number, book, table, output_at, setting_at}
 use Rattle.speed_book.specs.Law.{RightBook}
 use Rattle.speed_book.proofs.Entries.{entry_of, book-length, entry-permitted, entry-candidate, entry-ahead, entry-order, entry-complete}
 use Rattle.speed_book.proofs.Digits.{table_at, output-digits, setting-digits}
@@ -47,11 +47,11 @@ output c m =
       le-leb (vco_of c crystal) 4294967295 (omega (arith, m.vco.high)),
     )
 
-ordered : (a b : ℕ) → a < b → b < 1988
+ordered : (a b : ℕ) → a < b → b < entries
     → (hertz (entry_of a) < hertz (entry_of b))
     ⊎ ((hertz (entry_of a) ≡ hertz (entry_of b)) × Before (entry_of a) (entry_of b))
 ordered a b l h =
-    let i : a < 1988 = omega arith in
+    let i : a < entries = omega arith in
     let m : a ≤ b = omega arith in
     let w = entry-ahead a b l h in
     ⊎_elim
@@ -60,18 +60,18 @@ ordered a b l h =
     (eq-or-lt_of_le (entry-order a b m h).0)
 
 -- the digits of the table at an index are those of the book's entry
-setting-is : (k : ℕ) → k < 1988 → setting_at table k ≡ entry_of k
+setting-is : (k : ℕ) → k < entries → setting_at table k ≡ entry_of k
 setting-is k h = setting-digits k h (get_or table k 0) (table_at k)
 
-output-is : (k : ℕ) → k < 1988 → output_at table k ≡ hertz (entry_of k)
+output-is : (k : ℕ) → k < entries → output_at table k ≡ hertz (entry_of k)
 output-is k h = output-digits k h (get_or table k 0) (table_at k)
 
-table-length : length table ≡ 1988
+table-length : length table ≡ entries
 unfolding table
 table-length = length-map book table_number ∙ book-length
 
 -- a property of the entry and its output holds of the digits of the table
-at_place : (P : PllConfig → ℕ → Type 0) (k : ℕ) → k < 1988 → P (entry_of k) (hertz (entry_of k))
+at_place : (P : PllConfig → ℕ → Type 0) (k : ℕ) → k < entries → P (entry_of k) (hertz (entry_of k))
     → P (setting_at table k) (output_at table k)
 at_place P k h p =
     subst (λ (c : PllConfig). P c (output_at table k)) (sym (setting-is k h))

@@ -48,6 +48,10 @@ output_at l k = output_in (get_or l k 0)
 abbrev pub setting_at : List ℕ → ℕ → PllConfig
 setting_at l k = setting_in (get_or l k 0)
 
--- the line at an index; none from 1988 on
+-- the settings at 12 MHz
+abbrev pub entries : ℕ
+entries = 1988
+
+-- the line at an index; none past the last
 unfoldable pub line_in : List ℕ → ℕ → Option Line
-line_in l k = pick (ltb k 1988) (Some (record { hz = output_at l k; setting = setting_at l k })) None
+line_in l k = pick (ltb k entries) (Some (record { hz = output_at l k; setting = setting_at l k })) None

@@ -3,7 +3,7 @@
 use Rattle.std.specs.Prelude.{List, Bool, ◌&&◌, ◌||◌, ℕ, zero, suc, ◌+◌, ◌-◌, ◌*◌, ◌/◌, ◌%◌, ltb, eqb, get_or}
 use Rattle.base.specs.{Answer.Answer, Answer.value, Choice.pick}
 use Rattle.pll.specs.declared.PllConfig.{PllConfig}
-use Rattle.speed_book.specs.Book.{output_in, setting_in}
+use Rattle.speed_book.specs.Book.{entries, output_in, setting_in}
 
 abbrev pub middle : ℕ → ℕ → ℕ
 middle low high = (low + high) / 2
@@ -19,14 +19,14 @@ halved l bound (suc n) low high =
 
 -- the first index whose entry is not less than the bound, in a sorted table
 abbrev pub first_from : List ℕ → ℕ → ℕ
-first_from l bound = halved l bound 11 0 1988
+first_from l bound = halved l bound 11 0 entries
 
 -- the entry at an index; past the end it is one whose output is more than twice any target, and so never the nearer
 abbrev pub far : ℕ
 far = 858993459200000
 
 abbrev pub entry_at : List ℕ → ℕ → ℕ
-entry_at l k = pick (ltb k 1988) (get_or l k 0) far
+entry_at l k = pick (ltb k entries) (get_or l k 0) far
 
 -- the digits of the dividers: the greater come first in the order of the search
 abbrev pub dividers_in : ℕ → ℕ

@@ -58,7 +58,7 @@ fn setting_in(entry: u64) -> PllConfig
     }
 }
 
-// The line at an index of an open book, from 0; none from 1988 on.
+// The line at an index of an open book, from 0; none past the last.
 #[tactic(auto, unfolding(crate::specs::Book::line_in))]
 pub fn entry_in(book: &Book, k: usize) -> Option<Line>
     ensures { result ≡ line_in book.now k }
@@ -70,7 +70,7 @@ pub fn entry_in(book: &Book, k: usize) -> Option<Line>
     })
 }
 
-// The line at an index of the book, from 0; none from 1988 on.
+// The line at an index of the book, from 0; none past the last.
 pub fn entry(k: usize) -> Option<Line>
     ensures { result ≡ line_in table k }
 {

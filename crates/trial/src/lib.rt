@@ -98,9 +98,12 @@ fn write_load(out: &mut Writer<'_, u8>, input: &[u8])
     }
 }
 
+// The most bytes that an output has: 8 for each of at most 10000 targets, and 12 for the runner.
+pub const LONGEST: usize = 80012;
+
 // Writes the output for an input and answers its length. `start` holds the first bytes of the input: all of them, or at
 // least 22, which decide the output.
-pub fn load(start: &[u8], out: &mut [u8; 80012]) -> usize
+pub fn load(start: &[u8], out: &mut [u8; LONGEST]) -> usize
     ensures { Printed load_of 22 start.now out.old result out.new }
 {
     let mut writer = Writer::new(out);
