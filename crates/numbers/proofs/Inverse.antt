@@ -15,17 +15,17 @@ use Rattle.pll.specs.declared.PllConfig.{PllConfig}
 use Rattle.config.specs.{ChipSettings.chip_of, Codes.ref_code}
 use Rattle.config.proofs.OnChip.{on_chip}
 use Rattle.settings.proofs.Decoded.{ref-code, sys-code, volts-small}
+use Rattle.numbers.specs.Row.{ring_on, pll_on, time_on, peri_on, aux_on, rtc_on}
 use Rattle.numbers.specs.Row.{part_row, crystal_on, sys_pll_in, usb_pll_in, oscillator_row, first_row, sys_row, clock_row}
 use Rattle.numbers.specs.Row.{rtc_numbers, plan_row}
-use Rattle.numbers.proofs.PartRows.{ring_row, pll_row, time_row, peri_row, aux_row, rtc_row}
 use Rattle.numbers.specs.Plan.{whole_oscillators, whole_clocks, whole_chip, whole_plan, strengths_at, ring_at, option_pll_at, crystal_at}
 use Rattle.numbers.specs.Plan.{divided_at, rtc_at, chip_at, plan_at, flagged, part2040, part235x}
 use Rattle.numbers.specs.Plan.{plan_numbered}
 use Rattle.numbers.specs.{Fields.nth, Fields.byte_at, Parts.fit_from, Parts.is_part, Answers.of_value}
 use Rattle.numbers.specs.{Typed.PllTyped, Typed.CrystalTyped, Typed.ChipTyped, Typed.PlanTyped}
 use Rattle.numbers.proofs.PartRows.{row_from, row-whole, cut, both, fits, gone, codes, code_read, ring_limits}
-use Rattle.numbers.proofs.PartRows.{ring-back, ring-row, pll_limits, pll-back, pll-row, time_limits, time-back, time-row, peri_limits}
-use Rattle.numbers.proofs.PartRows.{peri-back, peri-row, aux_limits, aux-back, aux-row, rtc_limits, rtc-back, rtc-row, there-fits}
+use Rattle.numbers.proofs.PartRows.{there-fits, ring_part, pll_limits, pll_part, time_limits, time_part, peri_limits, peri_part}
+use Rattle.numbers.proofs.PartRows.{aux_limits, aux_part, rtc_limits, rtc_part}
 use Rattle.config.specs.declared.ChipConfig.TheVariants.{Rp2040 as on2040, Rp235x as on235x}
 
 -- the rows of a plan's parts, one after another
@@ -48,6 +48,14 @@ all_true (b ∷ []) e = (e, tt)
 all_true (b ∷ c ∷ bs) e = let h = and_parts b (conj (c ∷ bs)) e in (h.0, all_true (c ∷ bs) h.1)
 
 -- ---- the crystal with its PLLs
+
+abbrev pll_row : Option PllConfig → List ℕ
+pll_row = part_row 4 pll_on
+
+-- its flag is 1 or 0
+pll-flag : (o : Option PllConfig) → nth (pll_row o) 0 ≤ 1
+pll-flag (Some p) = omega arith
+pll-flag None = omega arith
 
 abbrev crystal_row : Option XoscConfig → List ℕ
 crystal_row = part_row 2 crystal_on
@@ -73,14 +81,12 @@ record Crystal (x : Option XoscConfig) : Type 0 where
 crystal-back : (x : Option XoscConfig) → CrystalTyped x → Crystal x
 unfolding is_part
 crystal-back (Some x) t =
-    let s = pll-back x.sys_pll t.2 in
-    let u = pll-back x.usb_pll t.3 in
     record {
       long = refl;
       fit = there-fits (crystal_row (Some x)) crystal_limits refl (omega (arith, t.0, t.1));
-      sys = s.3;
-      usb = u.3;
-      read = rw (s.2, u.2);
+      sys = pll-flag x.sys_pll;
+      usb = pll-flag x.usb_pll;
+      read = rw (pll_part.back x.sys_pll t.2, pll_part.back x.usb_pll t.3);
     }
 crystal-back None t = record { long = refl; fit = refl; sys = omega arith; usb = omega arith; read = refl }
 
@@ -94,7 +100,7 @@ crystal-row m s u em es eu ls lu =
     either_way (eqb (nth m 0) 1)
     (λ f.
     let one = eqb-true (nth m 0) 1 f in
-    rw f ((λ i. sym one i ∷ nth m 1 ∷ nth m 2 ∷ []), pll-row s es, pll-row u eu))
+    rw f ((λ i. sym one i ∷ nth m 1 ∷ nth m 2 ∷ []), pll_part.row s es, pll_part.row u eu))
     (λ f.
     let w = fits false m 0 crystal_limits (rw f at em) in
     rw f (gone m crystal_limits em w.0, gone s pll_limits es (omega (arith, w.0)), gone u pll_limits eu (omega (arith, w.0))))
@@ -103,59 +109,60 @@ crystal-row m s u em es eu ls lu =
 
 module _ (c : ChipConfig) (p : ClockConfig) (t : PlanTyped p) (z : List ℕ) where
   abbrev settling : List ℕ
-  settling = time_row p.voltage_stabilization_delay_us
+  settling = part_row 1 time_on p.voltage_stabilization_delay_us
 
   -- its row, number by number
   abbrev row : List ℕ
   row =
-      joined (row_from 12 0 (ring_row p.rosc)) (row_from 3 0 (crystal_row p.xosc)) (row_from 5 0 (pll_row (sys_pll_in p.xosc)))
+      joined (row_from 12 0 (part_row 11 ring_on p.rosc)) (row_from 3 0 (crystal_row p.xosc)) (row_from 5 0 (pll_row (sys_pll_in p.xosc)))
       (row_from 5 0 (pll_row (usb_pll_in p.xosc)))
       ((chip_of c).volts.code ∷ (row_from 2 0 settling ++ (ref_code p.ref_clk.src ∷ p.ref_clk.div ∷ [])))
       (sys_row p.sys_clk_src (chip_of c).whole (chip_of c).fraction)
-      (row_from 2 0 (peri_row p.peri_clk_src)) (row_from 4 0 (aux_row p.usb_clk)) (row_from 4 0 (aux_row p.adc_clk)) z
+      (row_from 2 0 (part_row 1 peri_on p.peri_clk_src)) (row_from 4 0 (part_row 3 aux_on p.usb_clk))
+      (row_from 4 0 (part_row 3 aux_on p.adc_clk)) z
 
   row_is : z ≡ rtc_numbers c → row ≡ plan_row (on_chip c p)
   unfolding plan_row oscillator_row clock_row
   row_is e =
       let plls = plls-typed p.xosc t.xosc in
-      let time = (time-back p.voltage_stabilization_delay_us t.settling).0 in
+      let time = time_part.whole p.voltage_stabilization_delay_us in
       let first = ap (λ (l : List ℕ). (chip_of c).volts.code ∷ (l ++ (ref_code p.ref_clk.src ∷ p.ref_clk.div ∷ []))) time in
-      λ i. joined ((ring-back p.rosc t.rosc).0 i) ((crystal-back p.xosc t.xosc).long i)
-      ((pll-back (sys_pll_in p.xosc) plls.0).0 i) ((pll-back (usb_pll_in p.xosc) plls.1).0 i) (first i)
-      (sys_row p.sys_clk_src (chip_of c).whole (chip_of c).fraction) ((peri-back p.peri_clk_src).0 i)
-      ((aux-back p.usb_clk t.usb).0 i) ((aux-back p.adc_clk t.adc).0 i) (e i)
+      λ i. joined (ring_part.whole p.rosc i) ((crystal-back p.xosc t.xosc).long i)
+      (pll_part.whole (sys_pll_in p.xosc) i) (pll_part.whole (usb_pll_in p.xosc) i) (first i)
+      (sys_row p.sys_clk_src (chip_of c).whole (chip_of c).fraction) (peri_part.whole p.peri_clk_src i)
+      (aux_part.whole p.usb_clk i) (aux_part.whole p.adc_clk i) (e i)
 
   oscillators-fit : whole_oscillators row ≡ true
   unfolding whole_oscillators is_part
   oscillators-fit =
       let plls = plls-typed p.xosc t.xosc in
       let x = crystal-back p.xosc t.xosc in
-      both (ring-back p.rosc t.rosc).1 (both x.fit (both (pll-back (sys_pll_in p.xosc) plls.0).1
-      (both (pll-back (usb_pll_in p.xosc) plls.1).1 (both (le-leb _ _ x.sys) (le-leb _ _ x.usb)))))
+      both (ring_part.fit p.rosc t.rosc) (both x.fit (both (pll_part.fit (sys_pll_in p.xosc) plls.0)
+      (both (pll_part.fit (usb_pll_in p.xosc) plls.1) (both (le-leb _ _ x.sys) (le-leb _ _ x.usb)))))
 
   clocks-fit : whole_clocks row ≡ true
   unfolding whole_clocks is_part
   clocks-fit =
       let code : (chip_of c).volts.code ≤ 15 = omega (arith, (volts-small c).0) in
       both (both (le-leb (chip_of c).volts.code 15 code) refl)
-      (both (time-back p.voltage_stabilization_delay_us t.settling).1
+      (both (time_part.fit p.voltage_stabilization_delay_us t.settling)
       (both (both (le-leb _ 2 (ref-code p.ref_clk.src).1) (both (le-leb _ u8 t.reference) refl))
       (both (both (le-leb _ 4 (sys-code p.sys_clk_src).1) refl)
-      (both (peri-back p.peri_clk_src).1
-      (both (aux-back p.usb_clk t.usb).1 (aux-back p.adc_clk t.adc).1)))))
+      (both (peri_part.fit p.peri_clk_src tt)
+      (both (aux_part.fit p.usb_clk t.usb) (aux_part.fit p.adc_clk t.adc))))))
 
   plan-is : plan_at c row ≡ on_chip c p
   unfolding plan_at ring_at strengths_at crystal_at option_pll_at divided_at
   plan-is = λ i. record {
     chip = c;
-    rosc = (ring-back p.rosc t.rosc).2 i;
+    rosc = ring_part.back p.rosc t.rosc i;
     xosc = (crystal-back p.xosc t.xosc).read i;
     ref_clk = record { src = (ref-code p.ref_clk.src).0 i; div = cut t.reference i };
     sys_clk_src = (sys-code p.sys_clk_src).0 i;
-    peri_clk_src = (peri-back p.peri_clk_src).2 i;
-    usb_clk = (aux-back p.usb_clk t.usb).2 i;
-    adc_clk = (aux-back p.adc_clk t.adc).2 i;
-    voltage_stabilization_delay_us = (time-back p.voltage_stabilization_delay_us t.settling).2 i;
+    peri_clk_src = peri_part.back p.peri_clk_src tt i;
+    usb_clk = aux_part.back p.usb_clk t.usb i;
+    adc_clk = aux_part.back p.adc_clk t.adc i;
+    voltage_stabilization_delay_us = time_part.back p.voltage_stabilization_delay_us t.settling i;
   }
 
   read-so : (chip : Chip) → z ≡ rtc_numbers c → whole_chip chip row ≡ true → chip_at chip row ≡ Some c
@@ -174,18 +181,17 @@ plan-back p t = go p.chip t.chip
   where
     go : (c : ChipConfig) → ChipTyped c → plan_numbered (chip_of c).model (plan_row (on_chip c p)) ≡ Some (on_chip c p)
     go (on2040 c) h =
-        let z = rtc_row c.rtc_clk in
-        let r = rtc-back c.rtc_clk h.2 in
+        let z = part_row 4 rtc_on c.rtc_clk in
         let small : code_of Rp2040 c.core_voltage ≤ 255 = omega (arith, code-small Rp2040 c.core_voltage) in
-        read-so (on2040 c) p t (row_from 5 0 z) Rp2040 r.0
-        (both refl (both (both (le-leb _ u32 h.0) (both (le-leb _ u8 h.1) refl)) r.1))
+        read-so (on2040 c) p t (row_from 5 0 z) Rp2040 (rtc_part.whole c.rtc_clk)
+        (both refl (both (both (le-leb _ u32 h.0) (both (le-leb _ u8 h.1) refl)) (rtc_part.fit c.rtc_clk h.2)))
         (ap (of_value (part2040 (row (on2040 c) p t (row_from 5 0 z))))
         (ap (core_voltage_of Rp2040) (cut small) ∙ core-voltage-code Rp2040 c.core_voltage)
         ∙ (λ i. Some (on2040 (record {
           core_voltage = c.core_voltage;
           div_int = c.div_int;
           div_frac = cut h.1 i;
-          rtc_clk = r.2 i;
+          rtc_clk = rtc_part.back c.rtc_clk h.2 i;
         }))))
     go (on235x c) h =
         let small : code_of Rp235x c.core_voltage ≤ 255 = omega (arith, code-small Rp235x c.core_voltage) in
@@ -237,12 +243,12 @@ module _ (n : List ℕ) (osc : whole_oscillators n ≡ true) (clk : whole_clocks
       (leb-true (nth n 15) (nth n 12) o.1.1.1.1.0) (leb-true (nth n 20) (nth n 12) o.1.1.1.1.1.0) in
       let r = fits true n 28 (2 ∷ u8 ∷ []) k.1.1.0 in
       let s = fits true n 30 (4 ∷ []) k.1.1.1.0 in
-      let time = time-row (row_from 2 26 n) k.1.0 in
+      let time = time_part.row (row_from 2 26 n) k.1.0 in
       let first : first_row (chip_of c).volts.code (plan_at c n).voltage_stabilization_delay_us (plan_at c n).ref_clk ≡ row_from 5 25 n =
       λ i. code i ∷ (time i ++ ((codes (nth n 28)).1 r.0 i ∷ cut r.1.0 i ∷ [])) in
-      λ i. joined (ring-row n o.0 i) (x.0 i) (x.1 i) (x.2 i) (first i)
-      (((codes (nth n 30)).2 s.0).0 i ∷ whole i ∷ fraction i ∷ []) (peri-row (row_from 2 33 n) k.1.1.1.1.0 i)
-      (aux-row (row_from 4 35 n) k.1.1.1.1.1.0 i) (aux-row (row_from 4 39 n) k.1.1.1.1.1.1.0 i) (rtc_numbers c)
+      λ i. joined (ring_part.row n o.0 i) (x.0 i) (x.1 i) (x.2 i) (first i)
+      (((codes (nth n 30)).2 s.0).0 i ∷ whole i ∷ fraction i ∷ []) (peri_part.row (row_from 2 33 n) k.1.1.1.1.0 i)
+      (aux_part.row (row_from 4 35 n) k.1.1.1.1.1.0 i) (aux_part.row (row_from 4 39 n) k.1.1.1.1.1.1.0 i) (rtc_numbers c)
 
   code_is : {A : Type 0} (code_of_lem : A → ℕ) (vs : List A) (v : A)
       → with_code code_of_lem (byte_at n 25) vs ≡ value v → code_of_lem v ≡ nth n 25
@@ -261,7 +267,7 @@ module _ (n : List ℕ) (osc : whole_oscillators n ≡ true) (clk : whole_clocks
       let of = valued (part2040 n) (core_voltage_of Rp2040 (byte_at n 25)) c read in
       rw (← of.2) (
         plan-row (part2040 n of.0) (code_is (code_of Rp2040) (voltages Rp2040) of.0 of.1) refl (cut w.1.0)
-            ∙ ap (λ (l : List ℕ). row_from 43 0 n ++ l) (rtc-row (row_from 5 43 n) h.1.1.0)
+            ∙ ap (λ (l : List ℕ). row_from 43 0 n ++ l) (rtc_part.row (row_from 5 43 n) h.1.1.0)
             ∙ row-whole 48 n (eqb-true (length n) 48 h.0),
         refl,
       )

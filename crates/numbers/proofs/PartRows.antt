@@ -10,14 +10,14 @@ use Rattle.base.specs.{Answer.value, Choice.pick, Widths.u8, Widths.u16, Widths.
 use Rattle.base.proofs.Bools.{either_way}
 use Rattle.std.proofs.lemmas.Bool.{and_parts}
 use Rattle.chip.specs.Voltage.{with_code}
-use Rattle.pll.specs.declared.PllConfig.{PllConfig}
-use Rattle.config.specs.declared.{RoscConfig.RoscConfig, PeriClkSrc.PeriClkSrc, AuxClkConfig.AuxClkConfig, RtcClkConfig.RtcClkConfig}
+use Rattle.config.specs.declared.{RtcClkConfig.RtcClkConfig}
 use Rattle.config.specs.Codes.{range_code, ref_code, sys_code, peri_aux, aux_code, range_from, ref_from, sys_source_from, peri_from}
 use Rattle.config.specs.Codes.{aux_from}
 use Rattle.settings.proofs.Decoded.{range-code, peri-code, aux-code}
 use Rattle.numbers.specs.Fields.{nth, byte_at}
 use Rattle.numbers.specs.Row.{part_row, ring_on, pll_on, time_on, peri_on, aux_on, rtc_on}
 use Rattle.numbers.specs.Plan.{flagged, strengths_at, ring_at, option_pll_at, divided_at}
+use Rattle.numbers.proofs.Whole.{part-long}
 use Rattle.numbers.specs.{Parts.fit_from, Parts.is_part, Typed.PllTyped, Typed.RingTyped, Typed.TimeTyped, Typed.AuxTyped, Typed.ClockTyped}
 
 -- ---- numbers in a row
@@ -118,123 +118,94 @@ code_read code_of_lem code (u ∷ vs) v e =
     ap code_of_lem (sym same) ∙ sym (eqb-true code (code_of_lem u) f))
     (λ f. code_read code_of_lem code vs v (rw f at e))
 
--- ---- the parts, each from index 0 on: its numbers fit, read back as the part, and are those of the part that is read
+-- ---- the parts, each from index 0 on
 
-abbrev pub ring_row : Option RoscConfig → List ℕ
-ring_row = part_row 11 ring_on
+-- an optional part with these numbers and limits that is written and read: its numbers are as many as limits and fit them, they read
+-- back as the part, and numbers that fit are those of the part that is read from them
+pub record Reads {A : Type 0} (size : ℕ) (on : A → List ℕ) (limits : List ℕ) (Typed : Option A → Type 0) (read : List ℕ → Option A)
+    : Type 0
+  where
+    pub whole : (o : Option A) → row_from (length limits) 0 (part_row size on o) ≡ part_row size on o
+    pub fit : (o : Option A) → Typed o → is_part (part_row size on o) 0 limits ≡ true
+    pub back : (o : Option A) → Typed o → read (part_row size on o) ≡ o
+    pub row : (n : List ℕ) → is_part n 0 limits ≡ true → part_row size on (read n) ≡ row_from (length limits) 0 n
 
-abbrev pub pll_row : Option PllConfig → List ℕ
-pll_row = part_row 4 pll_on
+-- the laws of a part follow from those of one that is there; the numbers of an absent one compute
+reads : {A : Type 0} {size : ℕ} {on : A → List ℕ} {limits : List ℕ} {Typed : Option A → Type 0} {read : List ℕ → Option A}
+    → length limits ≡ size + 1
+    → ((a : A) → length (on a) ≡ size)
+    → ((a : A) → Typed (Some a) → Within true (1 ∷ on a) 0 limits)
+    → ((a : A) → Typed (Some a) → read (1 ∷ on a) ≡ Some a)
+    → is_part (replicate (size + 1) 0) 0 limits ≡ true
+    → read (replicate (size + 1) 0) ≡ None
+    → ((n : List ℕ) → eqb (nth n 0) 1 ≡ true → nth n 0 ≡ 1 → Within true n 0 limits
+    → part_row size on (read n) ≡ row_from (length limits) 0 n)
+    → ((n : List ℕ) → eqb (nth n 0) 1 ≡ false → read n ≡ None)
+    → Reads size on limits Typed read
+reads {size} {on} {limits} {Typed} {read} long each within back none-fits none-back there none =
+    record {
+      whole = λ o. row-whole (length limits) (part_row size on o) (part-long size on each o ∙ sym long);
+      fit = fitting;
+      back = reading;
+      row = λ n e. by_flag (part_row size on) (read n) n limits e (there n) (λ f. rw (none n f, long));
+    }
+  where
+    fitting : (o : Option _) → Typed o → is_part (part_row size on o) 0 limits ≡ true
+    fitting (Some a) t = there-fits (1 ∷ on a) limits refl (within a t)
+    fitting None t = none-fits
 
-abbrev pub time_row : Option ℕ → List ℕ
-time_row = part_row 1 time_on
-
-abbrev pub peri_row : Option PeriClkSrc → List ℕ
-peri_row = part_row 1 peri_on
-
-abbrev pub aux_row : Option AuxClkConfig → List ℕ
-aux_row = part_row 3 aux_on
-
-abbrev pub rtc_row : Option RtcClkConfig → List ℕ
-rtc_row = part_row 4 rtc_on
+    reading : (o : Option _) → Typed o → read (part_row size on o) ≡ o
+    reading (Some a) t = back a t
+    reading None t = none-back
 
 abbrev pub ring_limits : List ℕ
 ring_limits = 1 ∷ u32 ∷ 3 ∷ u8 ∷ u8 ∷ u8 ∷ u8 ∷ u8 ∷ u8 ∷ u8 ∷ u8 ∷ u16 ∷ []
 
-pub ring-back : (o : Option RoscConfig) → RingTyped o
-    → (row_from 12 0 (ring_row o) ≡ ring_row o) × (is_part (ring_row o) 0 ring_limits ≡ true) × (ring_at (ring_row o) ≡ o)
+pub ring_part : Reads 11 ring_on ring_limits RingTyped ring_at
 unfolding is_part ring_at strengths_at
-ring-back (Some r) t = (
-  refl,
-  there-fits (ring_row (Some r)) ring_limits refl (omega (arith, t, (range-code r.range).1)),
-  rw ((range-code r.range).0, cut t.1, cut t.2, cut t.3, cut t.4, cut t.5, cut t.6, cut t.7, cut t.8, cut t.9),
-)
-ring-back None t = (refl, refl, refl)
-
-pub ring-row : (n : List ℕ) → is_part n 0 ring_limits ≡ true → ring_row (ring_at n) ≡ row_from 12 0 n
-unfolding ring_at strengths_at
-ring-row n e =
-    by_flag ring_row (ring_at n) n ring_limits e
-    (λ f one w. let s = w.1.1.1 in rw f
+ring_part =
+    reads refl (λ r. refl) (λ r t. omega (arith, t, (range-code r.range).1))
+    (λ r t. rw ((range-code r.range).0, cut t.1, cut t.2, cut t.3, cut t.4, cut t.5, cut t.6, cut t.7, cut t.8, cut t.9)) refl refl
+    (λ n f one w. let s = w.1.1.1 in rw f
     (λ i. sym one i ∷ nth n 1 ∷ ((codes (nth n 2)).0 w.1.1.0).0 i ∷ cut s.0 i ∷ cut s.1.0 i ∷ cut s.1.1.0 i
     ∷ cut s.1.1.1.0 i ∷ cut s.1.1.1.1.0 i ∷ cut s.1.1.1.1.1.0 i ∷ cut s.1.1.1.1.1.1.0 i
-    ∷ cut s.1.1.1.1.1.1.1.0 i ∷ cut s.1.1.1.1.1.1.1.1.0 i ∷ [])) (λ f. rw f)
+    ∷ cut s.1.1.1.1.1.1.1.0 i ∷ cut s.1.1.1.1.1.1.1.1.0 i ∷ [])) (λ n f. rw f)
 
 abbrev pub pll_limits : List ℕ
 pll_limits = 1 ∷ u8 ∷ u16 ∷ u8 ∷ u8 ∷ []
 
-pub pll-back : (o : Option PllConfig) → PllTyped o
-    → (row_from 5 0 (pll_row o) ≡ pll_row o) × (is_part (pll_row o) 0 pll_limits ≡ true) × (option_pll_at (pll_row o) 0 ≡ o)
-    × (nth (pll_row o) 0 ≤ 1)
+pub pll_part : Reads 4 pll_on pll_limits PllTyped (λ n. option_pll_at n 0)
 unfolding is_part option_pll_at
-pll-back (Some p) t = (
-  refl,
-  there-fits (pll_row (Some p)) pll_limits refl (omega (arith, t)),
-  rw (cut t.0, cut t.1, cut t.2, cut t.3),
-  omega arith,
-)
-pll-back None t = (refl, refl, refl, omega arith)
-
-pub pll-row : (n : List ℕ) → is_part n 0 pll_limits ≡ true → pll_row (option_pll_at n 0) ≡ row_from 5 0 n
-unfolding option_pll_at
-pll-row n e =
-    by_flag pll_row (option_pll_at n 0) n pll_limits e
-    (λ f one w. rw f (λ i. sym one i ∷ cut w.1.0 i ∷ cut w.1.1.0 i ∷ cut w.1.1.1.0 i
-    ∷ cut w.1.1.1.1.0 i ∷ [])) (λ f. rw f)
+pll_part =
+    reads refl (λ p. refl) (λ p t. omega (arith, t)) (λ p t. rw (cut t.0, cut t.1, cut t.2, cut t.3)) refl refl
+    (λ n f one w. rw f (λ i. sym one i ∷ cut w.1.0 i ∷ cut w.1.1.0 i ∷ cut w.1.1.1.0 i ∷ cut w.1.1.1.1.0 i ∷ [])) (λ n f. rw f)
 
 abbrev pub time_limits : List ℕ
 time_limits = 1 ∷ u32 ∷ []
 
-pub time-back : (o : Option ℕ) → TimeTyped o
-    → (row_from 2 0 (time_row o) ≡ time_row o) × (is_part (time_row o) 0 time_limits ≡ true)
-    × (flagged (time_row o) 0 (nth (time_row o) 1) ≡ o)
+pub time_part : Reads 1 time_on time_limits TimeTyped (λ n. flagged n 0 (nth n 1))
 unfolding is_part
-time-back (Some n) t = (refl, there-fits (time_row (Some n)) time_limits refl (omega (arith, t)), refl)
-time-back None t = (refl, refl, refl)
-
-pub time-row : (n : List ℕ) → is_part n 0 time_limits ≡ true → time_row (flagged n 0 (nth n 1)) ≡ row_from 2 0 n
-time-row n e =
-    by_flag time_row (flagged n 0 (nth n 1)) n time_limits e
-    (λ f one w. rw f (λ i. sym one i ∷ nth n 1 ∷ [])) (λ f. rw f)
+time_part =
+    reads refl (λ time. refl) (λ time t. omega (arith, t)) (λ time t. refl) refl refl
+    (λ n f one w. rw f (λ i. sym one i ∷ nth n 1 ∷ [])) (λ n f. rw f)
 
 abbrev pub peri_limits : List ℕ
 peri_limits = 1 ∷ 4 ∷ []
 
-pub peri-back : (o : Option PeriClkSrc)
-    → (row_from 2 0 (peri_row o) ≡ peri_row o) × (is_part (peri_row o) 0 peri_limits ≡ true)
-    × (flagged (peri_row o) 0 (peri_from (nth (peri_row o) 1)) ≡ o)
+pub peri_part : Reads 1 peri_on peri_limits (λ o. Unit {0}) (λ n. flagged n 0 (peri_from (nth n 1)))
 unfolding is_part
-peri-back (Some s) = (
-  refl,
-  there-fits (peri_row (Some s)) peri_limits refl (omega (arith, (peri-code s).1)),
-  rw (peri-code s).0,
-)
-peri-back None = (refl, refl, refl)
-
-pub peri-row : (n : List ℕ) → is_part n 0 peri_limits ≡ true
-    → peri_row (flagged n 0 (peri_from (nth n 1))) ≡ row_from 2 0 n
-peri-row n e =
-    by_flag peri_row (flagged n 0 (peri_from (nth n 1))) n peri_limits e
-    (λ f one w. rw f (λ i. sym one i ∷ ((codes (nth n 1)).2 w.1.0).1 i ∷ [])) (λ f. rw f)
+peri_part =
+    reads refl (λ s. refl) (λ s t. omega (arith, (peri-code s).1)) (λ s t. rw (peri-code s).0) refl refl
+    (λ n f one w. rw f (λ i. sym one i ∷ ((codes (nth n 1)).2 w.1.0).1 i ∷ [])) (λ n f. rw f)
 
 abbrev pub aux_limits : List ℕ
 aux_limits = 1 ∷ 3 ∷ u8 ∷ u8 ∷ []
 
-pub aux-back : (o : Option AuxClkConfig) → AuxTyped o
-    → (row_from 4 0 (aux_row o) ≡ aux_row o) × (is_part (aux_row o) 0 aux_limits ≡ true) × (divided_at (aux_row o) 0 ≡ o)
+pub aux_part : Reads 3 aux_on aux_limits AuxTyped (λ n. divided_at n 0)
 unfolding is_part divided_at
-aux-back (Some a) t = (
-  refl,
-  there-fits (aux_row (Some a)) aux_limits refl (omega (arith, t, (aux-code a.src).1)),
-  rw ((aux-code a.src).0, cut t.0, cut t.1),
-)
-aux-back None t = (refl, refl, refl)
-
-pub aux-row : (n : List ℕ) → is_part n 0 aux_limits ≡ true → aux_row (divided_at n 0) ≡ row_from 4 0 n
-unfolding divided_at
-aux-row n e =
-    by_flag aux_row (divided_at n 0) n aux_limits e
-    (λ f one w. rw f (λ i. sym one i ∷ ((codes (nth n 1)).0 w.1.0).1 i ∷ cut w.1.1.0 i ∷ cut w.1.1.1.0 i ∷ [])) (λ f. rw f)
+aux_part =
+    reads refl (λ a. refl) (λ a t. omega (arith, t, (aux-code a.src).1)) (λ a t. rw ((aux-code a.src).0, cut t.0, cut t.1)) refl refl
+    (λ n f one w. rw f (λ i. sym one i ∷ ((codes (nth n 1)).0 w.1.0).1 i ∷ cut w.1.1.0 i ∷ cut w.1.1.1.0 i ∷ [])) (λ n f. rw f)
 
 abbrev pub rtc_limits : List ℕ
 rtc_limits = 1 ∷ 3 ∷ u32 ∷ u8 ∷ u8 ∷ []
@@ -244,18 +215,9 @@ abbrev pub rtc_in : List ℕ → Option RtcClkConfig
 rtc_in n =
     flagged n 0 (record { src = aux_from (nth n 1); div_int = nth n 2; div_frac = byte_at n 3; phase = byte_at n 4 })
 
-pub rtc-back : (o : Option RtcClkConfig) → ClockTyped o
-    → (row_from 5 0 (rtc_row o) ≡ rtc_row o) × (is_part (rtc_row o) 0 rtc_limits ≡ true) × (rtc_in (rtc_row o) ≡ o)
+pub rtc_part : Reads 4 rtc_on rtc_limits ClockTyped rtc_in
 unfolding is_part
-rtc-back (Some r) t = (
-  refl,
-  there-fits (rtc_row (Some r)) rtc_limits refl (omega (arith, t, (aux-code r.src).1)),
-  rw ((aux-code r.src).0, cut t.1, cut t.2),
-)
-rtc-back None t = (refl, refl, refl)
-
-pub rtc-row : (n : List ℕ) → is_part n 0 rtc_limits ≡ true → rtc_row (rtc_in n) ≡ row_from 5 0 n
-rtc-row n e =
-    by_flag rtc_row (rtc_in n) n rtc_limits e
-    (λ f one w. rw f (λ i. sym one i ∷ ((codes (nth n 1)).0 w.1.0).1 i ∷ nth n 2 ∷ cut w.1.1.1.0 i
-    ∷ cut w.1.1.1.1.0 i ∷ [])) (λ f. rw f)
+rtc_part =
+    reads refl (λ r. refl) (λ r t. omega (arith, t, (aux-code r.src).1)) (λ r t. rw ((aux-code r.src).0, cut t.1, cut t.2)) refl refl
+    (λ n f one w. rw f (λ i. sym one i ∷ ((codes (nth n 1)).0 w.1.0).1 i ∷ nth n 2 ∷ cut w.1.1.1.0 i
+    ∷ cut w.1.1.1.1.0 i ∷ [])) (λ n f. rw f)

@@ -9,7 +9,7 @@ use Rattle.numbers.specs.Row.{part_row, ring_on, crystal_on, pll_on, sys_pll_in,
 use Rattle.numbers.specs.Row.{oscillator_row, clock_row, rtc_numbers, plan_row}
 
 -- the row of a part is as long as that of an absent one
-part-long : {A : Type 0} (size : ℕ) (on : A → List ℕ) → ((part : A) → length (on part) ≡ size) → (o : Option A)
+pub part-long : {A : Type 0} (size : ℕ) (on : A → List ℕ) → ((part : A) → length (on part) ≡ size) → (o : Option A)
     → length (part_row size on o) ≡ size + 1
 part-long size on each (Some part) = omega (arith, each part)
 part-long size on each None = length-replicate (size + 1) 0
