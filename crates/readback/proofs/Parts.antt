@@ -6,9 +6,8 @@ use Rattle.settings.specs.declared.{Crystal.Crystal, Settings.Settings}
 use Rattle.step.specs.declared.Step.{Step}
 use Rattle.sheet.specs.Read.{Part, part, ◌then◌, step_at, read_pll, past_tick, read_rtc, settings_from}
 use Rattle.chip.specs.declared.Chip.{Chip, TheVariants.Rp2040, TheVariants.Rp235x}
-use Rattle.readback.specs.Steps.{value_in, rest_in}
-use Rattle.readback.specs.Parse.{cut_part, ticks, chip_taken, ring_taken, voltage_taken, crystal_taken, ref_taken, sys_taken}
-use Rattle.readback.specs.Parse.{peri_taken, usb_taken, adc_taken}
+use Rattle.readback.specs.Parse.{value_in, rest_in, cut_part, ticks, chip_taken, ring_taken, voltage_taken, crystal_taken, ref_taken}
+use Rattle.readback.specs.Parse.{sys_taken, peri_taken, usb_taken, adc_taken}
 
 then_is : {A B : Type 0} (p : Part A) (f : A → List Step → B) → (p then f) ≡ f (value_in p) (rest_in p)
 then_is (part a rest) f = refl

@@ -5,13 +5,19 @@ use Rattle.config.specs.{declared.RefClkConfig.RefClkConfig, Codes.range_from}
 use Rattle.chip.specs.{declared.Chip.Chip, declared.Chip.TheVariants.Rp2040, declared.Chip.TheVariants.Rp235x, Chips.facts_of}
 use Rattle.pll.specs.declared.PllConfig.{PllConfig}
 use Rattle.settings.specs.declared.Crystal.{Crystal}
-use Rattle.readback.specs.Steps.{value_in, rest_in}
 use Rattle.readback.specs.declared.{oscillators.Voltage.Voltage as VoltageRead, clocks.Sys.Sys as SysRead}
 use denote.Ref.{Bor}
 use Rattle.step.specs.declared.Step.{Step}
 use Rattle.sheet.specs.Read.{Part, part, Voltage, Sys, read_chip, read_ring, read_voltage, read_crystal, read_ref, past_tick}
 use Rattle.sheet.specs.Read.{read_sys, read_peri, read_aux}
 use Rattle.step.specs.declared.kind.Kind.TheVariants as kind
+
+-- The value of a part, and the steps after it.
+abbrev pub value_in : {A : Type 0} → Part A → A
+value_in (part a rest) = a
+
+abbrev pub rest_in : {A : Type 0} → Part A → List Step
+rest_in (part a rest) = rest
 
 -- A part with its value truncated.
 abbrev pub cut_part : {A : Type 0} → (A → A) → Part A → Part A

@@ -3,7 +3,7 @@ use Rattle.std.specs.Prelude.{List, [], ◌∷◌, ℕ, zero, suc, ◌+◌, ◌-
 use Rattle.std.specs.Iterator.{Count, at_most}
 use Rattle.base.specs.{Answer.Answer, Answer.value, Answer.refusal, Answer.answer_in, Choice.pick, declared.refusal.Refusal.Refusal}
 use Rattle.step.specs.{declared.Step.Step, Access.read_at, Sheet.max_steps}
-use Rattle.sheet.specs.{Steps.step0, Read.Part, Read.part, Read.step_at}
+use Rattle.sheet.specs.{Steps.step0, Read.step_at}
 use Rattle.readback.specs.declared.Reader.{Reader}
 use Rattle.step.specs.declared.kind.Kind.TheVariants as kind
 
@@ -55,10 +55,3 @@ nexts (suc n) r = next_step r ∷ nexts n (moved r)
 -- The steps that are read: at most 66.
 unfoldable pub steps_read : List ℕ → List Step
 steps_read sheet = take max_steps (steps_in sheet)
-
--- The value of a part, and the steps after it.
-abbrev pub value_in : {A : Type 0} → Part A → A
-value_in (part a rest) = a
-
-abbrev pub rest_in : {A : Type 0} → Part A → List Step
-rest_in (part a rest) = rest

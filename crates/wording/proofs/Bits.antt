@@ -3,7 +3,7 @@ use Rattle.std.specs.Prelude.{◌≡◌, Bool, false, List, [], ◌∷◌, ◌++
 use mathlib.Core.Path.{refl, sym, ap, ◌∙◌}
 use native.Mathlib.{Nat.div-eq_of_lt, Omega.arith}
 use lib.Pow.{pow_mono}
-use Rattle.wording.specs.Differences.{agreeing, bits_of, mask_of, has_bit}
+use Rattle.wording.specs.{Differences.mask_of, Differences.has_bit, Inside.agreeing, Inside.bits_of}
 
 pub mask-bits : (xs ys : List (List ℕ)) → mask_of xs ys ≡ bits_of (agreeing xs ys)
 mask-bits [] ys = refl

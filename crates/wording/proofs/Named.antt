@@ -9,8 +9,8 @@ use Rattle.std.proofs.lemmas.Bool.{and_parts}
 use Rattle.chip.specs.declared.{Chip.Chip, Chip.TheVariants.Rp2040, Chip.TheVariants.Rp235x}
 use Rattle.text.specs.Ascii.{ascii}
 use Rattle.wording.proofs.Tables.{all_within}
-use Rattle.wording.specs.StepNames.{Row, name_rows, name_in, name_of, Place, address_on, is_at, row_on, rows_on, bytes_at, bytes_of}
-use Rattle.wording.specs.StepNames.{IsTable}
+use Rattle.wording.specs.StepNames.{Row, name_rows, name_in, name_of}
+use Rattle.wording.specs.Inside.{Place, address_on, is_at, row_on, rows_on, bytes_at, bytes_of, IsTable}
 
 -- ---- the code's table: the bytes of the row that is found there
 

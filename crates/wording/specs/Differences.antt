@@ -27,16 +27,6 @@ mask_of [] ys = 0
 mask_of (x ∷ xs) [] = 0
 mask_of (x ∷ xs) (y ∷ ys) = pick (agree x y) 0 1 + 2 * mask_of xs ys
 
--- Inside: which rows of two lists agree, and the bits of those that do not
-abbrev pub agreeing : List (List ℕ) → List (List ℕ) → List Bool
-agreeing [] ys = []
-agreeing (x ∷ xs) [] = []
-agreeing (x ∷ xs) (y ∷ ys) = agree x y ∷ agreeing xs ys
-
-abbrev pub bits_of : List Bool → ℕ
-bits_of [] = 0
-bits_of (same ∷ others) = pick same 0 1 + 2 * bits_of others
-
 unfoldable pub differences_of : Settings → Settings → ℕ
 differences_of a b = mask_of (parts_of a) (parts_of b)
 

@@ -8,6 +8,7 @@ pub mod Steps
 pub mod Parts
 pub mod Differences
 pub mod StepNames
+pub mod Inside
 pub mod Does
 pub mod StepLines
 pub mod Differs

@@ -1,8 +1,6 @@
 -- The names of the registers that steps touch, as the RP2040 and RP2350 datasheets have them: the block's name before the
 -- register's. An address that is in no row has no name.
-use Rattle.std.specs.Prelude.{List, [], ◌∷◌, ◌++◌, ◌≡◌, map, eqb, Bool, Option, Some, None, ℕ}
-use Rattle.std.specs.Option.{option_eq}
-use denote.Ref.{Bor}
+use Rattle.std.specs.Prelude.{List, [], ◌∷◌, ◌++◌, eqb, ℕ}
 use Prim.Native.String.{String}
 use Rattle.base.specs.Choice.{pick}
 use Rattle.chip.specs.declared.{Chip.Chip, Chip.TheVariants.Rp2040, Chip.TheVariants.Rp235x}
@@ -83,36 +81,3 @@ name_in (r ∷ rs) a = pick (eqb r.address a) (ascii r.name) (name_in rs a)
 
 unfoldable pub name_of : Chip → ℕ → List ℕ
 name_of c a = name_in (name_rows c) a
-
--- Inside: the code has one table, with each register's address on the RP2040 and on the RP235x, if it has one there, and its name
-
-abbrev pub Place : Type 0
-Place = Option ℕ × Option ℕ × Bor (List ℕ)
-
-abbrev pub address_on : Chip → Place → Option ℕ
-address_on Rp2040 p = p.0
-address_on Rp235x p = p.1
-
-abbrev pub is_at : Chip → ℕ → Place → Bool
-is_at c a p = option_eq eqb (address_on c p) (Some a)
-
--- the addresses of the chip's registers, and their names as bytes
-abbrev pub row_on : Option ℕ → List ℕ → List (ℕ × List ℕ) → List (ℕ × List ℕ)
-row_on (Some a) name rows = (a, name) ∷ rows
-row_on None name rows = rows
-
-abbrev pub rows_on : Chip → List Place → List (ℕ × List ℕ)
-rows_on c [] = []
-rows_on c (p ∷ ps) = row_on (address_on c p) p.2.now (rows_on c ps)
-
-abbrev pub bytes_at : List (ℕ × List ℕ) → ℕ → List ℕ
-bytes_at [] a = []
-bytes_at (r ∷ rs) a = pick (eqb r.0 a) r.1 (bytes_at rs a)
-
--- the table has the rows of both chips
-abbrev pub bytes_of : List Row → List (ℕ × List ℕ)
-bytes_of rows = map (λ r. (r.address, ascii r.name)) rows
-
-pub record IsTable (ps : List Place) : Type 0 where
-  pub old : rows_on Rp2040 ps ≡ bytes_of (name_rows Rp2040)
-  pub new : rows_on Rp235x ps ≡ bytes_of (name_rows Rp235x)

@@ -1,6 +1,6 @@
 // Whether two plans agree in each part of their settings.
 ghost use Rattle.std.specs.Prelude.{◌≡◌};
-ghost use Rattle.wording.specs.{Parts.parts_of, Differences.agreeing};
+ghost use Rattle.wording.specs.{Parts.parts_of, Inside.agreeing};
 
 use settings::Settings;
 

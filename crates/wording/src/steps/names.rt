@@ -1,7 +1,7 @@
-// The registers' names, in the order of specs/Names.
+// The registers' names, in the order of specs/StepNames.
 ghost use Rattle.std.specs.Prelude.{◌≡◌, option_copied};
 ghost use Rattle.std.specs.List.{find};
-ghost use Rattle.wording.specs.StepNames.{name_of, address_on, is_at, IsTable};
+ghost use Rattle.wording.specs.{StepNames.name_of, Inside.address_on, Inside.is_at, Inside.IsTable};
 
 use chip::Chip;
 

@@ -5,7 +5,7 @@ use lib.ListN.{drop}
 use Rattle.step.specs.declared.Step.{Step}
 use Rattle.step.specs.declared.kind.Kind.TheVariants as kind
 use Rattle.sheet.specs.Read.{read_chip, read_ring, read_voltage, read_crystal, past_tick, read_ref, read_sys, read_peri, read_aux}
-use Rattle.readback.specs.{Steps.value_in, Steps.rest_in, Cut.cut_ring, Cut.cut_crystal, Cut.cut_ref, Cut.cut_aux, Cut.cut_settings}
+use Rattle.readback.specs.{Parse.value_in, Parse.rest_in, Cut.cut_ring, Cut.cut_crystal, Cut.cut_ref, Cut.cut_aux, Cut.cut_settings}
 use Rattle.readback.specs.Parse.{chip_taken, ring_taken, voltage_taken, crystal_taken, ref_taken, sys_taken, peri_taken, usb_taken}
 use Rattle.readback.specs.Parse.{adc_taken}
 use Rattle.readback.proofs.Parts.{goes_on, past-tick, settings-there}

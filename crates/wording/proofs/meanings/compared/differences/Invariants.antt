@@ -1,6 +1,6 @@
 -- The mask has the bits of the parts that are not left.
 use Rattle.std.specs.{Slice.Iter.iter_rest, Iterator.Adapters.rev_source}
-use Rattle.wording.specs.{Parts.parts_of, Differences.agreeing}
+use Rattle.wording.specs.{Parts.parts_of, Inside.agreeing}
 use Rattle.wording.proofs.Bits.{Masked}
 use Rattle.wording.proofs.meanings.compared.differences.Given as goal
 
