@@ -4,11 +4,12 @@ use mathlib.Core.Path.{refl, sym, ap, ◌∙◌}
 use native.Mathlib.{Nat.div-eq_of_lt, Omega.arith}
 use lib.Pow.{pow_mono}
 use Rattle.wording.specs.{Differences.mask_of, Differences.has_bit, Inside.agreeing, Inside.bits_of}
+use Rattle.wording.proofs.Agree.{agree-same}
 
 pub mask-bits : (xs ys : List (List ℕ)) → mask_of xs ys ≡ bits_of (agreeing xs ys)
 mask-bits [] ys = refl
 mask-bits (x ∷ xs) [] = refl
-mask-bits (x ∷ xs) (y ∷ ys) = rw (mask-bits xs ys)
+mask-bits (x ∷ xs) (y ∷ ys) = rw (mask-bits xs ys, agree-same x y)
 
 -- the bits of the parts after those that are left, of which there are at most 13
 pub record Masked (all left : List Bool) (mask : ℕ) : Type 0 where

@@ -15,7 +15,7 @@ use Rattle.config.specs.declared.{AuxClkSrc.AuxClkSrc, RtcClkConfig.RtcClkConfig
 use Rattle.settings.specs.declared.Crystal.{Crystal}
 use Rattle.settings.proofs.Decoded.{range-code, ref-code, peri-code, aux-code, sys-code}
 use Rattle.wording.specs.Parts.{chip_code, ring_numbers, crystal_numbers, pll_numbers, cycles_numbers}
-use Rattle.wording.specs.{Parts.peri_numbers, Parts.aux_numbers, Parts.rtc_numbers, Differences.agree}
+use Rattle.wording.specs.{Parts.peri_numbers, Parts.aux_numbers, Parts.rtc_numbers, Inside.agree}
 use Rattle.wording.proofs.Decode.{chip_at, code-back}
 use Rattle.chip.specs.contracts.Chip as chip
 use Rattle.pll.specs.contracts.PllConfigPartialEq.TheImpl as pll

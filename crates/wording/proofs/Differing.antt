@@ -6,8 +6,9 @@ use Rattle.base.proofs.Writing.{writing}
 use Rattle.config.specs.declared.ClockConfig.{ClockConfig}
 use Rattle.settings.specs.{declared.Settings.Settings, Settings.settings_of}
 use Rattle.sheet.proofs.Demand3.{demand-3}
+use Rattle.text.specs.Ascii.{same}
 use Rattle.wording.specs.Parts.{parts_of}
-use Rattle.wording.specs.Differences.{agree, differences_of, has_bit, part_line, part_lines, NoneDiffers}
+use Rattle.wording.specs.Differences.{differences_of, has_bit, part_line, part_lines, NoneDiffers}
 use Rattle.wording.proofs.{Agree.mask-none, Agree.mask-same, Agree.mask-bit, Decode.settings_at, Decode.settings-back}
 
 pub none-differs : (p q : ClockConfig) (reading reading' : ℕ)
@@ -31,7 +32,7 @@ same-sheet p q reading b b' c c' r s m n op er oq es =
 
 -- bit k is set exactly where the numbers of part k are not the same
 pub part-differs : (a b : Settings) (k : ℕ) → k < 13
-    → has_bit (differences_of a b) k ≡ not (agree (get_or (parts_of a) k []) (get_or (parts_of b) k []))
+    → has_bit (differences_of a b) k ≡ not (same (get_or (parts_of a) k []) (get_or (parts_of b) k []))
 unfolding differences_of
 part-differs a b k h = mask-bit (parts_of a) (parts_of b) k (omega arith) (omega arith)
 

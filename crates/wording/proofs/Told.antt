@@ -7,7 +7,7 @@ use native.Mathlib.Omega.{arith}
 use borrow.Author.Tests.{eqb-true}
 use lib.Seq.{take_at}
 use Rattle.base.proofs.Bools.{either_way}
-use Rattle.text.specs.Ascii.{ascii}
+use Rattle.text.specs.Ascii.{ascii, same}
 use Rattle.config.specs.declared.ClockConfig.{ClockConfig}
 use Rattle.settings.specs.{declared.Settings.Settings, Settings.settings_of, Typed.Typed, LeastPlan.plan_of}
 use Rattle.step.specs.Sheet.{encoded}
@@ -18,7 +18,7 @@ use Rattle.readback.specs.Read.{read_of}
 use Rattle.readback.proofs.{Right.written_read, Right.read-gives, Canonical.settings-kept}
 use Rattle.wording.specs.Verdict.{Verdict, sheet_refused, order_refused, as_ordered, differs, by_bits, unless_refused, compared}
 use Rattle.wording.specs.Verdict.{delivered, verdict_of, verdict_text, check_text}
-use Rattle.wording.specs.{Differences.agree, Differences.has_bit, Differences.differences_of, Parts.parts_of, Words.refused_lines}
+use Rattle.wording.specs.{Differences.has_bit, Differences.differences_of, Parts.parts_of, Words.refused_lines}
 use Rattle.wording.specs.{Differs.differs_text, Told.AsOrdered, Told.Named, Told.NamesThose}
 use Rattle.wording.proofs.Differing.{none-differs, part-differs}
 
@@ -102,7 +102,7 @@ names-those sheet reading plan mask p q e = go (read_of sheet reading) refl e
               ap (λ (m : ℕ). has_bit m k) same-mask
               ∙ subst
               (λ (x : ClockConfig). has_bit (differences_of (settings_of p' reading) (settings_of plan reading)) k
-              ≡ not (agree (get_or (parts_of (settings_of x reading)) k []) (get_or (parts_of (settings_of plan reading)) k [])))
+              ≡ not (same (get_or (parts_of (settings_of x reading)) k []) (get_or (parts_of (settings_of plan reading)) k [])))
               (sym same-p) (part-differs (settings_of p' reading) (settings_of plan reading) k h);
         }
     bits p' (Some reason) u read e = absurd cc

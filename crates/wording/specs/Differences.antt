@@ -1,31 +1,20 @@
 -- The settings in which two plans differ, as a mask with a bit for each part of the settings that count; the first part has the
 -- lowest bit.
-use Rattle.std.specs.Prelude.{Result, ◌≡◌, ◌↔◌, Bool, true, false, ◌&&◌, List, [], ◌∷◌, ◌++◌, ℕ, zero, suc, ◌+◌, ◌*◌, ◌/◌, ◌%◌, ◌^◌}
+use Rattle.std.specs.Prelude.{Result, ◌≡◌, ◌↔◌, Bool, List, [], ◌∷◌, ◌++◌, ℕ, zero, suc, ◌+◌, ◌*◌, ◌/◌, ◌%◌, ◌^◌}
 use Rattle.std.specs.Prelude.{eqb}
 use Rattle.base.specs.{declared.refusal.Refusal.Refusal, Choice.pick, Answer.value, Answer.answer_of}
 use Prim.Native.String.{String}
+use Rattle.text.specs.Ascii.{same}
 use Rattle.config.specs.declared.ClockConfig.{ClockConfig}
 use Rattle.settings.specs.{declared.Settings.Settings, Settings.settings_of}
 use Rattle.sheet.specs.{Writer.InitCall, Demand3.SameUpTo}
 use Rattle.wording.specs.{Rows.row_text, Parts.parts_of}
 
--- whether two rows of numbers are equal, where t says whether the numbers before them are
-abbrev pub agree_from : Bool → List ℕ → List ℕ → Bool
-agree_from t [] [] = t
-agree_from t [] (y ∷ ys) = false
-agree_from t (x ∷ xs) [] = false
-agree_from t (x ∷ xs) (y ∷ ys) = agree_from (t && eqb x y) xs ys
-
-abbrev pub agree : List ℕ → List ℕ → Bool
-agree [] [] = true
-agree [] (y ∷ ys) = false
-agree (x ∷ xs) [] = false
-agree (x ∷ xs) (y ∷ ys) = agree_from (eqb x y) xs ys
-
+-- a bit for each two rows of numbers that are not the same
 abbrev pub mask_of : List (List ℕ) → List (List ℕ) → ℕ
 mask_of [] ys = 0
 mask_of (x ∷ xs) [] = 0
-mask_of (x ∷ xs) (y ∷ ys) = pick (agree x y) 0 1 + 2 * mask_of xs ys
+mask_of (x ∷ xs) (y ∷ ys) = pick (same x y) 0 1 + 2 * mask_of xs ys
 
 unfoldable pub differences_of : Settings → Settings → ℕ
 differences_of a b = mask_of (parts_of a) (parts_of b)

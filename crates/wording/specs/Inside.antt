@@ -1,11 +1,11 @@
 -- Inside: how the code finds a register's name and the parts that differ.
-use Rattle.std.specs.Prelude.{List, [], ◌∷◌, ◌≡◌, ◌+◌, ◌*◌, map, eqb, Bool, Option, Some, None, ℕ}
+use Rattle.std.specs.Prelude.{List, [], ◌∷◌, ◌≡◌, ◌+◌, ◌*◌, map, eqb, Bool, true, false, ◌&&◌, Option, Some, None, ℕ}
 use Rattle.std.specs.Option.{option_eq}
 use denote.Ref.{Bor}
 use Rattle.base.specs.Choice.{pick}
 use Rattle.chip.specs.declared.{Chip.Chip, Chip.TheVariants.Rp2040, Chip.TheVariants.Rp235x}
 use Rattle.text.specs.Ascii.{ascii}
-use Rattle.wording.specs.{StepNames.Row, StepNames.name_rows, Differences.agree}
+use Rattle.wording.specs.{StepNames.Row, StepNames.name_rows}
 
 -- the code has one table of registers: the address on the RP2040 and on the RP235x, where it has one there, and the
 -- name
@@ -39,6 +39,19 @@ bytes_of rows = map (λ r. (r.address, ascii r.name)) rows
 pub record IsTable (ps : List Place) : Type 0 where
   pub old : rows_on Rp2040 ps ≡ bytes_of (name_rows Rp2040)
   pub new : rows_on Rp235x ps ≡ bytes_of (name_rows Rp235x)
+
+-- Two rows of numbers are compared from the first on, as a derived `==` does it: t says whether the numbers before are equal.
+abbrev pub agree_from : Bool → List ℕ → List ℕ → Bool
+agree_from t [] [] = t
+agree_from t [] (y ∷ ys) = false
+agree_from t (x ∷ xs) [] = false
+agree_from t (x ∷ xs) (y ∷ ys) = agree_from (t && eqb x y) xs ys
+
+abbrev pub agree : List ℕ → List ℕ → Bool
+agree [] [] = true
+agree [] (y ∷ ys) = false
+agree (x ∷ xs) [] = false
+agree (x ∷ xs) (y ∷ ys) = agree_from (eqb x y) xs ys
 
 -- which rows of two lists agree, and the bits of those that do not
 abbrev pub agreeing : List (List ℕ) → List (List ℕ) → List Bool

@@ -2,12 +2,12 @@
 use Rattle.std.specs.Prelude.{Result, ◌≡◌, not, ◌↔◌, List, [], ℕ, ◌<◌, take, get_or}
 use Rattle.base.specs.declared.refusal.Refusal.{Refusal}
 use Rattle.base.specs.Answer.{value, answer_of}
-use Rattle.text.specs.Ascii.{ascii}
+use Rattle.text.specs.Ascii.{ascii, same}
 use Rattle.config.specs.declared.ClockConfig.{ClockConfig}
 use Rattle.settings.specs.Settings.{settings_of}
 use Rattle.sheet.specs.Writer.{InitCall}
 use Rattle.readback.specs.Read.{read_of}
-use Rattle.wording.specs.{Parts.parts_of, Differences.agree, Differences.has_bit, Verdict.differs, Verdict.verdict_of, Verdict.check_text}
+use Rattle.wording.specs.{Parts.parts_of, Differences.has_bit, Verdict.differs, Verdict.verdict_of, Verdict.check_text}
 
 -- A call of `init` with the ordered plan at this reading, with any buffer, that answered a length: `as ordered` is said
 -- exactly where the bytes that it wrote are the sheet.
@@ -24,7 +24,7 @@ pub record Named (sheet : List ℕ) (reading : ℕ) (plan : ClockConfig) (mask :
   pub asked : q ≡ plan
   pub bits : (k : ℕ) → k < 13
       → has_bit mask k
-      ≡ not (agree (get_or (parts_of (settings_of p reading)) k []) (get_or (parts_of (settings_of plan reading)) k []))
+      ≡ not (same (get_or (parts_of (settings_of p reading)) k []) (get_or (parts_of (settings_of plan reading)) k []))
 
 abbrev pub NamesThose : Type 0
 NamesThose =

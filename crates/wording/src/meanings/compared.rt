@@ -11,7 +11,6 @@ use settings::Settings;
 
 // A bit for each setting in which the two differ, in the order of docs/FORMAT.md, Settings that count: chip, ring, crystal,
 // system PLL, USB PLL, voltage code, settling step, reference, system, peripheral, USB, ADC, RTC.
-#[tactic(auto, using(crate::proofs::Bits::masked_all), unfolding(crate::specs::Differences::differences_of))]
 pub fn differences(a: Settings, b: Settings) -> u32
     ensures { result ≡ differences_of a b }
 {
