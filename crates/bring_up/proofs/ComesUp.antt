@@ -18,7 +18,7 @@ use Rattle.sheet.specs.Writer.{sheet_bytes}
 use Rattle.sheet.proofs.Examples.{Gives, longest_plan, longest-steps, longest235, longest-steps-235}
 use Rattle.sheet.proofs.{Sheets.chip-few, Sheets.steps-few, Sheets.steps-formed, Demand3.answered}
 use Rattle.bring_up.specs.ComesUp.{max_waits, most_calls, ComesUp, ComesUpReady, InitComesUp, longest_wait, LongestCovers}
-use Rattle.bring_up.specs.{Up.plan_steps, Wait.HearsAtMost, Wait.waits_in, Wait.UpAfter, Wait.UpWithin, Slow.slowest}
+use Rattle.bring_up.specs.{Up.plan_steps, Wait.HearsAtMost, Slow.waits_in, Wait.UpAfter, Wait.UpWithin, Slow.slowest}
 use Rattle.bring_up.proofs.{Stored.steps-store, Run.sheet-starts, Wait.steps-come-up, Wait.steps-come-up-ready, Slow.slow-few}
 use Rattle.bring_up.proofs.{Slow.steps-come-up-slowest, Waits.waits-ten}
 

@@ -7,8 +7,8 @@ use borrow.Author.Tests.{eqb-true, leb-false, lt-leb}
 use Rattle.base.specs.Choice.{bit}
 use Rattle.step.specs.{Access.read_at, Sheet.max_steps, Sheet.encoded, Sheet.AllFormed, declared.Step.Step}
 use Rattle.runner.specs.{Run.advance_of, Calls.stores_of, declared.Runner.Runner}
-use Rattle.bring_up.specs.Wait.{runner_after, holds_wait, unready_poll, heard, HearsAtMost, waits_in, UpAfter}
-use Rattle.bring_up.specs.Slow.{HearsAll, slow_ready, slow_after, slowest}
+use Rattle.bring_up.specs.Wait.{runner_after, holds_wait, unready_poll, heard, HearsAtMost, UpAfter}
+use Rattle.bring_up.specs.Slow.{waits_in, HearsAll, slow_ready, slow_after, slowest}
 use Rattle.bring_up.proofs.Wait.{steps-come-up-after}
 
 module _ (k : ℕ) (sheet : List ℕ) where

@@ -22,7 +22,8 @@ use Rattle.sheet.specs.Steps.{crystal_part, peri_part, rtc_part, release_mask, c
 use Rattle.bring_up.specs.Machine.{held, carried_out}
 use Rattle.bring_up.specs.Tree.{oscillates, sources_at, ref_at, sys_at, rtc_at, sys_from, peri_from, aux_from, CLK_PERI_DIV}
 use Rattle.bring_up.specs.Tree.{int_from, peri_divider}
-use Rattle.bring_up.specs.Times.{has_peri, has_aux, has_rtc, Runs, AllTrue, TimesAreTrue}
+use Rattle.std.specs.Option.{is_some}
+use Rattle.bring_up.specs.Times.{Runs, AllTrue, TimesAreTrue}
 use Rattle.bring_up.proofs.Parts.{Aux, Usb, Adc, aux_control, aux_divider, aux_of}
 use Rattle.bring_up.proofs.Sheet.{up_to, holds, stays}
 use Rattle.bring_up.proofs.Set.{head-sets, ring-sets, PllSet, CrystalSet, crystal-sets, pll-moves, ref-sets, sys-sets, peri-sets}
@@ -114,8 +115,8 @@ peri-runs : (c : Chip) (hz : ℕ) (o : Option PeriClkSrc) (f : Sources) (now sys
     → after (CLK_PERI_CTRL c) ≡ carried_out c (peri_part hz o) file (CLK_PERI_CTRL c)
     → file (CLK_PERI_CTRL c) ≡ before (CLK_PERI_CTRL c) → now ≡ system
     → (divider ≡ 1
-    → Runs (has_peri o) (peri_from f now (after (CLK_PERI_CTRL c)) divider) (peri_hz f system o) (CLK_PERI_CTRL c) before after)
-    × (has_peri o ≡ false → after (CLK_PERI_CTRL c) ≡ before (CLK_PERI_CTRL c))
+    → Runs (is_some o) (peri_from f now (after (CLK_PERI_CTRL c)) divider) (peri_hz f system o) (CLK_PERI_CTRL c) before after)
+    × (is_some o ≡ false → after (CLK_PERI_CTRL c) ≡ before (CLK_PERI_CTRL c))
 peri-runs c hz (Some src) f now system divider file before after e0 e1 e2 = (
   λ one. ap (λ (n : ℕ). peri_from f n (after (CLK_PERI_CTRL c)) divider) e2
       ∙ peri-true f system src (after (CLK_PERI_CTRL c)) divider (e0 ∙ peri-sets c hz src file) one,
@@ -128,7 +129,7 @@ aux-runs : (c : Chip) (k : Aux) (hz : ℕ) (o : Option AuxClkConfig) (f : Source
     → let set = carried_out c (aux_of k hz o) file in
     after (aux_control c k) ≡ set (aux_control c k) → after (aux_divider c k) ≡ set (aux_divider c k)
     → file (aux_control c k) ≡ before (aux_control c k)
-    → Runs (has_aux o) (aux_from f (after (aux_control c k)) / int_from c 4 (after (aux_divider c k))) (aux_hz f o)
+    → Runs (is_some o) (aux_from f (after (aux_control c k)) / int_from c 4 (after (aux_divider c k))) (aux_hz f o)
     (aux_control c k) before after
 aux-runs c k hz (Some a) f file before after small e0 e1 e2 =
     let set = aux-sets c k hz a file in
@@ -150,7 +151,7 @@ rtc-runs : (c : Chip) (source hz : ℕ) (o : Option RtcClkConfig) (f : Sources) 
     → RtcOf c o → RtcTyped o → rtc_bad source hz o ≡ false
     → let set = carried_out c (rtc_part c hz o) file in
     after CLK_RTC_CTRL ≡ set CLK_RTC_CTRL → after CLK_RTC_DIV ≡ set CLK_RTC_DIV → file CLK_RTC_CTRL ≡ before CLK_RTC_CTRL
-    → Runs (has_rtc o) (rtc_at f after) (rtc_hz f o) CLK_RTC_CTRL before after
+    → Runs (is_some o) (rtc_at f after) (rtc_hz f o) CLK_RTC_CTRL before after
 rtc-runs Rp2040 source hz (Some r) f file before after one typed good e0 e1 e2 =
     let set = rtc-sets hz r file in
     let w = rtc-good source hz r good in

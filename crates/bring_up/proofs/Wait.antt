@@ -12,8 +12,8 @@ use Rattle.step.proofs.Sheets.{length-encoded, read-encoded}
 use Rattle.runner.specs.{declared.Runner.Runner, declared.Reply.TheVariants.Passed, declared.Reply.TheVariants.Waiting, Run.outcome}
 use Rattle.runner.specs.{Run.is_wait, Run.one_more, Run.take_step, Run.stored_by, Calls.stores_of}
 use Rattle.runner.proofs.Going.{going, standing, wait-stores, hands, passes, polls-on, done_at, step-at}
-use Rattle.bring_up.specs.Wait.{runner_after, call_answer, heard, HearsAtMost, waits_in, OnTheWay, UpAfter, UpWithin}
-use Rattle.bring_up.specs.Slow.{HearsAll}
+use Rattle.bring_up.specs.Wait.{runner_after, call_answer, heard, HearsAtMost, OnTheWay, UpAfter, UpWithin}
+use Rattle.bring_up.specs.Slow.{waits_in, HearsAll}
 use Rattle.bring_up.proofs.Stream.{at, next, answered, stays-done, elsewhere, polled-here}
 use Rattle.step.specs.declared.kind.Kind.TheVariants as kind
 

@@ -8,7 +8,7 @@ use Rattle.settings.specs.declared.Settings.{Settings}
 use Rattle.sheet.specs.Steps.{steps_of}
 use Rattle.sheet.proofs.{Laws.weight, Laws.weigh, Laws.clocks_kinds, Laws.sheet_kinds, Sheets.steps-most}
 use Rattle.runner.specs.Run.{is_wait}
-use Rattle.bring_up.specs.{Wait.waits_in, ComesUp.max_waits}
+use Rattle.bring_up.specs.{Slow.waits_in, ComesUp.max_waits}
 
 weighed : (xs : List Step) → weigh (λ k. bit (is_wait k)) xs ≡ waits_in xs
 weighed [] = omega arith

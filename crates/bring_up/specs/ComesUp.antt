@@ -1,6 +1,6 @@
 -- The bound on the calls that a sheet takes until done (docs/FORMAT.md, How long a run takes).
 use Rattle.std.specs.Prelude.{Result, ℕ, ◌+◌, ◌*◌, ◌/◌, ◌≤◌, ◌<◌, ◌≡◌, Bool, List, ltb, length, take}
-use Rattle.base.specs.{declared.refusal.Refusal.Refusal, Choice.pick, Answer.value, Answer.answer_of}
+use Rattle.base.specs.{declared.refusal.Refusal.Refusal, Choice.pick, Answer.value, Answer.answer_of, Widths.u32}
 use Rattle.step.specs.Sheet.{max_steps}
 use Rattle.chip.specs.declared.Chip.{Chip}
 use Rattle.config.specs.declared.ClockConfig.{ClockConfig}
@@ -49,10 +49,10 @@ InitComesUp =
 
 -- `longest_wait`, for both chips: from 1000000 unready polls on a lock can time out, and the answer is the 32-bit maximum
 unfoldable pub longest_wait : ℕ → ℕ
-longest_wait k = pick (ltb k 1000000) (max_steps + max_waits * k) 4294967295
+longest_wait k = pick (ltb k 1000000) (max_steps + max_waits * k) u32
 
 -- it bounds the calls of either chip wherever there is a bound
 abbrev pub LongestCovers : Type 0
 LongestCovers =
     (chip : Chip) (k : ℕ)
-    → (k < 1000000 → most_calls chip k ≤ longest_wait k) × (1000000 ≤ k → longest_wait k ≡ 4294967295)
+    → (k < 1000000 → most_calls chip k ≤ longest_wait k) × (1000000 ≤ k → longest_wait k ≡ u32)

@@ -1,6 +1,8 @@
 -- Inside: the stream of ready flags that makes a runner wait longest.
-use Rattle.std.specs.Prelude.{ℕ, zero, suc, ◌+◌, ◌<◌, leb, Bool, false, ◌≡◌, List}
-use Rattle.runner.specs.{declared.Runner.Runner, Run.started_with, Run.advance_of}
+use Rattle.std.specs.Prelude.{ℕ, zero, suc, ◌+◌, ◌<◌, leb, Bool, false, ◌≡◌, List, [], ◌∷◌}
+use Rattle.base.specs.Choice.{bit}
+use Rattle.step.specs.declared.Step.{Step}
+use Rattle.runner.specs.{declared.Runner.Runner, Run.is_wait, Run.started_with, Run.advance_of}
 use Rattle.bring_up.specs.Wait.{runner_after, unready_poll, heard}
 
 -- at each wait at least k unready polls: a poll is unready while fewer than k were
@@ -29,3 +31,8 @@ slow_after k sheet (suc i) =
 -- the stream that makes a runner wait longest
 unfoldable pub slowest : ℕ → List ℕ → ℕ → Bool
 slowest k sheet i = slow_ready k (slow_after k sheet i)
+
+-- the number of waits among steps
+abbrev pub waits_in : List Step → ℕ
+waits_in [] = 0
+waits_in (step ∷ steps) = bit (is_wait step.kind) + waits_in steps

@@ -1,6 +1,6 @@
 -- A runner over the sheet that it was started with, for any stream of ready flags: the number of calls before done,
 -- and the frequencies then.
-use Rattle.std.specs.Prelude.{ℕ, zero, suc, ◌+◌, ◌*◌, ◌≤◌, ◌<◌, eqb, Bool, false, ◌&&◌, not, ◌≡◌, List, [], ◌∷◌}
+use Rattle.std.specs.Prelude.{ℕ, zero, suc, ◌+◌, ◌*◌, ◌≤◌, ◌<◌, eqb, Bool, false, ◌&&◌, not, ◌≡◌, List}
 use Rattle.base.specs.{Answer.Answer, Answer.value, Answer.refusal, Choice.bit}
 use Rattle.step.specs.{declared.Step.Step, Access.read_at}
 use Rattle.runner.specs.declared.Reply.TheVariants.{Done, Handed, Passed, Waiting}
@@ -51,8 +51,3 @@ pub record UpWithin (most : ℕ) (sheet : List ℕ) (ready : ℕ → Bool) (freq
   pub calls : ℕ
   pub few : calls ≤ most
   pub up : UpAfter calls sheet ready freqs
-
--- the number of waits among steps
-abbrev pub waits_in : List Step → ℕ
-waits_in [] = 0
-waits_in (step ∷ steps) = bit (is_wait step.kind) + waits_in steps
