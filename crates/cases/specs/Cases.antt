@@ -11,7 +11,7 @@ use Rattle.bring_up.specs.ComesUp.{longest_wait}
 use Rattle.config.specs.Presets.{default_plan, crystal_plan, rosc_plan, system_plan, system_plan_from}
 use Rattle.readback.specs.Read.{read_of}
 use Rattle.numbers.specs.Fields.{nth, byte_at, pll_at}
-use Rattle.numbers.specs.Answers.{answer_number, itself, malformed, chip_numbered, on_chip, voltage_number}
+use Rattle.numbers.specs.Answers.{answer_number, itself, malformed, chip_numbered, given_number, voltage_number}
 use Rattle.cases.specs.{declared.words.Words.Words, Line.rest_of, Words.spelled, Words.unread, Words.sheet_at, Words.given}
 use Rattle.cases.specs.{declared.table.Case.Case, Say.one_text, Say.found_text, Say.margin_text, Say.level_text, Say.plan_text}
 use Rattle.cases.specs.{Say.planned_text, Calls.chip_at, Calls.gpout_text, Calls.list_text, Calls.manual_text, Calls.sheet_text}
@@ -50,7 +50,7 @@ rows case.Margin = plain_row "margin" "ww" (λ n. margin_text (margin_of (nth n 
 -- CHIP READING
 rows case.Voltage =
     plain_row "voltage" "fb"
-    (λ n. level_text (on_chip (λ on. voltage_number on (byte_at n 1)) (chip_numbered (byte_at n 0))))
+    (λ n. level_text (given_number (λ on. voltage_number on (byte_at n 1)) (chip_numbered (byte_at n 0))))
 -- SYSTEM TARGET
 rows case.Pio = plain_row "pio" "ww" (λ n. one_text (answer_number itself (pio_of (nth n 0) (nth n 1))))
 -- CHIP SOURCE WHOLE FRACTION F0 to F9

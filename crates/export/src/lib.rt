@@ -16,7 +16,7 @@ ghost use Rattle.config.specs.Presets.{system_plan, system_plan_from};
 ghost use Rattle.base.specs.Answer.{answer_in};
 ghost use Rattle.lister.specs.Lister.{listed_of, listed_in};
 ghost use Rattle.bring_up.specs.ComesUp.{longest_wait};
-ghost use Rattle.numbers.specs.Answers.{answer_number, itself, setting_number, dividers_are, done, limits_after, chip_numbered, on_chip};
+ghost use Rattle.numbers.specs.Answers.{answer_number, itself, setting_number, dividers_are, done, limits_after, chip_numbered, given_number};
 ghost use Rattle.numbers.specs.Answers.{voltage_number, divider_numbered, gpout_number};
 ghost use Rattle.numbers.specs.{Run.run_number, Run.run_leaves, Run.StartCall, Access.AccessCall};
 ghost use Rattle.export.specs.Sheet.{SheetCall, preset_on, plan_on};
@@ -131,7 +131,7 @@ pub extern "C" fn dizbaral_output_frequency(
 // The voltage code and brownout level of a regulator reading. Refusal: 18; an unknown chip is malformed.
 #[unsafe(no_mangle)]
 pub extern "C" fn dizbaral_core_voltage(chip: u8, reading: u8) -> u64
-    ensures { result ≡ on_chip (λ on. voltage_number on reading) (chip_numbered chip) }
+    ensures { result ≡ given_number (λ on. voltage_number on reading) (chip_numbered chip) }
 {
     answers::chip(chip).map_or(answers::MALFORMED, |on| answers::voltage(on, reading))
 }

@@ -57,10 +57,6 @@ setting_number c = (c.refdiv * 65536 + c.fbdiv) * 65536 + (c.post_div1 * 256 + c
 abbrev pub chip_numbered : ℕ → Option Chip
 chip_numbered n = pick (eqb n 0) (Some Rp2040) (pick (eqb n 1) (Some Rp235x) None)
 
--- the answer for a chip; malformed for an unknown one
-abbrev pub on_chip : (Chip → ℕ) → Option Chip → ℕ
-on_chip = given_number
-
 -- a voltage: its code above its brownout level (8 bits)
 abbrev pub level_number : ℕ → ℕ → ℕ
 level_number code brownout = code * 256 + brownout
