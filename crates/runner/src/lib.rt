@@ -13,7 +13,7 @@ ghost use Rattle.runner.specs.Run.{outcome, turn_of, stepper_of, advance_of, sta
 use base::Refusal;
 pub use step::Clock;
 use step::{MAX_BYTES, MAX_STEPS, Step};
-use stepping::store;
+use stepping::{MOST_LOCK_POLLS, store};
 
 // The state of a runner without the frequencies. `stopped` is a mark of the C interface, with no value beside it for an Option.
 #[derive(Clone, Copy)]
@@ -64,7 +64,9 @@ impl State {
     pub fn turn(&mut self, kept: Kept<'_>, sheet: &[u8], ready: bool) -> Result<Reply, Refusal>
         ensures { outcome (answer_of result) self.new ≡ turn_of self.old kept.entry.len kept.entry.bytes.now sheet.now ready }
     {
-        if ((self.position > MAX_STEPS) | (self.lock_polls > 999999)) | step::bad_size(kept.len) {
+        if ((self.position > MAX_STEPS) | (self.lock_polls > MOST_LOCK_POLLS))
+            | step::bad_size(kept.len)
+        {
             return Err(Refusal::NotARunner);
         }
         if self.stopped {
@@ -144,7 +146,6 @@ impl Runner {
     }
 
     // Makes the runner fresh with the sheet; refuses with 20 a length that no sheet has, and then changes nothing.
-    #[tactic(auto, unfolding(crate::specs::Run::start_of))]
     pub fn start(&mut self, sheet: &[u8]) -> Result<(), Refusal>
         ensures { outcome (answer_of result) self.new ≡ start_of self.old sheet.now }
     {

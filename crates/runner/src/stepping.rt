@@ -8,6 +8,9 @@ use crate::{Reply, State};
 use base::Refusal;
 use step::{Kind, Step};
 
+// The most lock polls that are counted: the next one is the 1000000th, which is refused.
+pub(crate) const MOST_LOCK_POLLS: u32 = 999999;
+
 // Whether a kind of step is a wait.
 fn is_wait(of: Kind) -> bool
     ensures { result ≡ is_wait of }
@@ -21,7 +24,6 @@ fn is_wait(of: Kind) -> bool
 // A state comes from C with any numbers, so its bounds are no ghost field: `turn` tests them, and these methods ask for them.
 impl State {
     // A wait that is not ready: waiting, or at the last lock poll refusal 22, which stops the runner.
-    #[tactic(auto, using(crate::proofs::Calls::counting), unfolding(crate::specs::Run::unready))]
     fn wait_unready(&mut self, wait: Kind) -> Result<Reply, Refusal>
         requires { self.old.lock_polls < 1000000 }
         ensures { outcome (answer_of result) self.new ≡ unready self.old wait }
@@ -30,7 +32,7 @@ impl State {
         if wait != Kind::WaitLock {
             return Ok(Reply::Waiting);
         }
-        if self.lock_polls < 999999 {
+        if self.lock_polls < MOST_LOCK_POLLS {
             self.lock_polls += 1;
             return Ok(Reply::Waiting);
         }
