@@ -18,7 +18,6 @@ pub struct Ends {
 }
 
 // Answers the lowest and the highest permitted divider; refuses with 15 where there is none. From 5 MHz on none is above 320.
-#[tactic(auto, using(crate::proofs::Ends::ends))]
 pub fn dividers(input_hz: u32) -> Result<Ends, Refusal>
     ensures lowest { answer_of (result_map_both (λ found. found.low) (λ why. why) result) ≡ lowest_of input_hz }
     ensures highest { answer_of (result_map_both (λ found. found.high) (λ why. why) result) ≡ highest_of input_hz }

@@ -65,7 +65,6 @@ impl Stage {
 
     // Whether an output is more than d over the target, and whether it is more than d under it. Neither divides. One
     // test of both sides took 1479 instructions for an exact hit, whose bar is 1400 (docs/SPEED.md, What was tried).
-    #[tactic(auto, using(crate::proofs::Scores::farther))]
     fn too_high(self, d: u64, posts: Posts) -> bool
         requires { d ≤ 140737488355328 }
         ensures { result ≡ true → d < score_of self.vco self.target (product posts.code) }
