@@ -15,7 +15,6 @@ use pll::PllConfig;
 use settings::{Crystal, Frequencies, Settings, Sources};
 
 // A valid PLL gives 15 MHz or more, so a PLL that is present is invalid exactly where its frequency is 0.
-#[tactic(auto, using(settings::proofs::Plls::pll_silent))]
 fn pll_invalid(pll: Option<PllConfig>, known_hz: u32) -> bool
     ensures { (hz : ℕ) → known_hz ≡ pll_hz hz pll → result ≡ pll_invalid hz pll }
 {

@@ -28,7 +28,6 @@ pub fn strengths_over(ring: Option<RoscConfig>) -> bool
 }
 
 // Refusal 2: the ring divider plus the chip's pass value does not fit the 16 bits of ROSC_DIV.
-#[tactic(auto, unfolding(crate::specs::Rules::ring_divider_over))]
 pub fn ring_divider_over(pass: u16, ring: Option<RoscConfig>) -> bool
     ensures { result ≡ ring_divider_over pass ring }
 {
@@ -44,7 +43,6 @@ pub fn settling_over(settling: Option<u64>) -> bool
 }
 
 // Refusal 4: the startup delay does not fit in 14 bits.
-#[tactic(auto, unfolding(crate::specs::Rules::startup_over))]
 pub fn startup_over(crystal: Option<Crystal>) -> bool
     ensures { result ≡ startup_over crystal }
 {
@@ -84,7 +82,6 @@ pub fn peri_bad(hz: u64, peri: Option<PeriClkSrc>) -> bool
 }
 
 // Refusals 12 and 13: the source has 0 Hz, the divider is not 1 to 4, or the phase is over 3.
-#[tactic(auto, unfolding(crate::specs::Rules::aux_bad))]
 pub fn aux_bad(source: u32, aux: Option<AuxClkConfig>) -> bool
     ensures { result ≡ aux_bad source aux }
 {
@@ -92,7 +89,6 @@ pub fn aux_bad(source: u32, aux: Option<AuxClkConfig>) -> bool
 }
 
 // Refusal 14: the source has 0 Hz, the whole part is not 1 to 16777215, the phase is over 3, or the RTC has over 65535 Hz.
-#[tactic(auto, unfolding(crate::specs::Rules::rtc_bad))]
 pub fn rtc_bad(source: u32, hz: u64, rtc: Option<RtcClkConfig>) -> bool
     ensures { result ≡ rtc_bad source hz rtc }
 {
