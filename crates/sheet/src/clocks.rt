@@ -70,7 +70,6 @@ fn put_divider(words: &mut Words, at: usize, chip: Chip, whole: u64, fraction: u
     }
 }
 
-#[tactic(auto, using(crate::proofs::Gathering::pushes_append), unfolding(crate::specs::Steps::sys_part))]
 fn put_sys(words: &mut Words, at: usize, chip: ChipSettings, hz: u64, src: SysClkSrc) -> usize
     ensures { held words.new result ≡ pushes (held words.old at) (sys_part chip hz src) }
 {
