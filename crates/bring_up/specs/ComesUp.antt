@@ -6,7 +6,7 @@ use Rattle.chip.specs.declared.Chip.{Chip}
 use Rattle.config.specs.declared.ClockConfig.{ClockConfig}
 use Rattle.settings.specs.{Settings.settings_of, Frequencies.ten_of}
 use Rattle.sheet.specs.{Steps.most_steps, Writer.sheet_bytes, Writer.InitCall}
-use Rattle.runner.specs.{declared.Runner.Runner, Run.started_with, Run.start_of, Run.outcome}
+use Rattle.runner.specs.{declared.Runner.Runner, Run.lock_timeout, Run.started_with, Run.start_of, Run.outcome}
 use Rattle.bring_up.specs.{Up.plan_steps, Wait.HearsAtMost, Wait.UpAfter, Wait.UpWithin}
 
 -- at most 10 steps of a sheet are waits
@@ -21,7 +21,7 @@ most_calls chip k = most_steps chip + max_waits * k
 -- frequencies
 abbrev pub UpInTime : Chip → List ℕ → List ℕ → Type 0
 UpInTime chip sheet freqs =
-    (k : ℕ) → k < 1000000 → (ready : ℕ → Bool) → HearsAtMost k sheet ready
+    (k : ℕ) → k < lock_timeout → (ready : ℕ → Bool) → HearsAtMost k sheet ready
     → UpWithin (most_calls chip k) sheet ready freqs
 
 -- with no unready poll, done comes after exactly this many calls
@@ -49,10 +49,10 @@ InitComesUp =
 
 -- `longest_wait`, for both chips: from 1000000 unready polls on a lock can time out, and the answer is the 32-bit maximum
 unfoldable pub longest_wait : ℕ → ℕ
-longest_wait k = pick (ltb k 1000000) (max_steps + max_waits * k) u32
+longest_wait k = pick (ltb k lock_timeout) (max_steps + max_waits * k) u32
 
 -- it bounds the calls of either chip wherever there is a bound
 abbrev pub LongestCovers : Type 0
 LongestCovers =
     (chip : Chip) (k : ℕ)
-    → (k < 1000000 → most_calls chip k ≤ longest_wait k) × (1000000 ≤ k → longest_wait k ≡ u32)
+    → (k < lock_timeout → most_calls chip k ≤ longest_wait k) × (lock_timeout ≤ k → longest_wait k ≡ u32)

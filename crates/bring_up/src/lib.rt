@@ -8,6 +8,7 @@
 ghost use Rattle.std.specs.Prelude.{◌≡◌};
 ghost use Rattle.bring_up.specs.ComesUp.{longest_wait};
 
+use runner::MOST_LOCK_POLLS;
 use step::MAX_STEPS;
 
 // The greatest number of waits in a sheet.
@@ -20,7 +21,7 @@ const MAX_WAITS: u32 = 10;
 pub fn longest_wait(k: u32) -> u32
     ensures { result ≡ longest_wait k }
 {
-    if k < 1000000 {
+    if k <= MOST_LOCK_POLLS {
         MAX_STEPS as u32 + MAX_WAITS * k
     } else {
         4294967295

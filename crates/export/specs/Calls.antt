@@ -9,7 +9,7 @@ use Rattle.config.specs.declared.ClockConfig.{ClockConfig}
 use Rattle.settings.specs.{Settings.settings_of, Frequencies.ten_of}
 use Rattle.sheet.specs.Writer.{sheet_bytes}
 use Rattle.step.specs.Size.{bad_size}
-use Rattle.runner.specs.{declared.Runner.Runner, Run.start_of, Calls.Call, Calls.call, Calls.flags_of}
+use Rattle.runner.specs.{declared.Runner.Runner, Run.start_of, Run.lock_timeout, Calls.Call, Calls.call, Calls.flags_of}
 use Rattle.boards.specs.{Bench.start_all_of, History.Own, History.start, History.poll, History.BenchEvent, History.own_of}
 use Rattle.sleep.specs.{declared.Slot.Slot, declared.steps.Step.Step, Sleep.SleepOutcome, Sleep.wake_steps, Sleep.sleep_of}
 use Rattle.sleep.specs.{Sleep.wake_of, History.SleepEvent, History.sleeps, History.wakes, History.writes, History.last_sleep}
@@ -91,7 +91,7 @@ pub record ExportedUp (p : ClockConfig) (reading : ℕ) (h : Held) (k : ℕ) (re
 
 abbrev pub ExportedComesUp : ClockConfig → ℕ → Type 0
 ExportedComesUp p reading =
-    (h : Held) (k : ℕ) → k < 1000000 → (ready : ℕ → Bool) → HearsAtMost k (sheet_bytes p reading) ready
+    (h : Held) (k : ℕ) → k < lock_timeout → (ready : ℕ → Bool) → HearsAtMost k (sheet_bytes p reading) ready
     → ExportedUp p reading h k ready
 
 -- ---- a bench: 113 numbers, and the kept bytes

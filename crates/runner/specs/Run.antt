@@ -63,12 +63,19 @@ polled s polls stopped =
 abbrev pub waits : State → ℕ → Outcome State
 waits s polls = outcome (value Waiting) (polled s polls s.stopped)
 
+-- the unready poll at a wait for lock that is refused, and the most that are counted
+abbrev pub lock_timeout : ℕ
+lock_timeout = 1000000
+
+abbrev pub most_lock_polls : ℕ
+most_lock_polls = 999999
+
 -- rule 8 of a call: unready is waiting, and at the wait for lock adds one lock poll; the 1000000th of these is
 -- refused with 22 and stops the runner
 unfoldable pub unready : State → Kind → Outcome State
 unready s wait =
     pick (not (is wait kind.WaitLock)) (waits s s.lock_polls)
-    (pick (ltb (s.lock_polls + 1) 1000000) (waits s (s.lock_polls + 1))
+    (pick (ltb (s.lock_polls + 1) lock_timeout) (waits s (s.lock_polls + 1))
     (outcome (refusal 22) (polled s s.lock_polls true)))
 
 -- on ready a wait is passed and the lock polls become 0; any other step is handed out
@@ -83,9 +90,9 @@ unfoldable pub take_read : State → Answer Step → Bool → Outcome State
 take_read s (value step) ready = take_step s step ready
 take_read s (refusal n) ready = outcome (refusal n) s
 
--- refusal 21: position over the greatest number of steps, lock polls over 999999, or a kept length that no sheet has
+-- refusal 21: position over the greatest number of steps, more lock polls than are counted, or a kept length that no sheet has
 unfoldable pub outside : State → ℕ → Bool
-outside s len = (ltb max_steps s.position || ltb 999999 s.lock_polls) || bad_size len
+outside s len = (ltb max_steps s.position || ltb most_lock_polls s.lock_polls) || bad_size len
 
 -- done past the last step, else the step
 unfoldable pub onward_of : State → List ℕ → Bool → Outcome State

@@ -13,7 +13,8 @@ ghost use Rattle.runner.specs.Run.{outcome, turn_of, stepper_of, advance_of, sta
 use base::Refusal;
 pub use step::Clock;
 use step::{MAX_BYTES, MAX_STEPS, Step};
-use stepping::{MOST_LOCK_POLLS, store};
+pub use stepping::MOST_LOCK_POLLS;
+use stepping::store;
 
 // The state of a runner without the frequencies. `stopped` is a mark of the C interface, with no value beside it for an Option.
 #[derive(Clone, Copy)]

@@ -2,14 +2,14 @@
 ghost use Rattle.std.specs.Prelude.{◌≡◌, ◌<◌, ◌≤◌, length};
 ghost use Rattle.base.specs.Answer.{answer_of};
 ghost use Rattle.step.specs.{Sheet.max_steps, Steps.WellFormed};
-ghost use Rattle.runner.specs.Run.{outcome, is_wait, unready, take_step, onward_of, stored_by};
+ghost use Rattle.runner.specs.Run.{lock_timeout, outcome, is_wait, unready, take_step, onward_of, stored_by};
 
 use crate::{Reply, State};
 use base::Refusal;
 use step::{Kind, Step};
 
 // The most lock polls that are counted: the next one is the 1000000th, which is refused.
-pub(crate) const MOST_LOCK_POLLS: u32 = 999999;
+pub const MOST_LOCK_POLLS: u32 = 999999;
 
 // Whether a kind of step is a wait.
 fn is_wait(of: Kind) -> bool
@@ -25,7 +25,7 @@ fn is_wait(of: Kind) -> bool
 impl State {
     // A wait that is not ready: waiting, or at the last lock poll refusal 22, which stops the runner.
     fn wait_unready(&mut self, wait: Kind) -> Result<Reply, Refusal>
-        requires { self.old.lock_polls < 1000000 }
+        requires { self.old.lock_polls < lock_timeout }
         ensures { outcome (answer_of result) self.new ≡ unready self.old wait }
     {
         self.total = self.total.saturating_add(1);
@@ -43,7 +43,7 @@ impl State {
     // The answer at a step: a wait is passed or waits; any other step is handed out.
     #[tactic(auto, unfolding(crate::specs::Run::take_step))]
     fn take_step(&mut self, step: Step, ready: bool) -> Result<Reply, Refusal>
-        requires { (self.old.position ≤ max_steps) × (self.old.lock_polls < 1000000) }
+        requires { (self.old.position ≤ max_steps) × (self.old.lock_polls < lock_timeout) }
         ensures { outcome (answer_of result) self.new ≡ take_step self.old step ready }
     {
         if !is_wait(step.kind) {
@@ -62,7 +62,7 @@ impl State {
     // applies a store.
     #[tactic(auto, using(crate::proofs::Calls::counting), unfolding(crate::specs::Run::onward_of, crate::specs::Run::take_read))]
     pub(crate) fn onward(&mut self, sheet: &[u8], ready: bool) -> Result<Reply, Refusal>
-        requires { (self.old.position ≤ max_steps) × (self.old.lock_polls < 1000000) }
+        requires { (self.old.position ≤ max_steps) × (self.old.lock_polls < lock_timeout) }
         ensures { outcome (answer_of result) self.new ≡ onward_of self.old sheet.now ready }
     {
         let at = 8 * self.position;
