@@ -22,7 +22,6 @@ fn pll_invalid(pll: Option<PllConfig>, known_hz: u32) -> bool
 }
 
 // Whether a crystal's system PLL is invalid, and whether its USB PLL is.
-#[tactic(auto, unfolding(settings::specs::Frequencies::sources_of, crate::specs::Rules::sys_pll_invalid, crate::specs::Rules::usb_pll_invalid))]
 fn plls_invalid(crystal: Option<Crystal>, f: Sources) -> (bool, bool)
     ensures { (ring : Option RoscConfig) → f ≡ sources_of ring crystal
         → (result.0 ≡ sys_pll_invalid crystal) × (result.1 ≡ usb_pll_invalid crystal) }
