@@ -76,7 +76,7 @@ fn put_settling(words: &mut Words, at: usize, settling: Option<u64>) -> usize
 }
 
 // Appends the voltage step. Each chip has its arm, as a constant kind compiles to a few shifts: by the kind in `facts()` a sheet takes 97
-// instructions more, and 277 where the voltage changes; a random plan's is eight below its bar (docs/SPEED.md).
+// instructions more, and 277 where the voltage changes; a random plan's is close to its bar (docs/SPEED.md).
 fn put_code(words: &mut Words, at: usize, chip: Chip, code: u64) -> usize
     ensures { held words.new result ≡ pushed (held words.old at) (step1 (facts_of chip).voltage code) }
 {

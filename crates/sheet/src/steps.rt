@@ -1,6 +1,6 @@
 // The steps of a sheet, collected in an array of byte-swapped words, which is copied to the sheet without further change. The
 // first `at` words are in use, and each function answers the new number of words in use: a struct of the array and the number keeps
-// the number in memory, which took 292 instructions more for each sheet (docs/DECISIONS.md, 92); a random plan's is eight below its
+// the number in memory, which took 292 instructions more for each sheet (docs/DECISIONS.md, 92); a random plan's is close to its
 // bar (docs/SPEED.md).
 
 ghost use Rattle.std.specs.Prelude.{◌≡◌, get_or};
