@@ -15,12 +15,10 @@ use Rattle.pll.specs.declared.PllConfig.{PllConfig}
 use Rattle.config.specs.{ChipSettings.chip_of, Codes.ref_code}
 use Rattle.config.proofs.OnChip.{on_chip}
 use Rattle.settings.proofs.Decoded.{ref-code, sys-code, volts-small}
-use Rattle.numbers.specs.Row.{ring_on, pll_on, time_on, peri_on, aux_on, rtc_on}
-use Rattle.numbers.specs.Row.{part_row, crystal_on, sys_pll_in, usb_pll_in, oscillator_row, first_row, sys_row, clock_row}
-use Rattle.numbers.specs.Row.{rtc_numbers, plan_row}
+use Rattle.numbers.specs.Row.{ring_on, pll_on, time_on, peri_on, aux_on, rtc_on, part_row, crystal_on, sys_pll_in, usb_pll_in}
+use Rattle.numbers.specs.Row.{oscillator_row, first_row, sys_row, clock_row, rtc_numbers, plan_row}
 use Rattle.numbers.specs.Plan.{whole_oscillators, whole_clocks, whole_chip, whole_plan, strengths_at, ring_at, option_pll_at, crystal_at}
-use Rattle.numbers.specs.Plan.{divided_at, rtc_at, chip_at, plan_at, flagged, part2040, part235x}
-use Rattle.numbers.specs.Plan.{plan_numbered}
+use Rattle.numbers.specs.Plan.{divided_at, rtc_at, chip_at, plan_at, flagged, part2040, part235x, plan_numbered}
 use Rattle.numbers.specs.{Fields.nth, Fields.byte_at, Parts.fit_from, Parts.is_part, Answers.of_value}
 use Rattle.numbers.specs.{Typed.PllTyped, Typed.CrystalTyped, Typed.ChipTyped, Typed.PlanTyped}
 use Rattle.numbers.proofs.PartRows.{row_from, row-whole, cut, both, fits, gone, codes, code_read, ring_limits}

@@ -68,7 +68,7 @@ abbrev pub lock_timeout : ℕ
 lock_timeout = 1000000
 
 abbrev pub most_lock_polls : ℕ
-most_lock_polls = 999999
+most_lock_polls = lock_timeout - 1
 
 -- rule 8 of a call: unready is waiting, and at the wait for lock adds one lock poll; the 1000000th of these is
 -- refused with 22 and stops the runner
