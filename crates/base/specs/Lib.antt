@@ -4,3 +4,4 @@ pub mod Refusals
 pub mod Answer
 pub mod Placed
 pub mod Writing
+pub mod Bounded

@@ -3,7 +3,7 @@ use Rattle.std.specs.Prelude.{◌≡◌, Bool, true, false, List, ◌++◌, ℕ,
 use mathlib.Core.{Path.refl, Path.sym, Path.ap, Path.◌∙◌, List.append-nil}
 use native.Mathlib.Omega.{arith}
 use lib.Seq.{drop-length, sets, sets-eq}
-use Rattle.base.specs.{Answer.value, Answer.refusal, Choice.pick, Placed.Placed}
+use Rattle.base.specs.{Answer.value, Answer.refusal, Choice.pick, Placed.Placed, Bounded.Bounded}
 use Rattle.base.proofs.Bools.{either_way}
 use Rattle.sleep.specs.declared.{Slot.Slot, steps.Step.Step}
 use Rattle.sleep.specs.Sleep.{SleepOutcome, outcome, sleep_of, wake_of, slot_at}
@@ -46,9 +46,9 @@ module _ (wakes : Bool) (slots : List Slot) (slot : ℕ) (ws : List ℕ) where
       record { answer = rw a f; slots_left = rw a refl; words_left = rw a w; steps_left = rw a refl }
 
   -- the call is carried out: its slots, words and steps are written
-  pub carried : (list : List Step) (r i : ℕ) (after : List ℕ) (kept : List Slot) (numbers numbers' steps steps' : List ℕ)
+  pub carried : (list : Bounded Step) (r i : ℕ) (after : List ℕ) (kept : List Slot) (numbers numbers' steps steps' : List ℕ)
       → outcome (value list) after kept ≡ call → length ws ≡ length after → Placed numbers 0 (slots_numbers kept) i numbers'
-      → Placed steps 0 (steps_numbers list) r steps' → SlotsCall (Some call) numbers ws steps r numbers' after steps'
+      → Placed steps 0 (steps_numbers list.list) r steps' → SlotsCall (Some call) numbers ws steps r numbers' after steps'
   carried list r i after kept numbers numbers' steps steps' e long p q =
       let whole : sets ws 0 after ≡ after = sets-all after ws (sym long) in
       rw (← e) (record { answer = q.index; slots_left = p.bytes; words_left = sym whole; steps_left = q.bytes })

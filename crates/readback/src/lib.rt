@@ -54,7 +54,7 @@ impl<'a> Iterator for Reader<'a> {
 
 // The steps of a sheet, at most 66, as no sheet of a plan has more, taken by one reader from the first to the last.
 pub fn steps_of(sheet: &[u8]) -> Steps
-    ensures { result ≡ steps_read sheet.now }
+    ensures { result.list ≡ steps_read sheet.now }
 {
     let mut steps = Steps::new(NO_STEP);
     for step in (Reader { sheet, at: 0 }).take(MAX_STEPS) {

@@ -1,6 +1,6 @@
 -- Sleep and wake (docs/SLEEP.md): their answers, and the words and slots after them.
 use Rattle.std.specs.Prelude.{ℕ, Bool, true, false, List, [], ◌∷◌, ◌++◌, map, ltb, get_or, set, replicate}
-use Rattle.base.specs.{Answer.Answer, Answer.value, Answer.refusal, Choice.pick}
+use Rattle.base.specs.{Answer.Answer, Answer.value, Answer.refusal, Choice.pick, Bounded.Bounded}
 use Rattle.sleep.specs.declared.steps.Step.TheVariants.{Write, RingStable, CrystalStable, Locked}
 use Rattle.sleep.specs.{declared.register.Register.Register, declared.steps.Step.Step, declared.Slot.Slot, Registers.number_of}
 use Rattle.sleep.specs.{Bits.pll_runs, Bits.crystal_runs, Words.word_in, Words.asleep}
@@ -13,8 +13,13 @@ pub record SleepOutcome : Type 0 where
   pub words : List ℕ
   pub slots : List Slot
 
-abbrev pub outcome : Answer (List Step) → List ℕ → List Slot → SleepOutcome
-outcome answer ws slots = record { answer = answer; words = ws; slots = slots }
+-- the steps that the list of an answer holds
+abbrev pub steps_held : Answer (Bounded Step) → Answer (List Step)
+steps_held (value steps) = value steps.list
+steps_held (refusal n) = refusal n
+
+abbrev pub outcome : Answer (Bounded Step) → List ℕ → List Slot → SleepOutcome
+outcome answer ws slots = record { answer = steps_held answer; words = ws; slots = slots }
 
 -- the steps of an answer; a refusal has none
 abbrev pub answer_steps : Answer (List Step) → List Step

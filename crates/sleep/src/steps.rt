@@ -27,8 +27,8 @@ pub type Steps = BoundedList<Step, 14>;
 
 // Appends a step if the test holds.
 fn push_if(steps: &mut Steps, test: bool, step: Step)
-    requires { length steps.old < 14 }
-    ensures { steps.new ≡ steps.old ++ wait_if test step }
+    requires { length steps.old.list < 14 }
+    ensures { steps.new.list ≡ steps.old.list ++ wait_if test step }
 {
     if test {
         steps.push(step);
@@ -38,8 +38,8 @@ fn push_if(steps: &mut Steps, test: bool, step: Step)
 // Appends the writes of these registers' words.
 #[tactic(auto, using(std::proofs::lemmas::List::map_more))]
 fn write(steps: &mut Steps, words: &[u32; 11], registers: &[Register])
-    requires { length steps.old + length registers.now ≤ 14 }
-    ensures { steps.new ≡ steps.old ++ writes words.now registers.now }
+    requires { length steps.old.list + length registers.now ≤ 14 }
+    ensures { steps.new.list ≡ steps.old.list ++ writes words.now registers.now }
 {
     for &register in registers {
         let value = words[register as usize];
@@ -50,7 +50,7 @@ fn write(steps: &mut Steps, words: &[u32; 11], registers: &[Register])
 // The steps into sleep, which write the words of a sleeping chip.
 #[tactic(auto, unfolding(crate::specs::Sleep::sleep_steps))]
 pub(crate) fn to_sleep(words: &[u32; 11]) -> Steps
-    ensures { result ≡ sleep_steps words.now }
+    ensures { result.list ≡ sleep_steps words.now }
 {
     let mut steps = Steps::new(Step::RingStable);
     write(
@@ -70,7 +70,7 @@ pub(crate) fn to_sleep(words: &[u32; 11]) -> Steps
 // The steps of a wake, which write the saved words back.
 #[tactic(auto, unfolding(crate::specs::Sleep::wake_steps_by))]
 pub(crate) fn to_wake(words: &[u32; 11]) -> Steps
-    ensures { result ≡ wake_steps words.now }
+    ensures { result.list ≡ wake_steps words.now }
 {
     let crystal = bits::crystal_runs(words[XoscCtrl as usize]);
     let usb = bits::pll_runs(words[PllUsbPwr as usize]);

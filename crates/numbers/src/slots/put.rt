@@ -41,7 +41,7 @@ fn put_step(out: &mut Writer<'_, u32>, step: Step)
 
 // Writes the steps, two numbers each.
 pub fn put_steps(out: &mut Writer<'_, u32>, steps: &Steps)
-    ensures { Puts out.old (steps_numbers steps.now) out.new }
+    ensures { Puts out.old (steps_numbers steps.now.list) out.new }
 {
     for &step in steps.as_slice() {
         put_step(out, step);

@@ -4,4 +4,4 @@ use Rattle.readback.proofs.Gathered.{Onward}
 use Rattle.readback.proofs.steps_of.Given as goal
 
 abbrev pub invariant-loop-step : goal.invariant-loop-step
-invariant-loop-step l = Onward l.sheet l.steps (take_source l.step-iterator) (take_count l.step-iterator)
+invariant-loop-step l = Onward l.sheet l.steps.list (take_source l.step-iterator) (take_count l.step-iterator)

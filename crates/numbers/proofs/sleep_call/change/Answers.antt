@@ -18,7 +18,7 @@ returns-in-Ok c =
     let q = (finished c.new-out-in-Ok.result c.put_steps.new.out _ c.new-out-in-Ok.ensures c.put_steps.ensures).placed in
     let asks = rw c.are_slots.ensures at c.if-not-slot-are_slots.false in
     let call = rw (c.in-Ok.is, c.slots-held.ensures) at c.asked.ensures in
-    rw (asks, words_whole c.args.words.now (omega arith)) (carried _ _ _ _ _ _ _ _ _ _ _ _ _ call (omega arith) p q)
+    rw (asks, words_whole c.args.words.now (omega arith)) (carried _ _ _ _ c.in-Ok.list _ _ _ _ _ _ _ _ call (omega arith) p q)
 
 pub returns-in-Err : goal.returns-in-Err
 returns-in-Err c =

@@ -4,4 +4,4 @@ use Rattle.sleep.specs.Sleep.{writes}
 use Rattle.sleep.proofs.steps.write.Given as goal
 
 abbrev pub invariant-loop-register : goal.invariant-loop-register
-invariant-loop-register l = l.steps ≡ l.initial.steps ++ writes l.words (take l.register-index l.registers)
+invariant-loop-register l = l.steps.list ≡ l.initial.steps.list ++ writes l.words (take l.register-index l.registers)
