@@ -1,5 +1,5 @@
 -- A bench given as numbers: a call for a board is the runner's call over the board's numbers, and a start that is refused for
--- one bench is refused for each.
+-- a runner is refused for each bench.
 use Rattle.std.specs.Prelude.{Bool, List, ◌≡◌, refl, ℕ, zero, suc, ◌+◌, ◌*◌, ◌<◌, ◌≤◌, length, get_or}
 use mathlib.Core.Path.{sym, ap, ◌∙◌}
 use native.Mathlib.Omega.{arith}
@@ -9,12 +9,14 @@ use Rattle.numbers.specs.Run.{progress_number, with_state, with_freqs, run_numbe
 use Rattle.numbers.specs.Bench.{runner_at, stepper_at, boards_from, bench_in, fourteen, bench_number, bench_leaves}
 use Rattle.numbers.specs.Bench.{start_all_leaves, StartAllCall}
 use Rattle.numbers.specs.{Fields.nth, Answers.answer_number, Answers.refusals, Answers.malformed}
-use Rattle.runner.specs.{declared.Stepper.Stepper, Run.Outcome, Run.outcome, Run.stepper_of, Run.advance_of, Run.StartOutcome}
+use Rattle.runner.specs.{declared.Stepper.Stepper, declared.Runner.Runner, Run.Outcome, Run.outcome, Run.stepper_of, Run.advance_of}
+use Rattle.runner.specs.Run.{StartOutcome, start_of}
 use Rattle.base.specs.Answer.{refusal}
 use Rattle.base.proofs.Bools.{either_way}
 use Rattle.step.specs.Size.{bad_size}
-use Rattle.boards.specs.{declared.Bench.Bench, Bench.no_board, Bench.board_at, Bench.in_bench, Bench.bench_of, Bench.start_all_of}
-use Rattle.boards.proofs.Benches.{all-refused, all-kept, over-seven, of-eight}
+use Rattle.boards.specs.{declared.Bench.Bench, Bench.no_board, Bench.board_at, Bench.in_bench, Bench.bench_of}
+use Rattle.boards.proofs.Benches.{all-refused, over-seven, of-eight}
+use Rattle.runner.proofs.Starts.{start-refused, start-kept}
 
 board-from : (count n i : ℕ) (ns : List ℕ) → i < count
     → get_or (boards_from count n ns) i no_board ≡ stepper_at ns (n + i)
@@ -72,19 +74,19 @@ module _ (ns kept : List ℕ) (n : ℕ) (sheet : List ℕ) (ready : Bool) where
       board-leaves = rw (le-ltb 7 n few, le-leb _ _ good, next-board) refl
 
 -- the number of a start's answer
-abbrev start_number : StartOutcome Bench → ℕ
+abbrev start_number : {A : Type 0} → StartOutcome A → ℕ
 start_number x = answer_number go_number x.answer
 
--- a start that is refused for one bench is refused for each, and leaves each
-pub refused-start : (ns kept sheet : List ℕ) (b after : Bench) (n : ℕ) → outcome (refusal n) after ≡ start_all_of b sheet
+-- a start that is refused for a runner is refused for each bench, and leaves each
+pub refused-start : (ns kept sheet : List ℕ) (r after : Runner) (n : ℕ) → outcome (refusal n) after ≡ start_of r sheet
     → StartAllCall ns kept sheet (refusals + n) ns kept
-refused-start ns kept sheet b after n e =
+refused-start ns kept sheet r after n e =
     either_way (bad_size (length sheet))
     (λ bad.
     let each = all-refused (bench_in ns kept) sheet bad in
     record {
-      answer = ap start_number (e ∙ sym (all-refused b sheet bad)) ∙ ap start_number each;
+      answer = ap start_number (e ∙ sym (start-refused r sheet bad)) ∙ ap start_number each;
       numbers = ap (λ (x : StartOutcome Bench). start_all_leaves x.answer ns x.next.len) each;
       bytes = ap (λ (x : StartOutcome Bench). x.next.kept) each;
     })
-    (λ ok. let no : refusals + n ≡ 0 = ap start_number (e ∙ sym (all-kept b sheet ok)) in absurd (omega (arith, no)))
+    (λ ok. let no : refusals + n ≡ 0 = ap start_number (e ∙ sym (start-kept r sheet ok)) in absurd (omega (arith, no)))

@@ -1,4 +1,4 @@
--- `export::bench::dizbaral_bench_start` meets its contract: what refuses a start of a fresh bench refuses it for any bench.
+-- `export::bench::dizbaral_bench_start` meets its contract: what refuses a start of a fresh runner refuses it for any bench.
 use Rattle.numbers.proofs.Boards.{refused-start}
 use Rattle.export.proofs.bench.dizbaral_bench_start.Goals as goal
 
