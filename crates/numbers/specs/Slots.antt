@@ -2,7 +2,7 @@
 use Rattle.std.specs.Prelude.{List, [], ◌∷◌, ℕ, ◌+◌, eqb, flat_map}
 use Rattle.base.specs.Choice.{bit}
 use Rattle.numbers.specs.Fields.{nth}
-use Rattle.sleep.specs.declared.steps.Step.TheVariants.{Write, RingStable, CrystalStable, Locked}
+use Rattle.sleep.specs.declared.steps.Step.TheVariants.{Write, RingStable, CrystalStable, Locked, Numbered}
 use Rattle.sleep.specs.{declared.Slot.Slot, declared.steps.Step.Step, Registers.number_of}
 use Rattle.step.specs.Clocks.{pll_number}
 
@@ -35,6 +35,7 @@ step_numbers (Write r v) = number_of r ∷ v ∷ []
 step_numbers RingStable = 11 ∷ 0 ∷ []
 step_numbers CrystalStable = 12 ∷ 0 ∷ []
 step_numbers (Locked pll) = (13 + pll_number pll) ∷ 0 ∷ []
+step_numbers (Numbered code v) = code ∷ v ∷ []
 
 -- the numbers of each step, one after another
 abbrev pub steps_numbers : List Step → List ℕ

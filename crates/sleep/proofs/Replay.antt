@@ -4,7 +4,7 @@ use native.Mathlib.Omega.{arith}
 use mathlib.Core.Path.{◌∙◌}
 use lib.ListN.{length-set}
 use Rattle.base.proofs.Bools.{either_way}
-use Rattle.sleep.specs.declared.steps.Step.TheVariants.{Write, RingStable, CrystalStable, Locked}
+use Rattle.sleep.specs.declared.steps.Step.TheVariants.{Write, RingStable, CrystalStable, Locked, Numbered}
 use Rattle.sleep.specs.Sleep.{answer_steps, wait_if, sleep_steps, wake_steps_by, wake_steps, slot_at, sleep_of, wake_of}
 use Rattle.sleep.specs.History.{written, replayed, order, wait_steps}
 use Rattle.sleep.specs.{declared.steps.Step.Step, declared.Slot.Slot, Registers.number_of, Bits.pll_runs, Bits.crystal_runs}
@@ -18,6 +18,7 @@ length-written (Write r v) ws = length-set ws (number_of r) v
 length-written RingStable ws = refl
 length-written CrystalStable ws = refl
 length-written (Locked pll) ws = refl
+length-written (Numbered code v) ws = length-set ws code v
 
 pub length-replayed : (steps : List Step) (ws : List ℕ) → length (replayed steps ws) ≡ length ws
 length-replayed [] ws = refl

@@ -1,18 +1,19 @@
 -- The registers and the slots after any history of sleeps, wakes and other register writes (docs/SLEEP.md).
 use Rattle.std.specs.Prelude.{ℕ, ◌<◌, Option, Some, None, ◌≡◌, List, [], ◌∷◌, ltb, eqb, length, set}
 use Rattle.base.specs.Choice.{pick}
-use Rattle.sleep.specs.declared.steps.Step.TheVariants.{Write, RingStable, CrystalStable, Locked}
+use Rattle.sleep.specs.declared.steps.Step.TheVariants.{Write, RingStable, CrystalStable, Locked, Numbered}
 use Rattle.sleep.specs.Sleep.{SleepOutcome, answer_steps, fresh_slots, refused_call, woken, sleep_of, wake_of}
 use Rattle.sleep.specs.{declared.steps.Step.Step, declared.Slot.Slot, Registers.number_of}
 
 -- ---- the steps of an answer
 
--- the registers after a step: a write sets one, a wait none
+-- the registers after a step: a write sets one, a wait none; a step by its numbers is a write where the first is a register's
 abbrev pub written : Step → List ℕ → List ℕ
 written (Write r v) ws = set ws (number_of r) v
 written RingStable ws = ws
 written CrystalStable ws = ws
 written (Locked pll) ws = ws
+written (Numbered code v) ws = set ws code v
 
 abbrev pub replayed : List Step → List ℕ → List ℕ
 replayed [] ws = ws
@@ -25,6 +26,7 @@ order (Write r v ∷ steps) = number_of r ∷ order steps
 order (RingStable ∷ steps) = order steps
 order (CrystalStable ∷ steps) = order steps
 order (Locked pll ∷ steps) = order steps
+order (Numbered code v ∷ steps) = pick (ltb code 11) (code ∷ order steps) (order steps)
 
 -- the waits, in order
 abbrev pub wait_steps : List Step → List Step
@@ -33,6 +35,7 @@ wait_steps (Write r v ∷ steps) = wait_steps steps
 wait_steps (RingStable ∷ steps) = RingStable ∷ wait_steps steps
 wait_steps (CrystalStable ∷ steps) = CrystalStable ∷ wait_steps steps
 wait_steps (Locked pll ∷ steps) = Locked pll ∷ wait_steps steps
+wait_steps (Numbered code v ∷ steps) = pick (ltb code 11) (wait_steps steps) (Numbered code v ∷ wait_steps steps)
 
 -- ---- a history
 

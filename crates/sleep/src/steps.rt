@@ -9,7 +9,7 @@ use crate::register::Register::{
 use crate::{Pll, Register, bits};
 use base::BoundedList;
 
-// A step: a register write or a wait.
+// A step: a register write, a wait, or any two numbers.
 #[derive(Clone, Copy)]
 pub enum Step {
     // Write the value to a register.
@@ -20,6 +20,8 @@ pub enum Step {
     CrystalStable,
     // Wait until the PLL has locked.
     Locked(Pll),
+    // A step by its two numbers (docs/SLEEP.md, As numbers), whichever they are; no sleep and no wake has one.
+    Numbered { code: u16, value: u32 },
 }
 
 // The steps of a sleep or a wake, at most 14.

@@ -26,7 +26,7 @@ pub fn put_slots(out: &mut Writer<'_, u32>, slots: &[Slot; 4])
     }
 }
 
-// Writes a step: a register and its value, or a wait's code (11 ring, 12 crystal, 13 and 14 PLLs) and 0.
+// Writes a step: a register and its value, a wait's code (11 ring, 12 crystal, 13 and 14 PLLs) and 0, or its own two numbers.
 fn put_step(out: &mut Writer<'_, u32>, step: Step)
     ensures { Puts out.old (step_numbers step) out.new }
 {
@@ -35,6 +35,7 @@ fn put_step(out: &mut Writer<'_, u32>, step: Step)
         Step::RingStable => [11, 0],
         Step::CrystalStable => [12, 0],
         Step::Locked(pll) => [13 + pll as u32, 0],
+        Step::Numbered { code, value } => [u32::from(code), value],
     };
     out.put_all(&numbers);
 }
