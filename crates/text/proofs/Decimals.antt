@@ -51,6 +51,10 @@ by_digits P small more (suc k) n h = elim (dec_lt n 10) [
       rw (decimal_more n m) (more n (decimal_of (n / 10)) m (by_digits P small more k (n / 10) (omega arith)))
 ]
 
+pub value_grows : (cs : List ℕ) (n : ℕ) → n ≤ value_after n cs
+value_grows [] n = omega arith
+value_grows (c ∷ cs) n = let h = value_grows cs (n * 10 + (c - 48)) in omega arith
+
 value-last : (cs : List ℕ) (n d : ℕ) → value_after n (cs ++ (d ∷ [])) ≡ value_after n cs * 10 + (d - 48)
 value-last [] n d = refl
 value-last (c ∷ cs) n d = value-last cs (n * 10 + (c - 48)) d

@@ -1,15 +1,21 @@
 -- Hex digits are printed byte by byte and read pair by pair, and printed bytes read back as themselves.
-use Rattle.std.specs.Prelude.{◌≡◌, refl, Bool, true, false, ◌&&◌, ◌||◌, List, [], ◌∷◌, ◌++◌, map, ℕ, suc, ◌+◌, ◌*◌, ◌/◌, ◌%◌, ◌≤◌}
-use Rattle.std.specs.Prelude.{◌<◌, ltb, length, take, get_or, Some, None}
+use Rattle.std.specs.Prelude.{◌≡◌, refl, Bool, true, false, ◌&&◌, ◌||◌, List, [], ◌∷◌, ◌++◌, map, ℕ, suc, ◌+◌, ◌-◌, ◌*◌, ◌/◌, ◌%◌, ◌≤◌}
+use Rattle.std.specs.Prelude.{◌<◌, eqb, ltb, length, take, get_or, Some, None}
 use mathlib.Core.Path.{ap}
 use native.Mathlib.{Decide.dec_lt, Numerals.add-one, Omega.arith}
 use borrow.Author.Tests.{lt-ltb, le-ltb, le-leb, lt-leb, ltb-true}
 use lib.{Pow.are_bytes, Seq.take-suc}
 use Rattle.std.specs.{Char.is_ascii_hexdigit, List.list_all, Simd.first_chunks}
-use Rattle.base.specs.{Choice.in_range, Placed.Placed}
+use Rattle.base.specs.{Choice.pick, Choice.in_range, Placed.Placed}
+use Rattle.base.proofs.Bools.{either_way, in-range}
 use Rattle.std.proofs.lemmas.Bool.{and_parts}
 use Rattle.text.specs.{Decimal.is_digit, Hex.hex_digit, Hex.hex_pair, Hex.hex_digits, Hex.hex_of, Hex.hex_value, Hex.is_hex}
 use Rattle.text.specs.Hex.{is_pair, are_pairs, pair_values, is_hex_word, is_readable, HexReading}
+
+-- a byte's two digits
+pub hex-pair : (b high low : ℕ) → b < 256 → high ≡ hex_digit (b / 16 % 16) → low ≡ hex_digit (b % 16)
+    → high ∷ low ∷ [] ≡ hex_pair b
+hex-pair b high low h p q = let e : b / 16 % 16 ≡ b / 16 = omega arith in rw (p, q, e)
 
 hex-append : (xs ys : List ℕ) → hex_digits (xs ++ ys) ≡ hex_digits xs ++ hex_digits ys
 hex-append [] ys = refl
@@ -76,6 +82,34 @@ pub length_pairs : (w : List ℕ) → length (pair_values w) ≡ length w / 2
 length_pairs [] = refl
 length_pairs (a ∷ []) = refl
 length_pairs (a ∷ b ∷ cs) = let e = length_pairs cs in omega arith
+
+-- a word of no byte, of one and of more
+pub word_none : (w : List ℕ) → length w ≡ 0 → false ≡ is_hex_word w
+word_none [] h = refl
+word_none (a ∷ cs) h = absurd (omega arith)
+
+pub word-one : (w : List ℕ) → length w ≡ 1 → eqb (get_or w 0 0) 45 ≡ is_hex_word w
+word-one [] h = absurd (omega arith)
+word-one (a ∷ []) h = refl
+word-one (a ∷ b ∷ cs) h = absurd (omega arith)
+
+pub word_more : (w : List ℕ) → (length w ≡ 0 → ⊥) → (length w ≡ 1 → ⊥) → are_pairs w ≡ is_hex_word w
+word_more [] h l = absurd (h refl)
+word_more (a ∷ []) h l = absurd (l refl)
+word_more (a ∷ b ∷ cs) h l = refl
+
+-- a digit's value, also that of a byte which is no digit
+pick_small : (low high base c other : ℕ) → high - base < 16 → other < 16
+    → pick (in_range low high c) (c - base) other < 16
+pick_small low high base c other h l =
+    either_way (in_range low high c)
+    (λ t. let r = in-range low high c t in rw t (omega arith))
+    (λ n. rw n l)
+
+pub hex-small : (c : ℕ) → hex_value c < 16
+hex-small c =
+    pick_small 48 57 48 c _ (omega arith) (pick_small 97 102 87 c _ (omega arith)
+    (pick_small 65 70 55 c 0 (omega arith) (omega arith)))
 
 unreadable : (w xs : List ℕ) → is_readable w (length xs) ≡ false → HexReading w xs None xs
 unreadable w xs e = record { answer = rw e; bytes = rw e }
