@@ -45,10 +45,19 @@ module _ (s : State) (len : ℕ) (kept sheet : List ℕ) (ready : Bool) where
   unfolding turn_of
   call-outside o = simp o
 
-  pub call-goes : outside s len ≡ false → s.stopped ≡ false → same (take len kept) sheet ≡ true
-      → onward_of s sheet ready ≡ turn_of s len kept sheet ready
-  unfolding turn_of
-  call-goes o t d = simp (o, t, d)
+  module _ (o : outside s len ≡ false) where
+    pub call-stopped : s.stopped ≡ true → outcome (refusal 22) s ≡ turn_of s len kept sheet ready
+    unfolding turn_of
+    call-stopped t = simp (o, t)
+
+    module _ (t : s.stopped ≡ false) where
+      pub call-differs : same (take len kept) sheet ≡ false → outcome (refusal 27) s ≡ turn_of s len kept sheet ready
+      unfolding turn_of
+      call-differs d = simp (o, t, d)
+
+      pub call-goes : same (take len kept) sheet ≡ true → onward_of s sheet ready ≡ turn_of s len kept sheet ready
+      unfolding turn_of
+      call-goes d = simp (o, t, d)
 
 pub both : {A : Type 0} (P : A → Type 0) (b : Bool) (x y : A) → P x → P y → P (pick b x y)
 both P true x y p q = p

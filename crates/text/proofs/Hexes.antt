@@ -98,7 +98,6 @@ word_more [] h l = absurd (h refl)
 word_more (a ∷ []) h l = absurd (l refl)
 word_more (a ∷ b ∷ cs) h l = refl
 
--- a digit's value, also that of a byte which is no digit
 pick_small : (low high base c other : ℕ) → high - base < 16 → other < 16
     → pick (in_range low high c) (c - base) other < 16
 pick_small low high base c other h l =
@@ -106,6 +105,7 @@ pick_small low high base c other h l =
     (λ t. let r = in-range low high c t in rw t (omega arith))
     (λ n. rw n l)
 
+-- the value of a digit is below 16, and that of a byte which is no digit is 0
 pub hex-small : (c : ℕ) → hex_value c < 16
 hex-small c =
     pick_small 48 57 48 c _ (omega arith) (pick_small 97 102 87 c _ (omega arith)
