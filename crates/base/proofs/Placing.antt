@@ -39,6 +39,10 @@ module _ {A : Type 0} where
     bytes = rw (q.bytes, p.bytes, p.index) (sets-run cs xs at bs);
   }
 
+  -- past the buffer's end a value is dropped
+  pub placed-none : {xs : List A} {at : ℕ} {b : A} → length xs ≤ at → Placed xs at (b ∷ []) (length xs) xs
+  placed-none {xs} {at} {b} out = record { index = omega arith; bytes = sym (set_out xs at b out) }
+
   -- where nothing is left, or the buffer has no room for it, the rest changes nothing
   sets-rest : (xs : List A) (at n : ℕ) (bs : List A) → n ≡ min (length bs) (length xs - at) → at ≤ length xs
       → sets xs (at + n) (drop n bs) ≡ xs
