@@ -56,3 +56,22 @@ none-with code_of small (v ∷ vs) code h =
 
 pub no_code : (chip : Chip) (code : ℕ) → 15 < code → core_voltage_of chip code ≡ refusal 18
 no_code chip = none-with (code_of chip) (code-small chip) (voltages chip)
+
+-- The last arm of a `match` on a code gives one inequality for each voltage; they make `with_code` refuse.
+module _ {A : Type 0} (code_of : A → ℕ) (code : ℕ) where
+  abbrev pub NoneOf : Type 0 → List A → Type 0
+  NoneOf known [] = known
+  NoneOf known (v ∷ vs) = NoneOf (known × (code ≡ code_of v → ⊥)) vs
+
+  known_of : (known : Type 0) (vs : List A) → NoneOf known vs → known
+  known_of known [] h = h
+  known_of known (v ∷ vs) h = (known_of (known × (code ≡ code_of v → ⊥)) vs h).0
+
+  not-among : (known : Type 0) (vs : List A) → NoneOf known vs → refusal 18 ≡ with_code code_of code vs
+  not-among known [] h = refl
+  not-among known (v ∷ vs) h =
+      let known = known × (code ≡ code_of v → ⊥) in
+      rw (ne_eqb code (code_of v) (known_of known vs h).1) (not-among known vs h)
+
+  pub none_read : (vs : List A) → NoneOf (Unit {0}) vs → refusal 18 ≡ with_code code_of code vs
+  none_read vs h = not-among (Unit {0}) vs h
