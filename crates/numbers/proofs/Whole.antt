@@ -1,7 +1,7 @@
 -- A plan has at most 48 numbers, so a row of 48 holds every plan.
 use Rattle.std.specs.Prelude.{Option, Some, None, ◌≡◌, List, ℕ, ◌+◌, ◌≤◌, length, take, drop, refl}
 use native.Mathlib.Omega.{arith}
-use lib.{ListN.length-append, ListN.length-replicate, Seq.take-append_seam, Seq.sets-eq}
+use lib.{ListN.length-append, ListN.length-replicate, Seq.take-append_seam, Seq.length-sets, Seq.sets-eq}
 use Rattle.base.specs.Placed.{Placed}
 use Rattle.config.specs.declared.ChipConfig.TheVariants.{Rp2040 as on2040, Rp235x as on235x}
 use Rattle.config.specs.declared.{RoscConfig.RoscConfig, XoscConfig.XoscConfig, ChipConfig.ChipConfig, ClockConfig.ClockConfig}
@@ -47,10 +47,19 @@ unfolding plan_row
 row-most p = simp length-append (omega (arith, oscillators-long p.rosc p.xosc, clocks-long p, rtc-most p.chip))
 
 -- a row of 48 into which a plan's numbers are placed begins with them
-pub begins : (p : ClockConfig) {n : ℕ} {before after : List ℕ} → length before ≡ 48
-    → Placed before 0 (plan_row p) n after → take n after ≡ plan_row p
-begins p {n} {before} {after} long h =
+pub record Begins (p : ClockConfig) (n : ℕ) (row : List ℕ) : Type 0 where
+  pub count : n ≡ length (plan_row p)
+  pub inside : n ≤ length row
+  pub whole : n ≡ length (take n row)
+  pub numbers : take n row ≡ plan_row p
+
+pub begins : {p : ClockConfig} {n : ℕ} {before after : List ℕ} → length before ≡ 48
+    → Placed before 0 (plan_row p) n after → Begins p n after
+begins {p} {n} {before} {after} long h =
     let few = row-most p in
     let count : n ≡ length (plan_row p) = omega (arith, h.index) in
+    let size : length after ≡ length before = rw h.bytes (length-sets before 0 (plan_row p)) in
+    let same : take n after ≡ plan_row p =
     rw (h.bytes, sets-eq (plan_row p) before 0 (omega arith), count)
-    (take-append_seam (plan_row p) (drop (0 + length (plan_row p)) before))
+    (take-append_seam (plan_row p) (drop (0 + length (plan_row p)) before)) in
+    record { count = count; inside = omega arith; whole = rw same count; numbers = same }

@@ -4,4 +4,4 @@ use Rattle.numbers.proofs.Whole.{begins}
 use Rattle.numbers.proofs.plan_row.Row.of.Goals as goal
 
 pub returns : goal.returns
-returns c = begins _ refl c.put_plan-count.ensures
+returns c = (begins refl c.put_plan-count.ensures).numbers
