@@ -69,6 +69,10 @@ pub letters-end : (rest letters : List ℕ) (i : ℕ) (s : Words) → length let
 unfolding given
 letters-end rest letters i s out = rw (drop_of_length-le letters out)
 
+pub behind-none : (bs : List ℕ) → length bs ≡ 0 → hex_behind bs ≡ []
+behind-none [] e = refl
+behind-none (b ∷ bs) e = absurd (omega arith)
+
 pub behind_some : (bs : List ℕ) → eqb (length bs) 0 ≡ false → hex_behind bs ≡ 32 ∷ hex_of bs
 behind_some [] some = let z : ◌≡◌ {A = Bool} true false = some in cc
 behind_some (b ∷ bs) some = refl
