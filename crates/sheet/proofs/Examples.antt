@@ -71,7 +71,7 @@ system-235 = refl
 abbrev preset_steps : List Step
 preset_steps = steps_of 11 (settings_of (crystal_plan Rp235x 12000000) 11)
 
-abbrev at : ℕ → Step
+abbrev pub at : ℕ → Step
 at i = get_or preset_steps i (step0 (kind.Unknown 0))
 
 -- The kinds of the steps of the RP235x's crystal preset in their order, and its masks and dividers.
