@@ -1,15 +1,16 @@
--- The plan that `plan_of` makes of a plan's settings has the same settings, and no larger multiplier or time.
+-- The plan that `plan_of` makes of a plan's settings has no larger multiplier or time, and where the plan's fraction fits its
+-- chip's bits, it has the same settings.
 use Rattle.std.specs.Prelude.{Option, Some, None, ◌≡◌, refl, false, List, ℕ, ◌%◌, ◌^◌, ◌≤◌, eqb}
 use mathlib.Core.Path.{sym, ap, ◌∙◌}
 use native.Mathlib.{Nat.mod-eq_of_lt, Omega.arith}
 use borrow.Author.Tests.{ltb-false}
 use Rattle.base.proofs.Bools.{either_way}
 use Rattle.divider.specs.Delay.{settling_cycles, delay_of}
-use Rattle.config.specs.ChipSettings.{chip_of, config_of}
+use Rattle.config.specs.ChipSettings.{chip_of, config_of, FractionFits}
 use Rattle.config.specs.declared.{ClockConfig.ClockConfig, XoscConfig.XoscConfig}
-use Rattle.settings.specs.{declared.Settings.Settings, Typed.Typed, Settings.crystal_of, Settings.ring_hz, Settings.settling_step}
+use Rattle.settings.specs.{declared.Settings.Settings, Settings.crystal_of, Settings.ring_hz, Settings.settling_step}
 use Rattle.settings.specs.{Settings.settings_of, LeastPlan.xosc_for, LeastPlan.time_for, LeastPlan.plan_with, LeastPlan.plan_of}
-use Rattle.settings.proofs.Decoded.{config-back}
+use Rattle.settings.proofs.Decoded.{config-back, code-back}
 use Rattle.refusals.specs.{Rules.startup_over, Rules.settling_over, Refusals.Accepted}
 use Rattle.refusals.proofs.Accepted.{accepted-by, whole-good}
 use lib.Seq.{take_all}
@@ -53,7 +54,7 @@ settled reading code time hz ok =
       still = rw (e, z) (λ h. cc);
     }))
 
-module _ (q : ClockConfig) (reading : ℕ) (ok : Accepted q reading) (t : Typed (settings_of q reading)) where
+module _ (q : ClockConfig) (reading : ℕ) (ok : Accepted q reading) where
   abbrev mine : ClockConfig
   mine = plan_of (settings_of q reading)
 
@@ -64,18 +65,19 @@ module _ (q : ClockConfig) (reading : ℕ) (ok : Accepted q reading) (t : Typed 
       × (multiplier_in (xosc_for (crystal_of q.xosc)) ≤ multiplier_in q.xosc)
   crystal-of = crystal-kept q.xosc (accepted-by (settings_of q reading) reading ok 4)
 
-  chip-of : config_of (chip_of q.chip) ≡ q.chip
-  chip-of =
-      let b = chip_of q.chip in
-      config-back q.chip (whole-good _ b.whole (accepted-by (settings_of q reading) reading ok 9)).1 t.fraction
+  module _ (fits : FractionFits (chip_of q.chip)) where
+    chip-of : config_of (chip_of q.chip) ≡ q.chip
+    chip-of =
+        let b = chip_of q.chip in
+        config-back q.chip (whole-good _ b.whole (accepted-by (settings_of q reading) reading ok 9)).1 fits
 
-  -- A plan is the one with its own settings, crystal and time.
-  pub planned : plan_with (settings_of q reading) q.xosc q.voltage_stabilization_delay_us ≡ q
-  planned = rw chip-of
+    -- A plan is the one with its own settings, crystal and time.
+    pub planned : plan_with (settings_of q reading) q.xosc q.voltage_stabilization_delay_us ≡ q
+    planned = rw chip-of
 
-  pub settings-kept : settings_of mine reading ≡ settings_of q reading
-  unfolding plan_of
-  settings-kept = rw (chip-of, crystal-of.0, settled-of.kept)
+    pub settings-kept : settings_of mine reading ≡ settings_of q reading
+    unfolding plan_of
+    settings-kept = rw (chip-of, crystal-of.0, settled-of.kept)
 
   pub multiplier-most : multiplier_of mine ≤ multiplier_of q
   unfolding plan_of
@@ -87,7 +89,7 @@ module _ (q : ClockConfig) (reading : ℕ) (ok : Accepted q reading) (t : Typed 
 
   pub time-still : (settings_of mine reading).settling ≡ None → time_of mine ≡ 0
   unfolding plan_of
-  time-still e = settled-of.still (sym settled-of.kept ∙ (rw chip-of at e))
+  time-still e = settled-of.still (sym settled-of.kept ∙ (rw (code-back q.chip) at e))
 
 given-in : (sheet : List ℕ) (reading : ℕ)
     → (plan_in sheet reading).voltage_stabilization_delay_us ≡ Some (time_of (plan_in sheet reading))
@@ -117,7 +119,7 @@ plan-in {sheet} {reading} {q} g =
 module _ {sheet : List ℕ} {reading : ℕ} where
   -- The plan that is read from the bytes has the settings of every plan that gives them.
   pub settings-in : (q : ClockConfig) → Gives sheet reading q → settings_of (plan_in sheet reading) reading ≡ settings_of q reading
-  settings-in q g = rw (plan-in g) (settings-kept q reading g.accepted g.typed)
+  settings-in q g = rw (plan-in g) (settings-kept q reading g.accepted g.typed.fraction)
 
   pub gives-in : (q : ClockConfig) → Gives sheet reading q → Gives sheet reading (plan_in sheet reading)
   unfolding sheet_bytes
@@ -134,8 +136,8 @@ module _ {sheet : List ℕ} {reading : ℕ} where
   back_in g =
       record {
         gives = g;
-        multiplier = λ q h. rw (plan-in h) (multiplier-most q reading h.accepted h.typed);
-        time = λ q h. rw (plan-in h) (time-most q reading h.accepted h.typed);
+        multiplier = λ q h. rw (plan-in h) (multiplier-most q reading h.accepted);
+        time = λ q h. rw (plan-in h) (time-most q reading h.accepted);
         is_given = given-in sheet reading;
-        still = rw (plan-in g) (time-still (plan_in sheet reading) reading g.accepted g.typed);
+        still = rw (plan-in g) (time-still (plan_in sheet reading) reading g.accepted);
       }

@@ -44,9 +44,9 @@ one-plan {sheet} {reading} {p} {q} a b =
     let x : p.xosc ≡ q.xosc =
     same-xosc p.xosc q.xosc (ap (λ (s : Settings). s.xosc) s)
     (omega (arith, a.multiplier q b.gives, b.multiplier p a.gives)) in
-    sym (planned p reading a.gives.accepted a.gives.typed)
+    sym (planned p reading a.gives.accepted a.gives.typed.fraction)
     ∙ planned-same s x (a.is_given ∙ ap Some time ∙ sym b.is_given)
-    ∙ planned q reading b.gives.accepted b.gives.typed
+    ∙ planned q reading b.gives.accepted b.gives.typed.fraction
 
 pub readback-one : {sheet : List ℕ} {reading : ℕ} {a b : Answer ClockConfig} → ReadBack sheet reading a
     → ReadBack sheet reading b → a ≡ b

@@ -55,6 +55,11 @@ config-back c few fits =
     let inside : (chip_of c).whole < (facts_of (chip_of c).model).top_whole + 1 = omega arith in
     rw (mod-eq_of_lt inside, mod-eq_of_lt fits) (chip-back c)
 
+-- The voltage's code is read back whatever the divider is.
+pub code-back : (c : ChipConfig) → (chip_of (config_of (chip_of c))).volts.code ≡ (chip_of c).volts.code
+code-back (ChipConfig.Rp2040 c) = rw (core-voltage-code Rp2040 c.core_voltage)
+code-back (ChipConfig.Rp235x c) = rw (core-voltage-code Rp235x c.core_voltage)
+
 pub volts-small : (c : ChipConfig) → ((chip_of c).volts.code < 16) × ((chip_of c).volts.brownout < 16)
 volts-small (ChipConfig.Rp2040 c) = (code-small Rp2040 c.core_voltage, bod-small Rp2040 c.core_voltage)
 volts-small (ChipConfig.Rp235x c) = (code-small Rp235x c.core_voltage, bod-small Rp235x c.core_voltage)

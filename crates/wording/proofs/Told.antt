@@ -65,7 +65,7 @@ module _ (reading : ℕ) (q : ClockConfig) (ok : Accepted q reading) where
   is_said : Typed (settings_of q reading) → delivered reading (read_of (sheet_bytes q reading) reading) (value q) ≡ as_ordered
   is_said typed =
       let p : ClockConfig = plan_of (settings_of q reading) in
-      let none = (none-differs p q reading reading).1 (settings-kept q reading ok typed) in
+      let none = (none-differs p q reading reading).1 (settings-kept q reading ok typed.fraction) in
       rw (written_read q reading typed ok) (accepted-bits p ∙ rw none)
 
 pub as-ordered : AsOrdered
