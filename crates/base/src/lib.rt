@@ -36,12 +36,13 @@ pub fn put<T: Copy>(buf: &mut [T], at: usize, x: T) -> usize
 }
 
 // Writes the values xs from index `at` on and answers the index after them; those past the buffer's end are dropped. It takes the index
-// for the same reason.
+// for the same reason. One value after the other: a copy of a few values is a call of the C library, which takes longer.
 pub fn put_all<T: Copy>(buf: &mut [T], at: usize, xs: &[T]) -> usize
     ensures { Placed buf.old at xs.now result buf.new }
 {
-    let start = at.min(buf.len());
-    let n = xs.len().min(buf.len() - start);
-    buf[start..start + n].copy_from_slice(&xs[..n]);
-    start + n
+    let mut end = at.min(buf.len());
+    for x in xs {
+        end = put(buf, end, *x);
+    }
+    end
 }
