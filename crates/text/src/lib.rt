@@ -41,6 +41,15 @@ pub fn hex_digit(b: u8) -> u8
     if d < 10 { b'0' + d } else { b'a' - 10 + d }
 }
 
+// Writes the two hex digits of b, one after the other: a slice of two would be copied by a call of the C library.
+#[tactic(auto, using(base::proofs::Writing::put_more))]
+fn write_pair(out: &mut Writer<'_, u8>, b: u8)
+    ensures { Puts out.old (hex_pair b) out.new }
+{
+    out.put(hex_digit(b / 16));
+    out.put(hex_digit(b));
+}
+
 // Writes the bytes of s in hex, two digits for each byte; `-` where s is empty. It is no `write!`, as above.
 pub fn write_hex(out: &mut Writer<'_, u8>, s: &[u8])
     ensures { Puts out.old (hex_of s.now) out.new }
@@ -49,7 +58,7 @@ pub fn write_hex(out: &mut Writer<'_, u8>, s: &[u8])
         return out.put(b'-');
     }
     for b in s {
-        out.put_all(&[hex_digit(*b / 16), hex_digit(*b)]);
+        write_pair(out, *b);
     }
 }
 
