@@ -77,9 +77,11 @@ pub fn write_answer(out: &mut Writer<'_, u8>, line: &[u8])
     let Some(case) = find_named(&Case::ALL, name) else {
         return write_one(out, answers::MALFORMED);
     };
-    match Words::read(case.letters(), rest) {
-        Some(words) => write_case(out, case, &words),
-        None => write_one(out, answers::MALFORMED),
+    let mut words = Words::unread();
+    if words.fill(case.letters(), rest) {
+        write_case(out, case, &words);
+    } else {
+        write_one(out, answers::MALFORMED);
     }
 }
 

@@ -2,7 +2,8 @@
 
 mod line;
 
-ghost use Rattle.std.specs.Prelude.{◌≡◌, ◌<◌, option_map};
+ghost use Rattle.std.specs.Prelude.{◌≡◌, ◌<◌, option_map, Some, None};
+ghost use Rattle.base.specs.Choice.{pick};
 ghost use Rattle.base.specs.Writing.{Puts};
 ghost use Rattle.cases.specs.Words.{limit_of, unread, with_number, given, step, numbers_past, sheet_at};
 ghost use Rattle.cases.specs.Said.{number_text, hex_behind, call_text};
@@ -32,7 +33,7 @@ fn limit(letter: u8) -> u32
 // What the words of a case give: for each word a number in the row, and for a word of hex the count of its bytes there and the
 // bytes themselves at the start of a buffer. Neither is a bounded list: a case reads its numbers by index, and an absent one is 0; and
 // a count of bytes is one of its numbers, as the exported calls want it.
-#[derive(Drop)]
+#[derive(Clone, Copy)]
 pub struct Words {
     pub count: usize,
     pub row: [u32; 128],
@@ -42,7 +43,7 @@ pub struct Words {
 
 impl Words {
     // The words of a line of which none is read yet.
-    fn unread() -> Words
+    pub(crate) fn unread() -> Words
         ensures { result ≡ unread }
     {
         Words {
@@ -75,26 +76,48 @@ impl Words {
         self.count += 1;
     }
 
+    // Reads one word for each letter from the rest of a line onto what is there; false where a word is not what its letter asks for or
+    // the line has more words. It reads in place, as a `Words` is 3 KB: a line of a short case takes half the time of one that is
+    // answered by value.
+    pub fn fill(&mut self, letters: &[u8], rest: &[u8]) -> bool
+        ensures { pick result (Some self.new) None ≡ given rest.now letters.now self.old }
+    {
+        let mut rest = rest;
+        for letter in letters {
+            if rest.is_empty() {
+                return *letter == b'o';
+            }
+            if 128 <= self.count {
+                return false;
+            }
+            let (word, after) = next_word(rest);
+            let Some(number) = self.number(*letter, word) else {
+                return false;
+            };
+            self.push(number);
+            rest = after;
+        }
+        rest.is_empty()
+    }
+
+    // Goes on from these words with those of the rest of a line; None as `fill` answers false.
+    pub fn read_on(self, letters: &[u8], rest: &[u8]) -> Option<Words>
+        ensures { result ≡ given rest.now letters.now self }
+    {
+        let mut words = self;
+        if words.fill(letters, rest) {
+            Some(words)
+        } else {
+            None
+        }
+    }
+
     // Reads one word for each letter from the rest of a line; None where a word is not what its letter asks for or the line has
     // more words.
     pub fn read(letters: &[u8], rest: &[u8]) -> Option<Words>
         ensures { result ≡ given rest.now letters.now unread }
     {
-        let mut words = Words::unread();
-        let mut rest = rest;
-        for letter in letters {
-            if rest.is_empty() {
-                return if *letter == b'o' { Some(words) } else { None };
-            }
-            if 128 <= words.count {
-                return None;
-            }
-            let (word, after) = next_word(rest);
-            let number = words.number(*letter, word)?;
-            words.push(number);
-            rest = after;
-        }
-        if rest.is_empty() { Some(words) } else { None }
+        Words::unread().read_on(letters, rest)
     }
 
     // The numbers that were read after the first i; None where fewer were read.
