@@ -13,17 +13,17 @@ ghost use Rattle.base.specs.Answer.{answer_of};
 
 use base::Refusal;
 
-const REFERENCE_MIN: u32 = 5000000;
+pub const REFERENCE_MIN: u32 = 5000000;
 
 const REFERENCE_MAX: u32 = 800000000;
 
-const FEEDBACK_MIN: u16 = 16;
+pub const FEEDBACK_MIN: u16 = 16;
 
-const FEEDBACK_MAX: u16 = 320;
+pub const FEEDBACK_MAX: u16 = 320;
 
-const VCO_MIN: u32 = 750000000;
+pub const VCO_MIN: u32 = 750000000;
 
-const VCO_MAX: u32 = 1600000000;
+pub const VCO_MAX: u32 = 1600000000;
 
 // The four dividers of a PLL.
 #[derive(Clone, Copy, PartialEq, Eq)]
