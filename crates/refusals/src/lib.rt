@@ -79,6 +79,15 @@ fn refusal_of(s: Settings, f: Frequencies, reading: u8) -> Option<Refusal>
     refused_if(over, Refusal::VoltageReading, n)
 }
 
+// Tests settings at a reading: the refusal, 18, then 1 to 14, none where they are accepted, and the frequencies, also of settings
+// that are refused. It never fails. The contract carries the types' bounds.
+pub fn refusal_and_frequencies(s: Settings, reading: u8) -> (Option<Refusal>, Frequencies)
+    ensures { (result ≡ (refusal_of s reading, frequencies_of s)) × (FractionFits s.chip → Typed s) }
+{
+    let frequencies = settings::frequencies_of(s);
+    (refusal_of(s, frequencies, reading), frequencies)
+}
+
 // Tests settings at a reading and answers their frequencies; 18, then 1 to 14. The contract carries the types' bounds.
 pub fn examine(s: Settings, reading: u8) -> Result<Frequencies, Refusal>
     ensures { (result ≡ examined_of s reading) × (FractionFits s.chip → Typed s) }
