@@ -19,15 +19,16 @@ module _ (input target : ℕ) (c : PllConfig) (has : Has input c target) where
       (λ inside. search-between input first t target c a b (f.here inside) has)
       (eq-or-lt_of_le f.to)
 
-  lower-side : (lower : Option ℕ) (first : ℕ) → First input c false 0 target first → SomeIff lower (1 ≤ first) (first - 1)
-      → RightLower input target lower
-  lower-side (Some l) first f is =
+  -- n is the number that the code takes as that first target
+  lower-side : (lower : Option ℕ) (first n : ℕ) → First input c false 0 target first → n ≡ first
+      → SomeIff lower (1 ≤ n) (n - 1) → RightLower input target lower
+  lower-side (Some l) first n f same is =
       let to = f.to in (
         omega (arith, is.0, is.1),
         λ d. f.before l (omega arith) (omega (arith, is.0, is.1)) (d ∙ has),
         λ t a b. has-from first t f (omega (arith, is.1)) b ∙ sym has,
       )
-  lower-side None first f none = λ t b. has-from first t f (zero-unless first t none) b ∙ sym has
+  lower-side None first n f same none = λ t b. has-from first t f (zero-unless first t (rw same at none)) b ∙ sym has
     where
       zero-unless : (first t : ℕ) → (1 ≤ first → ⊥) → first ≤ t
       zero-unless zero t n = omega arith
@@ -36,16 +37,17 @@ module _ (input target : ℕ) (c : PllConfig) (has : Has input c target) where
   has-to : (first t : ℕ) → First input c true (target + 1) 4294967296 first → target ≤ t → t < first → Has input c t
   has-to first t f a b = ⊎_elim (λ e. subst (Has input c) e has) (λ above. f.before t (omega arith) b) (eq-or-lt_of_le a)
 
-  higher-side : (higher : Option ℕ) (first : ℕ) → First input c true (target + 1) 4294967296 first
-      → SomeIff higher (first < 4294967296) first → RightHigher input target higher
-  higher-side (Some h) first f is =
-      let above = f.from in (
-        omega (arith, is.1),
-        omega (arith, is.0, is.1),
-        λ d. f.here is.0 (rw (sym is.1) (d ∙ has)),
-        λ t a b. has-to first t f a (omega (arith, is.1)) ∙ sym has,
+  higher-side : (higher : Option ℕ) (first n : ℕ) → First input c true (target + 1) 4294967296 first → n ≡ first
+      → SomeIff higher (n < 4294967296) n → RightHigher input target higher
+  higher-side (Some h) first n f same is =
+      let above = f.from in
+      let edge : first ≡ h = omega (arith, is.1) in (
+        omega arith,
+        omega (arith, is.0),
+        λ d. f.here (omega (arith, is.0)) (rw edge (d ∙ has)),
+        λ t a b. has-to first t f a (omega arith) ∙ sym has,
       )
-  higher-side None first f none = λ t a b. has-to first t f a (past first t none b) ∙ sym has
+  higher-side None first n f same none = λ t a b. has-to first t f a (past first t (rw same at none) b) ∙ sym has
     where
       past : (first t : ℕ) → (first < 4294967296 → ⊥) → t < 4294967296 → t < first
       past first t n b = omega arith
@@ -74,7 +76,7 @@ returns c =
     let higher = converted c.try_from.result _ _ c.try_from.ensures in
     right-is-margin _ _ (omega arith) _ (
       (_, has),
-      lower-side _ _ _ has _ _ (rw c.from-target.ensures at c.first_other-lowest.ensures) c.checked_sub.ensures,
-      higher-side _ _ _ has _ _ (rw c.from-target.ensures at c.first_other-higher.ensures)
+      lower-side _ _ _ has _ _ _ (rw c.from-target.ensures at c.first_other-lowest.ensures) (omega arith) c.checked_sub.ensures,
+      higher-side _ _ _ has _ _ _ (rw c.from-target.ensures at c.first_other-higher.ensures) (omega arith)
           (rw (sym c.ok.ensures.value) at higher),
     )
