@@ -62,7 +62,6 @@ pub fn settling_cycles(time_us: u32, ring_hz: u32) -> u64
 }
 
 // The clock of a Gpout source code; None where the code is unknown.
-#[tactic(auto, unfolding(crate::specs::Gpout::gpout_clock))]
 fn gpout_clock(chip: Chip, source: u8) -> Option<Clock>
     ensures { result ≡ gpout_clock chip source }
 {
