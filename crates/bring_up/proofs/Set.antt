@@ -10,6 +10,7 @@ use Rattle.config.specs.declared.{RoscRange.RoscRange, RefClkConfig.RefClkConfig
 use Rattle.config.specs.declared.{PeriClkSrc.PeriClkSrc, AuxClkConfig.AuxClkConfig, RtcClkConfig.RtcClkConfig}
 use Rattle.config.specs.declared.RoscConfig.{RoscConfig}
 use Rattle.pll.specs.declared.PllConfig.{PllConfig}
+use Rattle.step.specs.declared.kind.Kind.{Kind}
 use Rattle.settings.specs.{declared.Crystal.Crystal, Settings.ring_hz}
 use Rattle.registers.specs.Access.{has, access_of}
 use Rattle.registers.specs.Map.{on, field, RESET, CLK_REF_CTRL, CLK_REF_DIV, CLK_SYS_CTRL, CLK_SYS_DIV, CLK_PERI_CTRL, CLK_RTC_CTRL}
@@ -18,7 +19,7 @@ use Rattle.registers.specs.Map.{SYS_SRC, AUXSRC, ENABLE, PHASE, INT, FREQ_RANGE,
 use Rattle.sheet.specs.Steps.{head_part, ring_part, crystal_part, ref_part, switch_steps, sys_part, peri_part, aux_part, rtc_part}
 use Rattle.sheet.specs.Steps.{last_part}
 use Rattle.bring_up.specs.{Machine.powers_down, Machine.carried_out, Tree.oscillates}
-use Rattle.bring_up.proofs.Parts.{Aux, Usb, aux_control, aux_divider, aux_of, crystal_steps, system_steps}
+use Rattle.bring_up.proofs.Parts.{Aux, Usb, Adc, aux_control, aux_divider, aux_of, crystal_steps, system_steps}
 
 -- the head leaves no block in reset, and both PLLs without power
 pub head-sets : (c : Chip) (file : ℕ → ℕ) → let after = carried_out c (head_part c) file in
@@ -144,11 +145,15 @@ unfolding access_of has peri_part
 peri-absent Rp2040 hz file x = refl
 peri-absent Rp235x hz file x = refl
 
-pub aux-absent : (c : Chip) (k : Aux) (hz : ℕ) (file : ℕ → ℕ) (x : ℕ) → carried_out c (aux_of k hz None) file x ≡ file x
+pub part-absent : (c : Chip) (divider control : Kind) (clock hz : ℕ) (file : ℕ → ℕ) (x : ℕ)
+    → carried_out c (aux_part divider control clock hz None) file x ≡ file x
 unfolding access_of has aux_part
-aux-absent Rp2040 Usb hz file x = refl
-aux-absent Rp235x Usb hz file x = refl
-aux-absent c k hz file x = refl
+part-absent Rp2040 divider control clock hz file x = refl
+part-absent Rp235x divider control clock hz file x = refl
+
+pub aux-absent : (c : Chip) (k : Aux) (hz : ℕ) (file : ℕ → ℕ) (x : ℕ) → carried_out c (aux_of k hz None) file x ≡ file x
+aux-absent c Usb hz = part-absent c _ _ _ hz
+aux-absent c Adc hz = part-absent c _ _ _ hz
 
 pub rtc-absent : (c : Chip) (hz : ℕ) (file : ℕ → ℕ) (x : ℕ) → carried_out c (rtc_part c hz None) file x ≡ file x
 unfolding access_of has rtc_part

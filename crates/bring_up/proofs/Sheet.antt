@@ -91,10 +91,17 @@ all-parts reading s =
 abbrev pub up_to : ℕ → ℕ → Settings → (ℕ → ℕ) → (ℕ → ℕ)
 up_to n reading s before = carried_out s.chip.model (joined (take n (parts_of reading s))) before
 
--- a register that no part from k + 1 to n has, which computes on each chip, keeps the value of part k
+-- a register that no part from k + 1 to n has keeps the value of part k
 abbrev pub later : ℕ → ℕ → Chip → List ℕ
 later n k c = joined (drop (suc k) (take n (owns c)))
 
+pub holds-one : (n k reading : ℕ) (s : Settings) (before : ℕ → ℕ) (x : ℕ) → member x (later n k s.chip.model) ≡ false
+    → up_to n reading s before x
+    ≡ carried_out s.chip.model (get_or (take n (parts_of reading s)) k [])
+    (carried_out s.chip.model (joined (take k (take n (parts_of reading s)))) before) x
+holds-one n k reading s before x h = wins k (all_take n (all-parts reading s)) x h before
+
+-- the same where no such part has it on either chip, which computes
 pub holds : (n k reading : ℕ) (s : Settings) (before : ℕ → ℕ) (x : Chip → ℕ)
     → Apart (later n k) x Rp2040 → Apart (later n k) x Rp235x
     → up_to n reading s before (x s.chip.model)
@@ -102,14 +109,18 @@ pub holds : (n k reading : ℕ) (s : Settings) (before : ℕ → ℕ) (x : Chip 
     (carried_out s.chip.model (joined (take k (take n (parts_of reading s)))) before) (x s.chip.model)
 holds n k reading s before x a b =
     let c : Chip = s.chip.model in
-    wins k (all_take n (all-parts reading s)) (x c) (apart (later n k) x a b c) before
+    holds-one n k reading s before (x c) (apart (later n k) x a b c)
 
 -- a register that none of the first n parts has is unchanged
 abbrev pub first : ℕ → Chip → List ℕ
 first n c = joined (take n (owns c))
 
+pub stays-one : (n reading : ℕ) (s : Settings) (before : ℕ → ℕ) (x : ℕ) → member x (first n s.chip.model) ≡ false
+    → up_to n reading s before x ≡ before x
+stays-one n reading s before x h = parts-keep (all_take n (all-parts reading s)) x h before
+
 pub stays : (n reading : ℕ) (s : Settings) (before : ℕ → ℕ) (x : Chip → ℕ)
     → Apart (first n) x Rp2040 → Apart (first n) x Rp235x → up_to n reading s before (x s.chip.model) ≡ before (x s.chip.model)
 stays n reading s before x a b =
     let c : Chip = s.chip.model in
-    parts-keep (all_take n (all-parts reading s)) (x c) (apart (first n) x a b c) before
+    stays-one n reading s before (x c) (apart (first n) x a b c)

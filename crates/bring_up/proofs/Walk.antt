@@ -1,12 +1,12 @@
 -- A walk over steps: from a file with property P, the test holds at each wait, and the file after the steps has property Q.
-use Rattle.std.specs.Prelude.{Bool, true, ◌≡◌, List, [], ◌∷◌, ◌++◌, ℕ}
+use Rattle.std.specs.Prelude.{Bool, true, false, ◌≡◌, List, [], ◌∷◌, ◌++◌, ℕ}
 use mathlib.Core.Path.{sym, subst}
 use Rattle.std.proofs.lemmas.Bool.{and_parts}
 use Rattle.chip.specs.declared.Chip.{Chip, TheVariants.Rp2040, TheVariants.Rp235x}
 use Rattle.step.specs.declared.Step.{Step}
 use Rattle.registers.specs.{declared.Access.Access, Access.access_of}
 use Rattle.bring_up.specs.{Machine.done, Machine.carried_out, ClockWaits.at_wait, ClockWaits.all_waits}
-use Rattle.bring_up.proofs.Addresses.{Apart, apart, outside, reach, steps-keep, append}
+use Rattle.bring_up.proofs.Addresses.{Apart, apart, member, outside, reach, steps-keep, append}
 use Rattle.bring_up.proofs.Parts.{On, Calm}
 
 pub record Walk (c : Chip) (test : Access → (ℕ → ℕ) → Bool) (P Q : (ℕ → ℕ) → Type 0) (xs : List Step) : Type 0 where
@@ -41,6 +41,11 @@ pub calmly : {c : Chip} {test : Access → (ℕ → ℕ) → Bool} {own : List �
 calmly {c} {test} {own} {xs} h = record { walk = λ file p. (h.calm test file, tt) }
 
 -- a part keeps a register that is not its own
+pub keeps-one : {c : Chip} {own : List ℕ} {xs : List Step} → On c own xs → (file : ℕ → ℕ) (x : ℕ) → member x own ≡ false
+    → carried_out c xs file x ≡ file x
+keeps-one {c} {own} {xs} h file x other = steps-keep c xs file x (outside x (reach c xs) own h.inside other)
+
+-- the same where the register, which is the chip's, is not its own on either chip
 pub keeps : {c : Chip} {xs : List Step} (own : Chip → List ℕ) → On c (own c) xs → (file : ℕ → ℕ) (x : Chip → ℕ)
     → Apart own x Rp2040 → Apart own x Rp235x → carried_out c xs file (x c) ≡ file (x c)
-keeps {c} {xs} own h file x a b = steps-keep c xs file (x c) (outside (x c) (reach c xs) (own c) h.inside (apart own x a b c))
+keeps {c} own h file x a b = keeps-one h file (x c) (apart own x a b c)
