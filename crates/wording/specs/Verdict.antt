@@ -1,5 +1,5 @@
 -- The verdict on a sheet: whether it is the ordered plan's, and if not, in which settings the two plans differ.
-use Rattle.std.specs.Prelude.{Option, Some, None, List, ℕ, eqb}
+use Rattle.std.specs.Prelude.{Option, Some, None, Result, Ok, Err, List, ℕ, eqb}
 use Rattle.base.specs.declared.refusal.Refusal.{Refusal}
 use Rattle.base.specs.{Answer.Answer, Answer.value, Answer.refusal, Choice.pick, Refusals.number_of}
 use Rattle.text.specs.Ascii.{ascii}
@@ -36,6 +36,11 @@ ordered reading p (refusal n) = order_refused n
 abbrev pub delivered : ℕ → Answer ClockConfig → Answer ClockConfig → Verdict
 delivered reading (value p) order = ordered reading p order
 delivered reading (refusal n) order = sheet_refused n
+
+-- the answer that an order means whose refusal is given by its number, any number
+abbrev pub answer_by_number : Result ClockConfig ℕ → Answer ClockConfig
+answer_by_number (Ok plan) = value plan
+answer_by_number (Err n) = refusal n
 
 -- a refusal of the sheet takes precedence over one of the order
 unfoldable pub verdict_of : ℕ → List ℕ → Answer ClockConfig → Verdict

@@ -3,7 +3,7 @@
 ghost use Rattle.std.specs.Prelude.{◌≡◌};
 ghost use Rattle.base.specs.{Writing.Puts, Answer.answer_of};
 ghost use Rattle.wording.specs.Differs.{part_text, part_texts, hz_of, plan_hz, clock_text, clock_texts, differs_text};
-ghost use Rattle.wording.specs.Verdict.{by_bits, compared, verdict_text, check_text};
+ghost use Rattle.wording.specs.Verdict.{by_bits, compared, verdict_text, answer_by_number, check_text};
 
 use crate::{meanings, write_refused, write_setting};
 use base::{Refusal, Writer};
@@ -133,15 +133,15 @@ fn write_clocks(out: &mut Writer<'_, u8>, delivered: &[u64; 10], ordered: &[u64;
 }
 
 // Writes the verdict on a sheet that was written at a reading: `as ordered`, `differs` and the settings that differ, or the
-// refusal of the sheet, 18 or 26, or of the order.
+// refusal of the sheet, 18 or 26, or of the order, by its number; any number is told.
 #[tactic(auto, unfolding(crate::specs::Verdict::verdict_of, crate::specs::Verdict::check_text))]
-pub fn write_verdict(
+pub fn write_verdict_by_number(
     out: &mut Writer<'_, u8>,
     reading: u8,
     sheet: &[u8],
-    order: Result<ClockConfig, Refusal>,
+    order: Result<ClockConfig, u8>,
 )
-    ensures { Puts out.old (check_text reading sheet.now (answer_of order)) out.new }
+    ensures { Puts out.old (check_text reading sheet.now (answer_by_number order)) out.new }
 {
     match (readback::read_sheet(sheet, reading), order) {
         (Ok(delivered), Ok(ordered)) => Plans {
@@ -151,6 +151,18 @@ pub fn write_verdict(
         }
         .write_compared(out),
         (Err(why), _) => write_refused(out, b"sheet: ", u8::from(why)),
-        (_, Err(why)) => write_refused(out, b"order: ", u8::from(why)),
+        (_, Err(number)) => write_refused(out, b"order: ", number),
     }
+}
+
+// The same of an order whose refusal is one of docs/FORMAT.md.
+pub fn write_verdict(
+    out: &mut Writer<'_, u8>,
+    reading: u8,
+    sheet: &[u8],
+    order: Result<ClockConfig, Refusal>,
+)
+    ensures { Puts out.old (check_text reading sheet.now (answer_of order)) out.new }
+{
+    write_verdict_by_number(out, reading, sheet, order.map_err(u8::from));
 }

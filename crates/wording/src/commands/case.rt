@@ -1,5 +1,8 @@
 // Answers a case of docs/CASES.md, with the meaning of its refusal.
+ghost use Rattle.std.specs.Prelude.{◌≡◌};
 ghost use Rattle.base.specs.{Writing.Puts, Answer.answer_of};
+ghost use Rattle.text.specs.Decimal.{number_of};
+ghost use Rattle.cases.specs.Line.{word_after};
 ghost use Rattle.wording.specs.Case.{unknown_text, number_meaning, meaning_of, no_case, said_text, case_of};
 
 use crate::commands::texts::{Usage, write_usage};
@@ -28,6 +31,13 @@ fn write_number(out: &mut Writer<'_, u8>, number: Result<u32, Refusal>)
     }
 }
 
+// The number that follows `refused`.
+fn refused_number(rest: &[u8]) -> Result<u32, Refusal>
+    ensures { answer_of result ≡ number_of (word_after rest.now) }
+{
+    text::number(next_word(rest).0)
+}
+
 // The meaning of an answer that begins with `refused` and a number.
 #[tactic(auto, using(base::proofs::Writing::writing), unfolding(crate::specs::Case::meaning_of))]
 fn write_meaning(out: &mut Writer<'_, u8>, said: &[u8])
@@ -35,7 +45,7 @@ fn write_meaning(out: &mut Writer<'_, u8>, said: &[u8])
 {
     let (word, rest) = first_word(said);
     if word == b"refused".as_slice() {
-        write_number(out, text::number(next_word(rest).0));
+        write_number(out, refused_number(rest));
     }
 }
 

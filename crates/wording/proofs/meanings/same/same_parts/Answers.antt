@@ -3,7 +3,7 @@ use mathlib.Core.{Path.◌≡◌}
 use Rattle.std.proofs.Common.{rules}
 use Rattle.wording.specs.Parts.{sys_pll_of, usb_pll_of}
 use Rattle.wording.proofs.Derived.{hz_and_delay, crystal_same}
-use Rattle.wording.proofs.Derived.{chip_same, ref_same, sys_same, ring_same, pll_same, cycles_same, peri_same, aux_same, rtc_same}
+use Rattle.wording.proofs.Derived.{chip_same, ref_same, sys_same, pll_same, cycles_same, peri_same, aux_same, rtc_same}
 use Rattle.wording.proofs.meanings.same.same_parts.Goals as goal
 
 pub returns : goal.returns
@@ -14,7 +14,7 @@ returns c =
     let t : c.and_then-2.result ≡ sys_pll_of c.args.b.xosc = search rules in
     let u : c.and_then-3.result ≡ usb_pll_of c.args.a.xosc = search rules in
     let v : c.and_then-4.result ≡ usb_pll_of c.args.b.xosc = search rules in
-    rw (c.eq.ensures, chip_same, c.eq-2.ensures, ring_same, c.eq-3.ensures, x, y, crystal_same)
-    (rw (c.eq-4.ensures, s, t, pll_same, c.eq-5.ensures, u, v, pll_same, c.eq-6.ensures, cycles_same)
-    (rw (c.eq-7.ensures, ref_same, c.eq-8.ensures, sys_same, c.eq-9.ensures, peri_same)
-    (rw (c.eq-10.ensures, aux_same, c.eq-11.ensures, aux_same, c.eq-12.ensures, rtc_same))))
+    rw (c.eq.ensures, chip_same, c.same_ring.ensures, c.eq-2.ensures, x, y, crystal_same)
+    (rw (c.eq-3.ensures, s, t, pll_same, c.eq-4.ensures, u, v, pll_same, c.eq-5.ensures, cycles_same)
+    (rw (c.eq-6.ensures, ref_same, c.eq-7.ensures, sys_same, c.eq-8.ensures, peri_same)
+    (rw (c.eq-9.ensures, aux_same, c.eq-10.ensures, aux_same, c.eq-11.ensures, rtc_same))))
