@@ -71,7 +71,7 @@ fn are_digits(s: &[u8]) -> bool
 
 // The number that s spells: 1 to 10 decimal digits, at most 4294967295. Refusal: 24 where s spells no such number. `parse` alone
 // would take a sign, and more zeros.
-#[tactic(auto, using(crate::proofs::Decimals::not_digits, crate::proofs::Decimals::digits_utf8, crate::proofs::Decimals::parsed))]
+#[tactic(auto, using(crate::proofs::Decimals::not_digits))]
 pub fn number(s: &[u8]) -> Result<u32, Refusal>
     ensures { answer_of result ≡ number_of s.now }
 {
