@@ -1,5 +1,6 @@
 -- `readback::gives` meets its contract: a length means that the plan is accepted and the buffer starts with its sheet (`kept`); as
 -- every sheet has room, a refusal means that it is not accepted (`turned-back`).
+use Rattle.std.proofs.Common.{rules}
 use Rattle.sheet.proofs.{Ends.sheet-most, Kept.kept, Kept.turned-back}
 use Rattle.readback.specs.Read.{gives}
 use Rattle.readback.proofs.Accepting.{some-held}
@@ -13,7 +14,7 @@ slice_bounds-eq-end c = (kept c.init.ensures _ c.in-Ok.is).whole
 
 pub returns-in-Ok : goal.returns-in-Ok
 unfolding gives
-returns-in-Ok c = let k = kept c.init.ensures _ c.in-Ok.is in rw (c.eq.ensures, k.bytes, k.accepted)
+returns-in-Ok c = let k = kept c.init.ensures _ c.in-Ok.is in rw (k.accepted, ← k.bytes) (search rules)
 
 pub returns-in-Err : goal.returns-in-Err
 unfolding gives
