@@ -1,7 +1,7 @@
 // Slots and steps as numbers: a slot is a flag and eleven words, a step is two numbers.
 mod put;
 
-ghost use Rattle.std.specs.Prelude.{◌≡◌, ◌+◌, ◌<◌, ◌≤◌};
+ghost use Rattle.std.specs.Prelude.{◌≡◌, ◌<◌};
 ghost use Rattle.numbers.specs.Slots.{words_at, slot_in, slots_in};
 
 use crate::fields::{number_at, ten_at};
@@ -17,8 +17,8 @@ pub fn words_at(n: &[u32], i: u16) -> [u32; 11]
     [a, b, c, d, e, f, g, h, j, k, last]
 }
 
-// The slot from index i on of any numbers.
-fn slot_of(n: &[u32], i: u16) -> Slot
+// The slot from index i on of any numbers: a flag, then its words, which are read one by one (docs/DECISIONS.md, 100).
+fn slot_at(n: &[u32], i: u16) -> Slot
     requires { i < 1000 }
     ensures { result ≡ slot_in n.now i }
 {
@@ -28,41 +28,22 @@ fn slot_of(n: &[u32], i: u16) -> Slot
     }
 }
 
-// The four slots from index i on of any numbers; 0 past their end. `slots` reads 48 numbers faster.
+// The four slots from index i on of any numbers; 0 past their end.
 pub fn slots_at(n: &[u32], i: u8) -> [Slot; 4]
     ensures { result ≡ slots_in n.now i }
 {
     let at = u16::from(i);
     [
-        slot_of(n, at),
-        slot_of(n, at + 12),
-        slot_of(n, at + 24),
-        slot_of(n, at + 36),
+        slot_at(n, at),
+        slot_at(n, at + 12),
+        slot_at(n, at + 24),
+        slot_at(n, at + 36),
     ]
-}
-
-// The slot from index i on: a flag, then its words.
-#[tactic(auto, using(crate::proofs::Words::words_from))]
-fn slot_at(n: &[u32; 48], i: usize) -> Slot
-    requires { i + 12 ≤ 48 }
-    ensures { result ≡ slot_in n.now i }
-{
-    let mut words = [0; 11];
-    words.copy_from_slice(&n[i + 1..i + 12]);
-    Slot {
-        saved: n[i] == 1,
-        words,
-    }
 }
 
 // The four slots.
 pub fn slots(n: &[u32; 48]) -> [Slot; 4]
     ensures { result ≡ slots_in n.now 0 }
 {
-    [
-        slot_at(n, 0),
-        slot_at(n, 12),
-        slot_at(n, 24),
-        slot_at(n, 36),
-    ]
+    slots_at(n, 0)
 }
