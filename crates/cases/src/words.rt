@@ -77,9 +77,9 @@ impl Words {
     }
 
     // Reads one word for each letter from the rest of a line onto what is there; false where a word is not what its letter asks for or
-    // the line has more words. It reads in place, as a `Words` is 3 KB: a line of a short case takes half the time of one that is
-    // answered by value.
-    pub fn fill(&mut self, letters: &[u8], rest: &[u8]) -> bool
+    // the line has more words, and then what is there is open. It reads in place, as a `Words` is 3 KB: a line of a short case takes
+    // half the time of one that is answered by value.
+    pub(crate) fn fill(&mut self, letters: &[u8], rest: &[u8]) -> bool
         ensures { pick result (Some self.new) None ≡ given rest.now letters.now self.old }
     {
         let mut rest = rest;
